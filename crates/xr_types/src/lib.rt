@@ -1,0 +1,30 @@
+//! The types that every crate speaks of: texts, lists, kinds, faults, shapes, labels and cells.
+#![tactic(auto)]
+
+mod attr;
+mod axis;
+mod elem;
+mod fault;
+mod items;
+mod kind;
+mod limits;
+mod shape;
+mod status;
+mod text;
+
+pub use attr::{Attr, NcType};
+pub use axis::{Axis, Label, LabelList, Labels, TimeCoding, TimeUnit, Units};
+pub use elem::Elem;
+pub use fault::{CallFault, CdfKind, ComputeFault, Fault, NoMemory, NodeId};
+pub use items::{ByteList, DeepCopy, Items, copy_all};
+pub use kind::{DType, promote, wrap, wrap_is_the_one};
+pub use limits::{
+    MOST_CELLS, MOST_CHUNKS, MOST_DIMENSIONS, MOST_FILE_BYTES, MOST_OPEN_BRACKETS,
+    MOST_SCRIPT_BYTES, MOST_STATEMENT_ELEMENTS, MOST_STATEMENTS, MOST_VARIABLES, MOST_WORKERS,
+};
+pub use shape::Shape;
+pub use status::{ScriptFault, ScriptKind, Status};
+pub use text::{Name, TextBytes};
+
+#[cfg(test)]
+mod tests;
