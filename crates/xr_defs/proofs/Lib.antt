@@ -1,0 +1,18 @@
+pub mod Trees
+mod FileExamples
+mod RunExamples
+pub mod FormatLaws
+pub mod HeaderLaws
+pub mod FileLaws
+mod LabelRows
+pub mod LabelLaws
+pub mod LabelPlaces
+pub mod Calendar
+pub mod Folds
+pub mod ElementRows
+mod TokenExamples
+pub mod RecordLaws
+mod CanonicalExamples
+mod FoldExamples
+pub mod FoldRanges
+mod TimeRows

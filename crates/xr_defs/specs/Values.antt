@@ -1,0 +1,136 @@
+-- Arrays with named dimensions and labels, and datasets (xarray user guide, "Data Structures").
+use Rattle.std.specs.Prelude.{◌≡◌, ◌==◌, ◌+◌, ℕ, ℤ, pos, Bool, false, List, [], ◌∷◌, length, map, filter, get_or, slice_set, Option, Some, None, option_map, MatchOption, ⊤, if◌then◌else◌}
+use Rattle.std.specs.Str.{bytes_eq}
+use Rattle.xr_types.specs.declared.attr.Attr.{Attr}
+use Rattle.xr_types.specs.declared.axis.Axis.{Axis}
+use Rattle.xr_types.specs.declared.axis.Labels.{Labels}
+use Rattle.xr_types.specs.declared.axis.LabelList.{LabelList}
+use Rattle.xr_types.specs.declared.axis.LabelList.TheVariants.{Numbers, Times, Texts}
+use Rattle.xr_types.specs.declared.kind.DType.{DType}
+use Rattle.xr_types.specs.declared.kind.DType.TheVariants.{Int64}
+use Rattle.xr_types.specs.Kinds.{wrap_to}
+use Rattle.xr_defs.specs.declared.value.Content.{Content}
+use Rattle.xr_defs.specs.declared.value.Content.TheVariants.{Cells}
+use Rattle.xr_defs.specs.declared.value.Coord.{Coord}
+use Rattle.xr_defs.specs.Arrays.{Array, at, made}
+use Rattle.xr_defs.specs.Numbers.{sum_of}
+
+-- an array with an optional name, axes in order, cells in row order, attributes and non-index coordinates in order
+pub record DataArray : Type 0 where
+  pub name : Option (List ℕ)
+  pub axes : List Axis
+  pub kind : DType
+  pub masked : Bool
+  pub attrs : List Attr
+  pub coords : List Coord
+  pub cells : List (Option ℤ)
+
+-- a data variable: an array over some of its dataset's axes, which it names
+pub record Variable : Type 0 where
+  pub name : List ℕ
+  pub dims : List (List ℕ)
+  pub kind : DType
+  pub masked : Bool
+  pub attrs : List Attr
+  pub cells : List (Option ℤ)
+
+pub record Dataset : Type 0 where
+  pub axes : List Axis
+  pub coords : List Coord
+  pub vars : List Variable
+  pub attrs : List Attr
+  pub skipped : List (List ℕ)
+
+abbrev pub axis_names : List Axis → List (List ℕ)
+axis_names axes = map (λ (x : Axis). x.name) axes
+
+abbrev pub shape_over : List Axis → List ℕ
+shape_over axes = map (λ (x : Axis). x.size) axes
+
+-- the cells with their kind and shape
+abbrev pub array_of : DataArray → Array
+array_of a = record { kind = a.kind; shape = shape_over a.axes; cells = a.cells }
+
+abbrev pub label_count : LabelList → ℕ
+label_count (Numbers kind ns) = length ns
+label_count (Times coding ts) = length ts
+label_count (Texts ts) = length ts
+
+-- an axis is a name, a size and possibly that many labels
+pub record IsAxis (x : Axis) : Type 0 where
+  pub named : length x.name ≡ 0 → ⊥
+  pub labelled : MatchOption x.labels ⊤ (λ (l : Labels). label_count l.list ≡ x.size)
+
+-- the first position of an axis of this name
+abbrev pub axis_position : List ℕ → List Axis → Option ℕ
+axis_position name [] = None
+axis_position name (x ∷ xs) = if bytes_eq x.name name then Some 0 else option_map (λ n. n + 1) (axis_position name xs)
+
+-- ---- selection by position (xarray user guide, "Indexing and selecting data")
+
+-- the items at these places, in this order
+abbrev pub chosen : {X : Type 0} → X → List X → List ℕ → List X
+chosen d xs ps = map (λ i. get_or xs i d) ps
+
+abbrev pub chosen_list : LabelList → List ℕ → LabelList
+chosen_list (Numbers kind ns) ps = Numbers kind (chosen (pos 0) ns ps)
+chosen_list (Times coding ts) ps = Times coding (chosen (pos 0) ts ps)
+chosen_list (Texts ts) ps = Texts (chosen [] ts ps)
+
+-- an axis at these positions, with its labels there
+abbrev pub chosen_axis : Axis → List ℕ → Axis
+chosen_axis x ps = record x { size = length ps; labels = option_map (λ (l : Labels). record l { list = chosen_list l.list ps }) x.labels }
+
+abbrev pub no_axis : Axis
+no_axis = record { name = []; size = 0; labels = None }
+
+abbrev pub chosen_axes : List Axis → ℕ → List ℕ → List Axis
+chosen_axes axes k ps = slice_set axes k (chosen_axis (get_or axes k no_axis) ps)
+
+-- the cells at these positions of an axis
+abbrev pub chosen_cells : Array → ℕ → List ℕ → Array
+chosen_cells a k ps = made a.kind (slice_set a.shape k (length ps)) (λ p. at a (slice_set p k (get_or ps (get_or p k 0) 0)))
+
+abbrev pub chosen_content : Content → ℕ → List ℕ → Content
+chosen_content (Cells a masked) k ps = Cells (chosen_cells a k ps) masked
+chosen_content content k ps = content
+
+-- a coordinate along the dimension is chosen with it; another stays
+abbrev pub chosen_coord : List ℕ → List ℕ → Coord → Coord
+chosen_coord dimension ps c =
+    elim (axis_position dimension c.axes) [
+      | None ↦ c
+      | Some k ↦ record c { axes = chosen_axes c.axes k ps; content = chosen_content c.content k ps }
+    ]
+
+-- the array at these positions of its axis number k
+abbrev pub taken : DataArray → ℕ → List ℕ → DataArray
+taken a k ps =
+    record a {
+      axes = chosen_axes a.axes k ps;
+      coords = map (chosen_coord (get_or a.axes k no_axis).name ps) a.coords;
+      cells = (chosen_cells (array_of a) k ps).cells;
+    }
+
+-- ---- the sum over all dimensions (NumPy, `sum`): in 64 bits, without the missing cells
+
+-- the numbers that aren't missing
+abbrev pub present : List (Option ℤ) → List ℤ
+present [] = []
+present (Some n ∷ cells) = n ∷ present cells
+present (None ∷ cells) = present cells
+
+abbrev pub is_scalar : Coord → Bool
+is_scalar c = length c.axes == 0
+
+abbrev pub total : DataArray → DataArray
+total a =
+    record {
+      name = a.name;
+      axes = [];
+      kind = Int64;
+      masked = false;
+      attrs = [];
+      coords = filter is_scalar a.coords;
+      cells = Some (wrap_to Int64 (sum_of (present a.cells))) ∷ [];
+    }

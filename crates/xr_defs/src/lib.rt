@@ -1,0 +1,31 @@
+//! The public definitions: the data that contracts speak of, and in `specs/` what each call has to give.
+#![tactic(auto)]
+
+mod array;
+mod file;
+mod line;
+mod operation;
+mod scan;
+mod search;
+mod stop;
+mod syntax;
+mod tally;
+mod time;
+mod token;
+mod value;
+
+pub use array::{ArrayValue, Cells};
+pub use file::{CdfDim, CdfFile, CdfVar, VarHead};
+pub use line::Line;
+pub use operation::{FoldKind, How, Near, OpKind};
+pub use scan::{Front, Scan, ScanEnd};
+pub use search::{Direction, Span};
+pub use stop::Stop;
+pub use syntax::{Argument, Constant, Expr, Script, Statement};
+pub use tally::Tally;
+pub use time::{Field, Freq, Period};
+pub use token::{Mark, Placed, Reserved, Token};
+pub use value::{Content, Coord};
+
+#[cfg(test)]
+mod tests;
