@@ -1,0 +1,10 @@
+pub mod Decoded
+pub mod KnownNames
+pub mod Loop
+pub mod Capped
+pub mod Distances
+pub mod Counted
+pub mod Placed
+pub mod Reversed
+pub mod Found
+pub mod Seen

@@ -1,0 +1,27 @@
+//! A file without its values.
+ghost use Rattle.std.specs.Prelude.{◌≡◌, take, drop, false};
+ghost use Rattle.xr_defs.specs.Files.{head_size, is_record_var};
+ghost use Rattle.cdf_reader.specs.Heads.{var_seen};
+
+use crate::data::fixed_values;
+use xr_defs::{CdfDim, VarHead};
+use xr_types::{Attr, Items};
+
+/// What the header of a file lists. `numrecs` is the number of records; of a streamed file, those that lie in it.
+#[derive(Drop)]
+pub struct FileHead {
+    pub version: u8,
+    pub numrecs: u64,
+    pub dims: Items<CdfDim>,
+    pub attrs: Items<Attr>,
+    pub vars: Items<VarHead>,
+}
+
+/// The values of a variable that is no record variable, where they lie in the file's bytes. Of a record variable
+/// they are the first record's.
+pub fn values_at<'a>(bytes: &'a [u8], head: &FileHead, var: &VarHead) -> &'a [u8]
+    ensures place { result.now ≡ take (head_size head.now.dims var.now) (drop var.now.begin bytes.now) }
+    ensures fixed { is_record_var head.now.dims var.now.dims ≡ false → result.now ≡ (var_seen bytes.now head.now var.now).raw }
+{
+    fixed_values(bytes, head.dims.as_slice(), var)
+}

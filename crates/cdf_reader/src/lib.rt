@@ -1,0 +1,27 @@
+//! Reads classic netCDF files, versions 1 and 2, whole: the file that bytes spell, or the first fault and its place.
+#![tactic(auto)]
+
+mod cells;
+mod data;
+mod decode;
+mod fault;
+mod fields;
+mod heads;
+mod laws;
+mod lists;
+mod names;
+mod reading;
+mod records;
+mod sizes;
+#[cfg(test)]
+mod tests;
+mod values;
+mod variables;
+
+pub use cells::Numbers;
+pub use decode::{numbers, numbers_in, sum_of_ints};
+pub use fault::CdfFault;
+pub use heads::{FileHead, values_at};
+pub use laws::{most_records, one_answer};
+pub use reading::{read, read_head};
+pub use sizes::is_record;
