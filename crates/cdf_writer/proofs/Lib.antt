@@ -1,0 +1,16 @@
+pub mod Each
+pub mod Lengths
+pub mod Rooms
+pub mod Places
+pub mod Steps
+pub mod Distinct
+pub mod Spelling
+pub mod Heads
+pub mod Standing
+pub mod Reread
+pub mod Kept
+pub mod Again
+pub mod TestFiles
+pub mod Held
+pub mod Fillings
+pub mod Whole

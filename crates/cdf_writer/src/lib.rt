@@ -1,0 +1,21 @@
+//! Writes classic netCDF files, versions 1 and 2, in their one canonical spelling (Unidata, "The NetCDF Classic
+//! Format Specification").
+#![tactic(auto)]
+
+mod answer;
+mod hold;
+mod laws;
+mod measure;
+mod room;
+mod size;
+mod spell;
+mod text;
+mod values;
+
+pub use answer::{Layout, WriteFault};
+pub use laws::reads_again;
+pub use measure::layout;
+pub use spell::write;
+
+#[cfg(test)]
+mod tests;
