@@ -1,0 +1,80 @@
+#!/usr/bin/env python3
+"""Measures the engine's crates beside numpy, numpy.ma and pandas, in one run, and prints ratios.
+
+    bench/engine.py [PROGRAM] [--times N]
+
+PROGRAM is the proved `engine_times`; each job is run N times (seven by default) inside one process, and the least
+counts, for the peer as for ours. A ratio above 1 says that the engine is that many times faster. Peers that aren't
+installed are left out, and the output says so. Debian has them as python3-numpy and python3-pandas.
+"""
+import argparse
+import os
+import platform
+import subprocess
+import sys
+
+HERE = os.path.dirname(os.path.abspath(__file__))
+PYTHON = "/usr/bin/python3" if os.path.exists("/usr/bin/python3") else sys.executable
+
+CELLS = "a = ((np.arange(n, dtype='i8') * 31) % 1009 - 504).astype('i4')"
+MASKED = CELLS + "\na = np.ma.MaskedArray(a, mask=np.arange(n) % 7 == 0)"
+ASCENDING = "x = np.arange(n, dtype='i8')"
+SCATTERED = "x = (np.arange(n, dtype='u4') * np.uint32(2654435761)).astype('i8')"
+
+# the job's name, the packages of the peer, what it prepares, and what is timed
+JOBS = [
+    ("sum", "numpy", CELLS, "a.sum(dtype='i8')"),
+    ("max", "numpy", CELLS, "a.max()"),
+    ("count", "numpy", CELLS, "np.count_nonzero(a == a)"),
+    ("masked sum", "numpy", MASKED, "a.sum(dtype='i8')"),
+    ("masked max", "numpy", MASKED, "a.max()"),
+    ("masked count", "numpy", MASKED, "a.count()"),
+    ("scan", "numpy", CELLS + "\nb = np.empty(n, 'i8')", "np.cumsum(a, dtype='i8', out=b)"),
+    ("index ascending", "numpy, pandas", ASCENDING, "i = pd.Index(x); i.is_unique; i.is_monotonic_increasing"),
+    ("index scattered", "numpy, pandas", SCATTERED, "i = pd.Index(x); i.is_unique; i.is_monotonic_increasing"),
+    ("find ascending", "numpy, pandas", ASCENDING + "\ni = pd.Index(x); q = x[::-1].copy(); i.get_indexer(q[:1])", "i.get_indexer(q)"),
+    ("find scattered", "numpy, pandas", SCATTERED + "\ni = pd.Index(x); q = x[::-1].copy(); i.get_indexer(q[:1])", "i.get_indexer(q)"),
+]
+
+SIZES = {"index ascending": [1_000_000], "index scattered": [1_000_000], "find ascending": [1_000_000], "find scattered": [1_000_000]}
+
+TIMED = """
+import time
+import {packages}
+{aliases}
+n = {n}
+{before}
+least = float("inf")
+for _ in range({times}):
+    start = time.perf_counter()
+    {code}
+    least = min(least, time.perf_counter() - start)
+print(least)
+"""
+
+
+def peer(packages, before, code, n, times):
+    aliases = "import numpy as np" + ("\nimport pandas as pd" if "pandas" in packages else "")
+    text = TIMED.format(packages=packages, aliases=aliases, n=n, before=before, times=times, code=code)
+    ran = subprocess.run([PYTHON, "-c", text], capture_output=True, text=True)
+    return float(ran.stdout) if ran.returncode == 0 else None
+
+
+def main():
+    options = argparse.ArgumentParser()
+    options.add_argument("program", nargs="?", default=os.path.join(HERE, "..", "crates", "engine_times", "out", "engine_times"))
+    options.add_argument("--times", type=int, default=7)
+    given = options.parse_args()
+    with open("/proc/cpuinfo") as f:
+        model = next((line.split(":", 1)[1].strip() for line in f if line.startswith("model name")), platform.machine())
+    print(f"{model}, {os.cpu_count()} processors")
+    for job, packages, before, code in JOBS:
+        for n in SIZES.get(job, [1 << 22, 1 << 25]):
+            ran = subprocess.run([given.program, job, str(n), str(given.times)], capture_output=True, text=True, check=True)
+            ours = int(ran.stdout.split()[0]) / 1e9
+            theirs = peer(packages, before, code, n, given.times)
+            line = f"{job}, {n} cells: {ours * 1000:.2f} ms"
+            print(line + (f"; {packages} {theirs * 1000:.2f} ms, ratio {theirs / ours:.2f}" if theirs else f"; skipped, {packages} isn't installed"))
+
+
+main()

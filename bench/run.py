@@ -1,0 +1,123 @@
+#!/usr/bin/env python3
+"""Measures the proved program beside numpy and xarray, in one run, and prints ratios.
+
+    bench/run.py [PROGRAM] [--times N]
+
+Each job is timed N times (five by default), ours and the peers' in turn, and the least of each counts. `in process` is
+measured inside Python, after its imports; `whole` is the whole process. A ratio above 1 says that the program is that
+many times faster than the peer. Peers that aren't installed are left out, and the output says so.
+Debian has them as python3-numpy and python3-xarray.
+"""
+import argparse
+import os
+import platform
+import subprocess
+import sys
+import tempfile
+import time
+
+HERE = os.path.dirname(os.path.abspath(__file__))
+PYTHON = "/usr/bin/python3" if os.path.exists("/usr/bin/python3") else sys.executable
+
+
+def padded_name(name):
+    data = name.encode()
+    return len(data).to_bytes(4, "big") + data + bytes(-len(data) % 4)
+
+
+def word(n):
+    return n.to_bytes(4, "big")
+
+
+def write_ints(path, count):
+    """A classic file with one variable `v` of `count` ints over `x`, made without any library."""
+    head = b"CDF\x01" + word(0) + word(10) + word(1) + padded_name("x") + word(count) + word(0) * 2
+    head += word(11) + word(1) + padded_name("v") + word(1) + word(0) + word(0) * 2 + word(4) + word(4 * count)
+    head += word(len(head) + 4)
+    block = b"".join(((i * 31) % 1009 - 504).to_bytes(4, "big", signed=True) for i in range(1009 * 64))
+    with open(path, "wb") as f:
+        f.write(head)
+        left = 4 * count
+        while left > 0:
+            f.write(block[:left])
+            left -= min(left, len(block))
+
+
+def timed(command, folder):
+    """Seconds of a whole process, and its peak memory in MiB."""
+    start = time.perf_counter()
+    child = subprocess.Popen(command, cwd=folder, stdout=subprocess.DEVNULL)
+    _, status, usage = os.wait4(child.pid, 0)
+    seconds = time.perf_counter() - start
+    child.returncode = os.waitstatus_to_exitcode(status)
+    if child.returncode != 0:
+        sys.exit(f"{' '.join(command)} ended with {child.returncode}")
+    return seconds, usage.ru_maxrss / 1024
+
+
+def inside(code, folder):
+    """Seconds that a piece of Python prints of itself, or None where it can't be run."""
+    ran = subprocess.run([PYTHON, "-c", code], cwd=folder, capture_output=True, text=True)
+    return float(ran.stdout.split()[-1]) if ran.returncode == 0 else None
+
+
+def has(module):
+    return subprocess.run([PYTHON, "-c", f"import {module}"], capture_output=True).returncode == 0
+
+
+TIMED = "import time\n{before}\nstart = time.perf_counter()\n{code}\nprint(time.perf_counter() - start)\n"
+
+JOBS = [
+    {
+        "name": "open and sum 2^25 ints",
+        "cells": 1 << 25,
+        "script": 'print(open_dataset("v.nc")["v"].sum())\n',
+        "peers": [
+            ("numpy, in process", "numpy", TIMED.format(
+                before="import numpy as np",
+                code='total = int(np.fromfile("v.nc", ">i4", offset=80).sum(dtype="i8"))')),
+        ],
+        "whole": [("xarray, whole", "xarray", 'import xarray\nprint(int(xarray.open_dataset("v.nc")["v"].sum()))')],
+    },
+]
+
+
+def measure(job, program, times):
+    with tempfile.TemporaryDirectory() as folder:
+        write_ints(os.path.join(folder, "v.nc"), job["cells"])
+        with open(os.path.join(folder, "s.xrs"), "w") as f:
+            f.write(job["script"])
+        ours, memory, peers = [], 0.0, {}
+        for _ in range(times):
+            seconds, peak = timed([program, "s.xrs"], folder)
+            ours.append(seconds)
+            memory = max(memory, peak)
+            for name, needs, code in job["peers"]:
+                if has(needs):
+                    peers.setdefault(name, []).append(inside(code, folder))
+            for name, needs, code in job["whole"]:
+                if has(needs):
+                    peers.setdefault(name, []).append(timed([PYTHON, "-c", code], folder)[0])
+        size = os.path.getsize(os.path.join(folder, "v.nc")) / (1 << 20)
+    least = min(ours)
+    print(f"{job['name']}: {least:.3f} s, peak {memory:.0f} MiB over a file of {size:.0f} MiB")
+    for name, seconds in peers.items():
+        print(f"    {name}: {min(seconds):.3f} s, ratio {min(seconds) / least:.2f}")
+    for name, needs, _ in job["peers"] + job["whole"]:
+        if name not in peers:
+            print(f"    {name}: skipped, {needs} isn't installed")
+
+
+def main():
+    options = argparse.ArgumentParser()
+    options.add_argument("program", nargs="?", default=os.path.join(HERE, "..", "crates", "xrs", "out", "xrs"))
+    options.add_argument("--times", type=int, default=5)
+    given = options.parse_args()
+    with open("/proc/cpuinfo") as f:
+        model = next((line.split(":", 1)[1].strip() for line in f if line.startswith("model name")), platform.machine())
+    print(f"{model}, {os.cpu_count()} processors")
+    for job in JOBS:
+        measure(job, os.path.abspath(given.program), given.times)
+
+
+main()

@@ -1,0 +1,161 @@
+//! Whole files of the system as a store.
+ghost use Rattle.std.specs.Prelude.{◌≡◌, ℕ, IfOk, List, None, false};
+ghost use Rattle.xr_run.specs.Outside.{IsWithin};
+
+use crate::beside::Beside;
+use std::alloc::Global;
+use std::fs::{File, OpenFile, OpenOptions};
+use std::io::{Error, ErrorKind, Read, Write};
+use std::rt::Files;
+use std::{fs, io};
+use xr_run::{Got, Store, StoreFailed, StoreFault};
+use xr_types::TextBytes;
+
+/// Files by their paths, read and written whole. It doesn't tell what they hold.
+#[derive(Drop)]
+pub struct FileStore<'a, R> {
+    rt: &'a R,
+    faults: u64,
+}
+
+impl<'a, R: Files> FileStore<'a, R> {
+    pub fn new(rt: &'a R) -> Self
+        ensures { result.faults ≡ 0 }
+    {
+        FileStore { rt, faults: 0 }
+    }
+}
+
+// The bytes of an open file, read no further than one byte past the limit.
+fn read_within<F: OpenFile + Read + Drop>(alloc: Global, file: F, limit: u64) -> io::Result<Got>
+    ensures { IfOk result (λ got. IsWithin limit got) }
+{
+    // Only a regular file's length is known: a pipe has 0, and a folder's says nothing of bytes.
+    let metadata = file.metadata()?;
+    let known = if metadata.is_file() {
+        metadata.len()
+    } else {
+        0
+    };
+    if known > limit {
+        return Ok(Got::TooLong);
+    }
+    let mut bytes = Vec::new(alloc);
+    let Ok(room) = usize::try_from(known) else {
+        return Err(Error::from(ErrorKind::OutOfMemory));
+    };
+    if bytes.reserve_exact(room.saturating_add(1)).is_err() {
+        return Err(Error::from(ErrorKind::OutOfMemory));
+    }
+    file.take(limit.saturating_add(1)).read_to_end(&mut bytes)?;
+    if bytes.len() as u64 > limit {
+        return Ok(Got::TooLong);
+    }
+    Ok(Got::Found(bytes))
+}
+
+// Writes the bytes into what is no regular file: a device, a pipe, or what a link leads to.
+fn write_through<R: Files>(rt: &R, name: &str, bytes: &[u8]) -> io::Result<()> {
+    let mut file = OpenOptions::new()
+        .write(true)
+        .truncate(true)
+        .open(rt, name)?;
+    file.write_all(bytes)
+}
+
+// Writes the bytes to a new file, with the permissions of the old one, and to the disk.
+fn fill<R: Files>(rt: &R, name: &str, mut file: R::File, bytes: &[u8]) -> io::Result<()> {
+    if let Ok(old) = fs::metadata(rt, name) {
+        file.set_permissions(old.permissions())?;
+    }
+    file.write_all(bytes)?;
+    file.sync_all()
+}
+
+// Makes a file of a new name beside the other, and gives it the other's name once its bytes are on the disk. Where
+// something fails, the new file is removed, and the old one is as it was.
+fn replace<R: Files>(rt: &R, name: &str, beside: &str, bytes: &[u8]) -> io::Result<()> {
+    let file = File::create_new(rt, beside)?;
+    let moved = match fill(rt, name, file, bytes) {
+        Ok(()) => fs::rename(rt, beside, name),
+        Err(e) => Err(e),
+    };
+    if moved.is_err() {
+        let _removed = fs::remove_file(rt, beside);
+    }
+    moved
+}
+
+// Tries new names beside the name until one is free.
+fn write_beside<R: Files>(rt: &R, name: &str, bytes: &[u8]) -> io::Result<()> {
+    let Some(mut beside) = Beside::of(name) else {
+        return Err(Error::from(ErrorKind::InvalidFilename));
+    };
+    for number in 0..Beside::COUNT {
+        let Some(path) = beside.path(number) else {
+            return Err(Error::from(ErrorKind::InvalidFilename));
+        };
+        match replace(rt, name, path, bytes) {
+            Err(e) if e.kind() == ErrorKind::AlreadyExists => {}
+            done => return done,
+        }
+    }
+    Err(Error::from(ErrorKind::AlreadyExists))
+}
+
+fn write_file<R: Files>(rt: &R, name: &str, bytes: &[u8]) -> io::Result<()> {
+    if name.is_empty() {
+        return Err(Error::from(ErrorKind::NotFound));
+    }
+    match fs::symlink_metadata(rt, name) {
+        Ok(known) => {
+            if known.is_file() {
+                // A file that may not be written stays, though its folder could be.
+                let _old = OpenOptions::new().write(true).open(rt, name)?;
+                write_beside(rt, name, bytes)
+            } else {
+                write_through(rt, name, bytes)
+            }
+        }
+        Err(e) if e.kind() == ErrorKind::NotFound => write_beside(rt, name, bytes),
+        Err(e) => Err(e),
+    }
+}
+
+impl<'a, R: Files> Store for FileStore<'a, R> {
+    ghost tells = { λ s. false };
+
+    ghost held = { λ s n. None };
+
+    ghost faults = { λ s. s.faults };
+
+    fn get(&mut self, alloc: Global, name: &TextBytes, limit: u64) -> Result<Got, StoreFault> {
+        let faults = self.faults;
+        let got = match File::open(self.rt, name.as_str()) {
+            Ok(file) => read_within(alloc, file, limit),
+            Err(e) => Err(e),
+        };
+        match got {
+            Ok(got) => Ok(got),
+            Err(e) => match e.kind() {
+                ErrorKind::NotFound | ErrorKind::NotADirectory => Ok(Got::Absent),
+                ErrorKind::OutOfMemory => Err(StoreFault::NoMemory),
+                _ => {
+                    self.faults = faults.saturating_add(1);
+                    Err(StoreFault::Failed)
+                }
+            },
+        }
+    }
+
+    fn put(&mut self, name: &TextBytes, bytes: &[u8]) -> Result<(), StoreFailed> {
+        let faults = self.faults;
+        match write_file(self.rt, name.as_str(), bytes) {
+            Ok(()) => Ok(()),
+            Err(_) => {
+                self.faults = faults.saturating_add(1);
+                Err(StoreFailed)
+            }
+        }
+    }
+}

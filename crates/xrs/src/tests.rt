@@ -1,0 +1,41 @@
+use crate::file_store::FileStore;
+use crate::std_sink::StdSink;
+use std::test::Fail;
+use xr_run::{Got, Sink, Store, StoreFault};
+use xr_types::TextBytes;
+
+fn found(got: Result<Got, StoreFault>) -> Option<Vec<u8>> {
+    match got {
+        Ok(Got::Found(bytes)) => Some(bytes),
+        _ => None,
+    }
+}
+
+#[test]
+fn a_file_is_put_and_got_and_nothing_stays_beside_it(rt: HostRuntime) -> Result<(), Fail> {
+    let alloc = rt.alloc();
+    let mut store = FileStore::new(&rt);
+    let name = TextBytes::from_str(alloc, "a.nc")?;
+    let empty = TextBytes::from_str(alloc, "")?;
+    let absent = store.get(alloc, &name, 9);
+    assert!(rt; matches!(absent, Ok(Got::Absent)));
+    assert!(rt; store.put(&name, b"old").is_ok());
+    assert!(rt; store.put(&name, b"new bytes").is_ok());
+    let bytes = found(store.get(alloc, &name, 9)).ok_or("no bytes")?;
+    assert_eq!(rt; bytes.as_slice(), b"new bytes".as_slice());
+    let long = store.get(alloc, &name, 8);
+    assert!(rt; matches!(long, Ok(Got::TooLong)));
+    assert!(rt; store.put(&empty, b"x").is_err());
+    let beside = TextBytes::from_str(alloc, ".xrs-00000")?;
+    let gone = store.get(alloc, &beside, 9);
+    assert!(rt; matches!(gone, Ok(Got::Absent)));
+    Ok(())
+}
+
+#[test]
+fn standard_output_takes_a_piece(rt: HostRuntime) -> Result<(), Fail> {
+    let mut out = StdSink::new(rt.stdout());
+    let taken = out.put(b"a line\n").ok().ok_or("no bytes taken")?;
+    assert!(rt; taken > 0);
+    Ok(())
+}
