@@ -1,0 +1,10 @@
+pub mod Bytes
+pub mod Cuts
+pub mod Numbers
+pub mod Runs
+pub mod Between
+pub mod Feeds
+pub mod Fits
+pub mod Lexing
+pub mod Munch
+pub mod Steps
