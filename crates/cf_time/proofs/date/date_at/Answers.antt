@@ -1,0 +1,16 @@
+-- The date is the calendar's date of the day.
+use Rattle.jiff_core.proofs.DateLemmas.{civil}
+use Rattle.cf_time.proofs.Linked.{Placed, placed}
+use Rattle.cf_time.proofs.date.date_at.Goals as goal
+
+pub returns-clause-year : goal.returns-clause-year
+returns-clause-year c = (placed c.from_days_since_min.result.year c.from_days_since_min.result.month c.from_days_since_min.result.day c.args.day (civil c.from_days_since_min.result) c.requires c.from_days_since_min.ensures).year
+
+pub returns-clause-month : goal.returns-clause-month
+returns-clause-month c = (placed c.from_days_since_min.result.year c.from_days_since_min.result.month c.from_days_since_min.result.day c.args.day (civil c.from_days_since_min.result) c.requires c.from_days_since_min.ensures).month
+
+pub returns-clause-day : goal.returns-clause-day
+returns-clause-day c = (placed c.from_days_since_min.result.year c.from_days_since_min.result.month c.from_days_since_min.result.day c.args.day (civil c.from_days_since_min.result) c.requires c.from_days_since_min.ensures).day
+
+pub returns-clause-ordinal : goal.returns-clause-ordinal
+returns-clause-ordinal c = (placed c.from_days_since_min.result.year c.from_days_since_min.result.month c.from_days_since_min.result.day c.args.day (civil c.from_days_since_min.result) c.requires c.from_days_since_min.ensures).ordinal

@@ -1,0 +1,49 @@
+//! Times as a file counts them.
+ghost use Rattle.std.specs.Prelude.{◌≡◌, ◌&&◌, ◌||◌, pos, IfSome, Some, None, if◌then◌else◌};
+ghost use Rattle.xr_defs.specs.Times.{IsTime, unit_seconds, is_time, is_gregorian, decoded};
+
+use xr_types::{TimeUnit, Units};
+
+/// The seconds of a unit.
+fn unit_seconds(unit: TimeUnit) -> i128
+    ensures { result ≡ pos (unit_seconds unit) }
+{
+    match unit {
+        TimeUnit::Days => 86_400,
+        TimeUnit::Hours => 3_600,
+        TimeUnit::Minutes => 60,
+        TimeUnit::Seconds => 1,
+    }
+}
+
+/// A time that the units decode.
+fn bounded(early: bool, time: i128) -> Option<i64>
+    ensures value { result ≡ (if is_time time && (early || is_gregorian time) then Some time else None) }
+    ensures time { IfSome result IsTime }
+{
+    let first = if early {
+        -62_135_596_800
+    } else {
+        -12_219_292_800
+    };
+    if time < first || time >= 253_402_300_800 {
+        return None;
+    }
+    Some(time as i64)
+}
+
+/// The time that a count stands for, in seconds from 1970-01-01T00:00:00: the reference plus the count times
+/// the unit. There is none outside the years 1 to 9999 and, where early times aren't decoded, before 1582-10-15.
+pub fn decode(units: &Units, count: i128) -> Option<i64>
+    ensures value { result ≡ decoded units.now count }
+    ensures time { IfSome result IsTime }
+{
+    let reference = i128::from(units.reference);
+    let Some(offset) = count.checked_mul(unit_seconds(units.unit)) else {
+        return None;
+    };
+    let Some(time) = reference.checked_add(offset) else {
+        return None;
+    };
+    bounded(units.early, time)
+}

@@ -1,0 +1,15 @@
+//! Labels of an axis as positions: an index finds a label, the one near it, or those between two ends.
+#![tactic(auto)]
+
+mod between;
+mod index;
+mod label;
+mod near;
+mod rank;
+mod scan;
+mod search;
+
+pub use index::Index;
+
+#[cfg(test)]
+mod tests;
