@@ -1,0 +1,4 @@
+pub mod Conditions
+pub mod Masks
+pub mod Pairs
+pub mod Truths

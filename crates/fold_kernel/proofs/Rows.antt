@@ -1,0 +1,47 @@
+-- The cells of a masked run.
+use Rattle.std.proofs.Common.{◌≡◌, ◌==◌, ◌≢◌, ◌<◌, ◌+◌, ℕ, ℤ, suc, zero, min, Bool, true, false, List, [], ◌∷◌, map, length, get_or, Option, Some, None, option_map, if◌then◌else◌, arith, ap, refl, sym, ◌∙◌}
+use Rattle.std.proofs.Math.Dec.{eqb-suc-zero}
+use Rattle.xr_defs.specs.Arrays.{hidden}
+use Rattle.fold_kernel.specs.Rows.{shown, placed}
+
+pub length_shown : {T : Type 0} (xs : List T) (mask : List ℕ) → length (shown xs mask) ≡ min (length xs) (length mask)
+length_shown [] mask = omega arith
+length_shown (x ∷ xs) [] = omega arith
+length_shown (x ∷ xs) (m ∷ mask) = omega (arith, length_shown xs mask)
+
+pub get_or_shown : {T : Type 0} (xs : List T) (mask : List ℕ) (i : ℕ) (d : Option T) (e : T) (n : ℕ) → i < length xs → i < length mask → get_or (shown xs mask) i d ≡ (if get_or mask i n == 0 then Some (get_or xs i e) else None)
+get_or_shown [] mask i d e n h k = absurd (omega arith)
+get_or_shown (x ∷ xs) [] i d e n h k = absurd (omega arith)
+get_or_shown (x ∷ xs) (m ∷ mask) zero d e n h k = refl
+get_or_shown (x ∷ xs) (m ∷ mask) (suc i) d e n h k = get_or_shown xs mask i d e n (omega arith) (omega arith)
+
+pub shown_there : {T : Type 0} (xs : List T) (mask : List ℕ) (i : ℕ) (e : T) (n : ℕ) (h : i < length (shown xs mask)) → get_or mask i n ≡ 0 → Some (get_or xs i e) ≡ get_or (shown xs mask) i (Some (get_or xs i e))
+shown_there xs mask i e n h z = sym (get_or_shown xs mask i (Some (get_or xs i e)) e n (omega (arith, length_shown xs mask)) (omega (arith, length_shown xs mask)) ∙ rw z refl)
+
+pub shown_missing : {T : Type 0} (xs : List T) (mask : List ℕ) (i : ℕ) → i < length (shown xs mask) → get_or mask i 0 ≢ 0 → None ≡ get_or (shown xs mask) i None
+shown_missing [] mask i h z = absurd (omega arith)
+shown_missing (x ∷ xs) [] i h z = absurd (omega arith)
+shown_missing (x ∷ xs) (zero ∷ mask) zero h z = absurd (z refl)
+shown_missing (x ∷ xs) (suc m ∷ mask) zero h z = let e : (suc m == 0) ≡ false = eqb-suc-zero m in rw e refl
+shown_missing (x ∷ xs) (m ∷ mask) (suc i) h z = shown_missing xs mask i (omega arith) z
+
+pub length_placed : {T : Type 0} (number : T → ℤ) (first : ℕ) (items : List (Option T)) → length (placed number first items) ≡ length items
+length_placed number first [] = refl
+length_placed number first (c ∷ items) = ap suc (length_placed number (first + 1) items)
+
+-- the numbers of a run, without a mask and with one
+pub whole_run : {T : Type 0} (number : T → ℤ) (xs : List T) → map (option_map number) (map Some xs) ≡ hidden (map number xs) None
+whole_run number [] = refl
+whole_run number (x ∷ xs) = ap (λ cs. Some (number x) ∷ cs) (whole_run number xs)
+
+number_if : {T : Type 0} (number : T → ℤ) (b : Bool) (x : T) → option_map number (if b then Some x else None) ≡ (if b then Some (number x) else None)
+number_if number true x = refl
+number_if number false x = refl
+
+cons_both : (c d : Option ℤ) (cs ds : List (Option ℤ)) → c ≡ d → cs ≡ ds → c ∷ cs ≡ d ∷ ds
+cons_both c d cs ds e f = ap (λ v. v ∷ cs) e ∙ ap (λ v. d ∷ v) f
+
+pub masked_run : {T : Type 0} (number : T → ℤ) (xs : List T) (mask : List ℕ) → map (option_map number) (shown xs mask) ≡ hidden (map number xs) (Some mask)
+masked_run number [] mask = refl
+masked_run number (x ∷ xs) [] = refl
+masked_run number (x ∷ xs) (m ∷ mask) = cons_both _ _ _ _ (number_if number (m == 0) x) (masked_run number xs mask)

@@ -1,0 +1,8 @@
+use Rattle.std.proofs.Common.{◌≡◌, ◌+◌, drop}
+use Rattle.xr_defs.specs.Folds.{present}
+use Rattle.fold_kernel.specs.Partials.{first_found}
+use Rattle.fold_kernel.specs.Rows.{placed}
+use Rattle.fold_kernel.proofs.find.first_present.Given as goal
+
+abbrev pub invariant-loop-i : goal.invariant-loop-i
+invariant-loop-i g l = first_found (present (placed g.T.Elem.number (l.first + l.i) (drop l.i (g.R.Row.items l.row)))) ≡ first_found (present (placed g.T.Elem.number l.first (g.R.Row.items l.row)))

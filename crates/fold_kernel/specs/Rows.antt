@@ -1,0 +1,29 @@
+-- Runs of cells as they lie in memory, and what a loop over one gathers.
+use Rattle.std.specs.Prelude.{◌==◌, ℕ, ℤ, ◌+ℤ◌, List, [], ◌∷◌, map, zip, Option, Some, None, option_map, if◌then◌else◌}
+use Rattle.std.specs.Int.{int_wrap, w64}
+use Rattle.xr_defs.specs.Folds.{numbered}
+
+-- the cells of a run, of which those are missing whose byte in the mask isn't 0
+abbrev pub shown : {T : Type 0} → List T → List ℕ → List (Option T)
+shown xs mask = map (λ c. if c.1 == 0 then Some c.0 else None) (zip xs mask)
+
+-- the numbers of a run's cells, at neighbouring positions from this one on
+abbrev pub placed : {T : Type 0} → (T → ℤ) → ℕ → List (Option T) → List (ℕ × Option ℤ)
+placed number p cells = numbered p (map (option_map number) cells)
+
+-- what is left when f has taken each present cell in turn
+abbrev pub gathered : {A T : Type 0} → (A → T → A) → A → List (Option T) → A
+gathered f a [] = a
+gathered f a (None ∷ cells) = gathered f a cells
+gathered f a (Some x ∷ cells) = gathered f (f a x) cells
+
+-- the first present cell
+abbrev pub first_shown : {T : Type 0} → List (Option T) → Option T
+first_shown [] = None
+first_shown (None ∷ cells) = first_shown cells
+first_shown (Some x ∷ cells) = Some x
+
+-- a sum that wraps at 64 bits, with one more cell
+abbrev pub with_cell : {T : Type 0} → (T → ℤ) → ℤ → Option T → ℤ
+with_cell number sum None = sum
+with_cell number sum (Some x) = int_wrap w64 (sum +ℤ number x)

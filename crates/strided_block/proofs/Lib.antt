@@ -1,0 +1,8 @@
+pub mod Boxes
+pub mod CellLaws
+pub mod Leads
+pub mod Places
+pub mod Rows
+pub mod Sights
+pub mod Splits
+pub mod Zipped

@@ -1,0 +1,5 @@
+pub mod Boxes
+pub mod Cells
+pub mod Typed
+pub mod Views
+pub mod Zips

@@ -1,0 +1,168 @@
+//! Cells of one kind with their mask: views and windows.
+ghost use Rattle.std.specs.Prelude.{◌≡◌, false, ℕ, List, Some};
+ghost use Rattle.xr_defs.specs.Points.{IsPoint};
+ghost use Rattle.strided_block.specs.Views.{shown, cell_at};
+ghost use Rattle.strided_block.specs.Typed.{view_shape, win_box, box_of};
+
+use crate::typed::{TypedView, TypedWin};
+use crate::view::View;
+use crate::win::Win;
+use xr_types::{DType, Shape};
+
+/// A view of cells of one kind and of their mask, whose bytes are 0 where a cell is present.
+#[derive(Drop)]
+pub struct CellView<'a> {
+    pub cells: TypedView<'a>,
+    pub mask: View<'a, u8>,
+    /// Whether a byte of the mask may differ from 0.
+    pub masked: bool,
+    /// The cells and the mask have one shape.
+    pub ghost same_shape: { mask.shape ≡ view_shape cells },
+    /// Without the flag no cell is missing.
+    pub ghost clear: { masked ≡ false → (p : List ℕ) → IsPoint mask.shape p → shown mask p ≡ Some 0 },
+}
+
+/// A window of cells of one kind and of their mask, whose bytes are 0 where a cell is present. It has to be spent.
+pub struct CellWin {
+    pub cells: TypedWin,
+    pub mask: Win<u8>,
+    /// Whether a byte of the mask may differ from 0.
+    pub masked: bool,
+    /// The cells and the mask have one box.
+    pub ghost same_box: { box_of mask ≡ win_box cells },
+    /// Without the flag no cell is missing.
+    pub ghost clear: { masked ≡ false → (p : List ℕ) → IsPoint mask.shape p → cell_at mask p ≡ Some 0 },
+}
+
+impl<'a> CellView<'a> {
+    ghost use Rattle.std.specs.Prelude.{◌≡◌, ◌-◌, ◌≤◌, ◌<◌, ℕ, List, length, get_or, slice_set};
+    ghost use Rattle.xr_defs.specs.Points.{IsPoint};
+    ghost use Rattle.xr_defs.specs.Arrays.{IsCell};
+    ghost use Rattle.strided_block.specs.Boxes.{moved};
+    ghost use Rattle.strided_block.specs.Typed.{view_kind};
+    ghost use Rattle.strided_block.specs.Cells.{cell_shown};
+
+    /// The kind of the cells.
+    pub fn kind(&self) -> DType
+        ensures { result ≡ view_kind self.now.cells }
+    {
+        self.cells.kind()
+    }
+
+    /// The sizes of the view.
+    pub fn shape(&self) -> &Shape
+        ensures { result.now ≡ self.now.mask.shape }
+    {
+        self.mask.shape()
+    }
+
+    /// The cell at a point.
+    pub fn get(&self, point: &Shape) -> Option<i128>
+        requires { IsPoint self.now.mask.shape point.now }
+        ensures value { result ≡ cell_shown self.now point.now }
+        ensures range { IsCell (view_kind self.now.cells) result }
+    {
+        let number = self.cells.get(point);
+        if self.mask.get(point) == 0 {
+            Some(number)
+        } else {
+            None
+        }
+    }
+
+    /// The part from `from` up to `to` along an axis.
+    #[tactic(auto, using(crate::proofs::CellLaws::moved_inside))]
+    pub fn sub(self, axis: usize, from: u64, to: u64) -> CellView<'a>
+        requires axis { axis < length self.mask.shape }
+        requires range { (from ≤ to) × (to ≤ get_or self.mask.shape axis 0) }
+        ensures kind { view_kind result.cells ≡ view_kind self.entry.cells }
+        ensures shape { result.mask.shape ≡ slice_set self.entry.mask.shape axis (to - from) }
+        ensures cells { (ps : List ℕ) → IsPoint result.mask.shape ps → cell_shown result ps ≡ cell_shown self.entry (moved ps axis from) }
+    {
+        let CellView {
+            cells,
+            mask,
+            masked,
+        } = self;
+        CellView {
+            cells: cells.sub(axis, from, to),
+            mask: mask.sub(axis, from, to),
+            masked,
+        }
+    }
+}
+
+impl CellWin {
+    ghost use Rattle.std.specs.Prelude.{◌≡◌, ℕ, List};
+    ghost use Rattle.xr_defs.specs.Points.{IsPoint};
+    ghost use Rattle.xr_defs.specs.Arrays.{IsCell};
+    ghost use Rattle.strided_block.specs.Boxes.{plus};
+    ghost use Rattle.strided_block.specs.Typed.{view_kind, win_kind};
+    ghost use Rattle.strided_block.specs.Cells.{cell_shown, cell_held, cell_in, SameWindow};
+
+    /// The kind of the cells.
+    pub fn kind(&self) -> DType
+        ensures { result ≡ win_kind self.now.cells }
+    {
+        self.cells.kind()
+    }
+
+    /// The sizes of the window.
+    pub fn shape(&self) -> &Shape
+        ensures { result.now ≡ self.now.mask.shape }
+    {
+        self.mask.shape()
+    }
+
+    /// The cells of the window.
+    pub fn view(&self) -> CellView<'_>
+        ensures kind { view_kind result.cells ≡ win_kind self.now.cells }
+        ensures shape { result.mask.shape ≡ self.now.mask.shape }
+        ensures cells { (p : List ℕ) → IsPoint self.now.mask.shape p → cell_shown result p ≡ cell_in self.now p }
+    {
+        CellView {
+            cells: self.cells.view(),
+            mask: self.mask.view(),
+            masked: self.masked,
+        }
+    }
+
+    /// Writes the cell at a point.
+    pub fn set(&mut self, point: &Shape, cell: Option<i128>)
+        requires inside { IsPoint self.old.mask.shape point.now }
+        requires range { IsCell (win_kind self.old.cells) cell }
+        ensures place { SameWindow self.old self.new }
+        ensures written { cell_in self.new point.now ≡ cell }
+        ensures others { (cs : List ℕ) → IsPoint self.old.mask.whole cs → ¬ (cs ≡ plus self.old.mask.low point.now) → cell_held self.new cs ≡ cell_held self.old cs }
+    {
+        match cell {
+            Some(number) => {
+                self.cells.set(point, number);
+                self.mask.set(point, 0);
+            }
+            None => {
+                self.masked = true;
+                self.mask.set(point, 1);
+            }
+        }
+    }
+
+    /// Writes one cell everywhere.
+    pub fn fill(&mut self, cell: Option<i128>)
+        requires { IsCell (win_kind self.old.cells) cell }
+        ensures place { SameWindow self.old self.new }
+        ensures cells { (p : List ℕ) → IsPoint self.old.mask.shape p → cell_in self.new p ≡ cell }
+        ensures others { (cs : List ℕ) → IsPoint self.old.mask.whole cs → ((p : List ℕ) → IsPoint self.old.mask.shape p → ¬ (cs ≡ plus self.old.mask.low p)) → cell_held self.new cs ≡ cell_held self.old cs }
+    {
+        match cell {
+            Some(number) => {
+                self.cells.fill(number);
+                self.mask.fill(0);
+            }
+            None => {
+                self.masked = true;
+                self.mask.fill(1);
+            }
+        }
+    }
+}

@@ -1,0 +1,17 @@
+//! Blocks of cells, and views and windows of them. A view or window is, to a contract, a finite map from points to cells.
+#![tactic(auto)]
+
+mod block;
+mod cells;
+mod place;
+mod typed;
+mod view;
+mod win;
+mod zip;
+
+pub use block::Block;
+pub use cells::{CellView, CellWin};
+pub use typed::{TypedBlock, TypedView, TypedWin};
+pub use view::View;
+pub use win::Win;
+pub use zip::zip_cells;

@@ -1,0 +1,142 @@
+//! Windows: owned cells of a block, to be written.
+ghost use Rattle.std.specs.Prelude.{◌≡◌, ◌+◌, ◌<◌, ◌≤◌, ◌++◌, ℕ, List, Some, length, get_or, map, take, drop, slice_set};
+ghost use Rattle.xr_defs.specs.Points.{IsPoint};
+ghost use Rattle.strided_block.specs.Boxes.{plus, along, IsRow};
+ghost use Rattle.strided_block.specs.Views.{Cut, KeptOutside, IsWhole, shown, held, cell_at};
+
+use crate::block::Block;
+use crate::place::{origin, place_at, twin};
+use crate::view::View;
+use std::marker::Model;
+use xr_types::{Elem, Shape};
+
+/// The owned cells of a box in a block, to be written. It has to be spent, by `into_block`.
+pub struct Win<T> {
+    pub(crate) cells: Vec<T>,
+    pub(crate) shape: Shape,
+}
+
+impl<T> Model for Win<T> {
+    ghost use Rattle.strided_block.specs.Views.{Window, wide_window, IsFull};
+
+    ghost Value = { Window T };
+
+    ghost view = { λ w. wide_window w.cells.items w.shape };
+
+    ghost invariant = { λ w. IsFull w.shape w.cells.items };
+}
+
+// Writes the cell at a place.
+fn put<T: Copy>(all: &mut Vec<T>, at: usize, cell: T)
+    requires { at < length all.old.items }
+    ensures { all.new.items ≡ slice_set all.old.items at cell }
+{
+    all[at] = cell;
+}
+
+// Writes one cell everywhere.
+fn fill_slice<T: Copy>(all: &mut [T], cell: T)
+    ensures { (i : ℕ) (y : T) → i < length all.new → get_or all.new i y ≡ cell }
+{
+    for i in 0..all.len() {
+        all[i] = cell;
+    }
+}
+
+fn fill_all<T: Copy>(all: &mut Vec<T>, cell: T)
+    ensures long { length all.new.items ≡ length all.old.items }
+    ensures cells { (i : ℕ) (y : T) → i < length all.new.items → get_or all.new.items i y ≡ cell }
+{
+    fill_slice(all.as_mut_slice(), cell);
+}
+
+// Writes cells from a place on.
+fn put_run<T: Copy>(all: &mut Vec<T>, at: usize, cells: &[T])
+    requires { at + length cells.now ≤ length all.old.items }
+    ensures { all.new.items ≡ take at all.old.items ++ (cells.now ++ drop (at + length cells.now) all.old.items) }
+{
+    put_slice(all.as_mut_slice(), at, cells);
+}
+
+fn put_slice<T: Copy>(all: &mut [T], at: usize, cells: &[T])
+    requires { at + length cells.now ≤ length all.old }
+    ensures { all.new ≡ take at all.old ++ (cells.now ++ drop (at + length cells.now) all.old) }
+{
+    let end = at + cells.len();
+    all[at..end].copy_from_slice(cells);
+}
+
+impl<T: Elem + Drop> Win<T> {
+    /// The window of a whole block.
+    pub fn whole(block: Block<T>) -> Win<T>
+        ensures place { IsWhole result }
+        ensures shape { result.whole ≡ block.shape }
+        ensures cells { result.slots ≡ map Some block.cells }
+    {
+        Win {
+            cells: block.cells,
+            shape: block.shape,
+        }
+    }
+
+    /// The sizes of the window.
+    pub fn shape(&self) -> &Shape
+        ensures { result.now ≡ self.now.shape }
+    {
+        &self.shape
+    }
+
+    /// The cells of the window.
+    pub fn view(&self) -> View<'_, T>
+        ensures shape { result.shape ≡ self.now.shape }
+        ensures cells { (ps : List ℕ) → IsPoint self.now.shape ps → shown result ps ≡ cell_at self.now ps }
+    {
+        View {
+            cells: self.cells.as_slice(),
+            whole: twin(&self.shape),
+            low: origin(&self.shape),
+            shape: twin(&self.shape),
+        }
+    }
+
+    /// Writes the cell at a point.
+    pub fn set(&mut self, point: &Shape, cell: T)
+        requires { IsPoint self.old.shape point.now }
+        ensures place { Cut self.old self.new self.old.low self.old.shape }
+        ensures written { cell_at self.new point.now ≡ Some cell }
+        ensures others { (cs : List ℕ) → IsPoint self.old.whole cs → ¬ (cs ≡ plus self.old.low point.now) → held self.new cs ≡ held self.old cs }
+    {
+        let at = place_at(&self.shape, point);
+        put(&mut self.cells, at, cell);
+    }
+
+    /// Writes cells from a point on along the last axis.
+    pub fn put_row(&mut self, point: &Shape, cells: &[T])
+        requires { IsRow self.old.shape point.now (length cells.now) }
+        ensures place { Cut self.old self.new self.old.low self.old.shape }
+        ensures written { (j : ℕ) (x : T) → j < length cells.now → cell_at self.new (along point.now j) ≡ Some (get_or cells.now j x) }
+        ensures others { (cs : List ℕ) → IsPoint self.old.whole cs → ((j : ℕ) → j < length cells.now → ¬ (cs ≡ plus self.old.low (along point.now j))) → held self.new cs ≡ held self.old cs }
+    {
+        let at = place_at(&self.shape, point);
+        put_run(&mut self.cells, at, cells);
+    }
+
+    /// Writes one cell everywhere.
+    pub fn fill(&mut self, cell: T)
+        ensures place { Cut self.old self.new self.old.low self.old.shape }
+        ensures cells { (p : List ℕ) → IsPoint self.old.shape p → cell_at self.new p ≡ Some cell }
+        ensures others { KeptOutside self.old self.new }
+    {
+        fill_all(&mut self.cells, cell);
+    }
+
+    /// The block of a window of the whole.
+    pub fn into_block(self) -> Block<T>
+        requires { IsWhole self }
+        ensures shape { result.shape ≡ self.whole }
+        ensures cells { map Some result.cells ≡ self.slots }
+    {
+        let Win { cells, shape } = self;
+        Block { cells, shape }
+    }
+}

@@ -1,0 +1,211 @@
+//! A window whose cells are made from those of views, a run at a time.
+ghost use Rattle.std.specs.Prelude.{◌≡◌, ◌+◌, ◌*◌, ◌<◌, ◌≤◌, ◌^◌, ◌++◌, ◌⊎◌, ◌&&◌, ℕ, List, None, Some, true, length, get_or, map, take, drop};
+ghost use Rattle.xr_defs.specs.Points.{size, place, IsPoint};
+ghost use Rattle.strided_block.specs.Views.{Cut, KeptOutside, shown, together, cell_at};
+ghost use Rattle.strided_block.specs.Zips.{Zips, point_at, stored};
+
+use crate::place::points;
+use crate::view::View;
+use crate::win::Win;
+use xr_types::{Elem, Shape};
+
+// Writes what f gives at the cells of four runs, from a place on.
+fn zip_run<
+    A: Copy + Drop,
+    B: Copy + Drop,
+    C: Copy + Drop,
+    D: Copy + Drop,
+    T: Copy + Drop,
+    F: Fn(A, B, C, D) -> T,
+>(f: &F, a: &[A], b: &[B], c: &[C], d: &[D], all: &mut [T], at: usize)
+    requires callable { F.IsAlwaysCallable f.now }
+    requires lengths { (length b.now ≡ length a.now) × (length c.now ≡ length a.now) × (length d.now ≡ length a.now) }
+    requires room { at + length a.now ≤ length all.old }
+    ensures cells { (i : ℕ) (x : A) (y : B) (u : C) (v : D) (z : T) → i < length a.now → F.post f.now (get_or a.now i x) (get_or b.now i y) (get_or c.now i u) (get_or d.now i v) (get_or all.new (at + i) z) }
+    ensures others { (k : ℕ) (z : T) → (k < at) ⊎ (at + length a.now ≤ k) → get_or all.new k z ≡ get_or all.old k z }
+{
+    for i in 0..a.len() {
+        all[at + i] = f(a[i], b[i], c[i], d[i]);
+    }
+}
+
+// The point at a place in row order.
+fn point_of(sizes: &[u64], at: u64) -> Shape
+    requires inside { at < size sizes.now }
+    requires small { size sizes.now < 2 ^ 63 }
+    requires short { length sizes.now ≤ 16 }
+    ensures value { result ≡ point_at sizes.now at }
+    ensures long { length result ≡ length sizes.now }
+{
+    let mut point = Shape::new();
+    let mut left = at;
+    for axis in 0..sizes.len() {
+        let step = points(sizes.split_at(axis + 1).1);
+        point.push(left / step);
+        left %= step;
+    }
+    point
+}
+
+// Whether the cells of the points that agree before an axis lie side by side in all of the views.
+fn all_together<'v, A: Elem, B: Elem, C: Elem, D: Elem>(
+    axis: usize,
+    a: &View<'v, A>,
+    b: &View<'v, B>,
+    c: &View<'v, C>,
+    d: &View<'v, D>,
+) -> bool
+    ensures { result ≡ (together a.now axis && together b.now axis) && (together c.now axis && together d.now axis) }
+{
+    let first = a.lies_together(axis) && b.lies_together(axis);
+    let last = c.lies_together(axis) && d.lies_together(axis);
+    first && last
+}
+
+// The first axis from which on the cells of all of the views lie side by side.
+fn merged<'v, A: Elem, B: Elem, C: Elem, D: Elem>(
+    rank: usize,
+    a: &View<'v, A>,
+    b: &View<'v, B>,
+    c: &View<'v, C>,
+    d: &View<'v, D>,
+) -> usize
+    requires { (length a.now.shape ≡ rank) × (length b.now.shape ≡ rank) × (length c.now.shape ≡ rank) × (length d.now.shape ≡ rank) }
+    ensures within { result ≤ rank }
+    ensures first { (together a.now result ≡ true) × (together b.now result ≡ true) }
+    ensures last { (together c.now result ≡ true) × (together d.now result ≡ true) }
+{
+    for axis in 0..rank {
+        if all_together(axis, a, b, c, d) {
+            return axis;
+        }
+    }
+    rank
+}
+
+// Writes a run of the window's cells, which begins at a place in row order.
+fn zip_lead<
+    'v,
+    A: Elem + Drop,
+    B: Elem + Drop,
+    C: Elem + Drop,
+    D: Elem + Drop,
+    T: Elem + Drop,
+    F: Fn(A, B, C, D) -> T,
+>(
+    f: &F,
+    a: &View<'v, A>,
+    b: &View<'v, B>,
+    c: &View<'v, C>,
+    d: &View<'v, D>,
+    lead: &Shape,
+    all: &mut [T],
+    at: usize,
+)
+    requires callable { F.IsAlwaysCallable f.now }
+    requires shapes { (b.now.shape ≡ a.now.shape) × (c.now.shape ≡ a.now.shape) × (d.now.shape ≡ a.now.shape) }
+    requires lead { IsPoint (take (length lead.now) a.now.shape) lead.now }
+    requires first { (together a.now (length lead.now) ≡ true) × (together b.now (length lead.now) ≡ true) }
+    requires last { (together c.now (length lead.now) ≡ true) × (together d.now (length lead.now) ≡ true) }
+    requires room { at + size (drop (length lead.now) a.now.shape) ≤ length all.old }
+    ensures cells { (q : List ℕ) → IsPoint (drop (length lead.now) a.now.shape) q → Zips (F.post f.now) (shown a.now (lead.now ++ q)) (shown b.now (lead.now ++ q)) (shown c.now (lead.now ++ q)) (shown d.now (lead.now ++ q)) (get_or (map Some all.new) (at + place (drop (length lead.now) a.now.shape) q) None) }
+    ensures others { (k : ℕ) (z : T) → (k < at) ⊎ (at + size (drop (length lead.now) a.now.shape) ≤ k) → get_or all.new k z ≡ get_or all.old k z }
+{
+    zip_run(
+        f,
+        a.run(lead),
+        b.run(lead),
+        c.run(lead),
+        d.run(lead),
+        all,
+        at,
+    );
+}
+
+// Writes all runs of a window of a whole block.
+fn zip_rows<
+    'v,
+    A: Elem + Drop,
+    B: Elem + Drop,
+    C: Elem + Drop,
+    D: Elem + Drop,
+    T: Elem + Drop,
+    F: Fn(A, B, C, D) -> T,
+>(
+    f: &F,
+    a: &View<'v, A>,
+    b: &View<'v, B>,
+    c: &View<'v, C>,
+    d: &View<'v, D>,
+    axis: usize,
+    all: &mut [T],
+)
+    requires callable { F.IsAlwaysCallable f.now }
+    requires shapes { (b.now.shape ≡ a.now.shape) × (c.now.shape ≡ a.now.shape) × (d.now.shape ≡ a.now.shape) }
+    requires axis { (axis ≤ length a.now.shape) × (length a.now.shape ≤ 16) }
+    requires first { (together a.now axis ≡ true) × (together b.now axis ≡ true) }
+    requires last { (together c.now axis ≡ true) × (together d.now axis ≡ true) }
+    requires room { (length all.old ≡ size a.now.shape) × (length all.old < 2 ^ 63) }
+    ensures { (p : List ℕ) → IsPoint a.now.shape p → Zips (F.post f.now) (shown a.now p) (shown b.now p) (shown c.now p) (shown d.now p) (stored a.now.shape all.new p) }
+{
+    let (outer, inner) = a.shape().as_slice().split_at(axis);
+    let count = points(inner) as usize;
+    if count == 0 {
+        return;
+    }
+    let rows = points(outer);
+    for row in 0..rows {
+        let lead = point_of(outer, row);
+        zip_lead(f, a, b, c, d, &lead, all, row as usize * count);
+    }
+}
+
+fn zip_vec<
+    'v,
+    A: Elem + Drop,
+    B: Elem + Drop,
+    C: Elem + Drop,
+    D: Elem + Drop,
+    T: Elem + Drop,
+    F: Fn(A, B, C, D) -> T,
+>(
+    f: &F,
+    a: &View<'v, A>,
+    b: &View<'v, B>,
+    c: &View<'v, C>,
+    d: &View<'v, D>,
+    axis: usize,
+    all: &mut Vec<T>,
+)
+    requires callable { F.IsAlwaysCallable f.now }
+    requires shapes { (b.now.shape ≡ a.now.shape) × (c.now.shape ≡ a.now.shape) × (d.now.shape ≡ a.now.shape) }
+    requires axis { (axis ≤ length a.now.shape) × (length a.now.shape ≤ 16) }
+    requires first { (together a.now axis ≡ true) × (together b.now axis ≡ true) }
+    requires last { (together c.now axis ≡ true) × (together d.now axis ≡ true) }
+    requires room { (length all.old.items ≡ size a.now.shape) × (length all.old.items < 2 ^ 63) }
+    ensures long { length all.new.items ≡ length all.old.items }
+    ensures cells { (p : List ℕ) → IsPoint a.now.shape p → Zips (F.post f.now) (shown a.now p) (shown b.now p) (shown c.now p) (shown d.now p) (stored a.now.shape all.new.items p) }
+{
+    zip_rows(f, a, b, c, d, axis, all.as_mut_slice());
+}
+
+/// Writes what a function gives of the cells of four views at each point of a window.
+pub fn zip_cells<
+    'v,
+    A: Elem + Drop,
+    B: Elem + Drop,
+    C: Elem + Drop,
+    D: Elem + Drop,
+    T: Elem + Drop,
+    F: Fn(A, B, C, D) -> T + Drop,
+>(f: F, a: &View<'v, A>, b: &View<'v, B>, c: &View<'v, C>, d: &View<'v, D>, out: &mut Win<T>)
+    requires callable { F.IsAlwaysCallable f }
+    requires first { (a.now.shape ≡ out.old.shape) × (b.now.shape ≡ out.old.shape) }
+    requires last { (c.now.shape ≡ out.old.shape) × (d.now.shape ≡ out.old.shape) }
+    ensures place { Cut out.old out.new out.old.low out.old.shape }
+    ensures cells { (p : List ℕ) → IsPoint out.old.shape p → Zips (F.post f) (shown a.now p) (shown b.now p) (shown c.now p) (shown d.now p) (cell_at out.new p) }
+    ensures others { KeptOutside out.old out.new }
+{
+    let axis = merged(a.shape().len(), a, b, c, d);
+    zip_vec(&f, a, b, c, d, axis, &mut out.cells);
+}
