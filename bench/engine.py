@@ -7,14 +7,9 @@ PROGRAM is the proved `engine_times`; each job is run N times (seven by default)
 counts, for the peer as for ours. A ratio above 1 says that the engine is that many times faster. Peers that aren't
 installed are left out, and the output says so. Debian has them as python3-numpy and python3-pandas.
 """
-import argparse
-import os
-import platform
 import subprocess
-import sys
 
-HERE = os.path.dirname(os.path.abspath(__file__))
-PYTHON = "/usr/bin/python3" if os.path.exists("/usr/bin/python3") else sys.executable
+from setting import PYTHON, begin
 
 CELLS = "a = ((np.arange(n, dtype='i8') * 31) % 1009 - 504).astype('i4')"
 MASKED = CELLS + "\na = np.ma.MaskedArray(a, mask=np.arange(n) % 7 == 0)"
@@ -61,18 +56,12 @@ def peer(packages, before, code, n, times):
 
 
 def main():
-    options = argparse.ArgumentParser()
-    options.add_argument("program", nargs="?", default=os.path.join(HERE, "..", "crates", "engine_times", "out", "engine_times"))
-    options.add_argument("--times", type=int, default=7)
-    given = options.parse_args()
-    with open("/proc/cpuinfo") as f:
-        model = next((line.split(":", 1)[1].strip() for line in f if line.startswith("model name")), platform.machine())
-    print(f"{model}, {os.cpu_count()} processors")
+    program, times = begin("engine_times", 7)
     for job, packages, before, code in JOBS:
         for n in SIZES.get(job, [1 << 22, 1 << 25]):
-            ran = subprocess.run([given.program, job, str(n), str(given.times)], capture_output=True, text=True, check=True)
+            ran = subprocess.run([program, job, str(n), str(times)], capture_output=True, text=True, check=True)
             ours = int(ran.stdout.split()[0]) / 1e9
-            theirs = peer(packages, before, code, n, given.times)
+            theirs = peer(packages, before, code, n, times)
             line = f"{job}, {n} cells: {ours * 1000:.2f} ms"
             print(line + (f"; {packages} {theirs * 1000:.2f} ms, ratio {theirs / ours:.2f}" if theirs else f"; skipped, {packages} isn't installed"))
 

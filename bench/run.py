@@ -8,16 +8,13 @@ measured inside Python, after its imports; `whole` is the whole process. A ratio
 many times faster than the peer. Peers that aren't installed are left out, and the output says so.
 Debian has them as python3-numpy and python3-xarray.
 """
-import argparse
 import os
-import platform
 import subprocess
 import sys
 import tempfile
 import time
 
-HERE = os.path.dirname(os.path.abspath(__file__))
-PYTHON = "/usr/bin/python3" if os.path.exists("/usr/bin/python3") else sys.executable
+from setting import PYTHON, begin
 
 
 def padded_name(name):
@@ -109,15 +106,9 @@ def measure(job, program, times):
 
 
 def main():
-    options = argparse.ArgumentParser()
-    options.add_argument("program", nargs="?", default=os.path.join(HERE, "..", "crates", "xrs", "out", "xrs"))
-    options.add_argument("--times", type=int, default=5)
-    given = options.parse_args()
-    with open("/proc/cpuinfo") as f:
-        model = next((line.split(":", 1)[1].strip() for line in f if line.startswith("model name")), platform.machine())
-    print(f"{model}, {os.cpu_count()} processors")
+    program, times = begin("xrs", 5)
     for job in JOBS:
-        measure(job, os.path.abspath(given.program), given.times)
+        measure(job, program, times)
 
 
 main()
