@@ -45,3 +45,36 @@ IsPlain ops.Multiply = ⊤
 IsPlain ops.FloorDivide = ⊤
 IsPlain ops.Remainder = ⊤
 IsPlain op = IsComparison op
+
+-- operations of two operands on cells of one kind that give a cell of that kind: `+ - * // % & | ^` and `fillna`
+abbrev pub IsBinary : OpKind → Type 0
+IsBinary ops.And = ⊤
+IsBinary ops.Or = ⊤
+IsBinary ops.Xor = ⊤
+IsBinary ops.FillNa = ⊤
+IsBinary op = IsArithmetic op
+
+-- operations on two numbers that give a number of their kind: `+ - * // % & | ^`
+abbrev pub IsNumeric : OpKind → Type 0
+IsNumeric ops.And = ⊤
+IsNumeric ops.Or = ⊤
+IsNumeric ops.Xor = ⊤
+IsNumeric op = IsArithmetic op
+
+-- unary `-` and `~`
+abbrev pub IsSign : OpKind → Type 0
+IsSign ops.Negate = ⊤
+IsSign ops.Invert = ⊤
+IsSign op = ⊥
+
+-- `isnull` and `notnull`
+abbrev pub IsNullTest : OpKind → Type 0
+IsNullTest ops.IsNull = ⊤
+IsNullTest ops.NotNull = ⊤
+IsNullTest op = ⊥
+
+-- operations of one operand other than a cast
+abbrev pub IsUnary : OpKind → Type 0
+IsUnary ops.IsNull = ⊤
+IsUnary ops.NotNull = ⊤
+IsUnary op = IsSign op

@@ -1,4 +1,5 @@
 pub mod Conditions
 pub mod Masks
+pub mod Numbers
 pub mod Pairs
 pub mod Truths

@@ -7,7 +7,7 @@ ghost use Rattle.xr_defs.specs.Elements.{elem, floor_quotient, bitwise, cast_to}
 ghost use Rattle.xr_defs.specs.declared.operation.OpKind.TheVariants as ops;
 ghost use Rattle.elem_kernel.specs.Conditions.{IsArithmetic, IsBitwise, IsComparison, IsOnIntegers, IsPlain};
 
-use crate::number::{floor, rest};
+use crate::division::{floor, rest};
 use xr_defs::OpKind;
 use xr_types::{DType, wrap};
 

@@ -1,16 +1,24 @@
-//! The element operations on whole views: each cell of a window is the operation on the cells at its point.
+//! The element operations on whole views: each cell of a window is the operation on the cells at its point. None of the calls takes memory.
 #![tactic(auto)]
 
 mod arithmetic;
+mod bits;
 mod calls;
+mod casts;
 mod cell;
 mod comparisons;
+mod division;
 mod masks;
+mod nulls;
 mod number;
+mod numbers;
 mod pairs;
+mod picks;
+mod signs;
 #[cfg(test)]
 mod tests;
 mod truths;
+mod typed;
 
-pub use calls::{compare, fill};
+pub use calls::{binary, cast, choose, compare, fill, unary};
 pub use cell::one_cell;

@@ -1,9 +1,10 @@
-//! The operations on the numbers of two cells.
-ghost use Rattle.std.specs.Prelude.{◌≡◌, ◌≢◌, ◌≤ℤ◌, ◌-ℤ◌, ◌*ℤ◌, pos, negsuc, Some};
-ghost use Rattle.xr_defs.specs.Elements.{floor_quotient, elem};
-ghost use Rattle.xr_defs.specs.declared.operation.OpKind.TheVariants.{Add, Subtract, Multiply, Equal, NotEqual, Less, LessEqual};
+//! The operations on the numbers of cells.
+ghost use Rattle.std.specs.Prelude.{◌≡◌, Some, None};
+ghost use Rattle.xr_defs.specs.Elements.{elem};
+ghost use Rattle.xr_defs.specs.declared.operation.OpKind.TheVariants.{Add, Subtract, Multiply, FloorDivide, Remainder, Negate, Invert, Equal, NotEqual, Less, LessEqual};
 ghost use Rattle.strided_block.specs.Typed.{truth};
 
+use crate::division::{floor_or_zero, opposite, rest_or_zero, turned};
 use xr_types::Elem;
 
 /// The sum, as the kind leaves it.
@@ -30,18 +31,36 @@ pub(crate) fn product<T: Elem>(x: T, y: T) -> T
     T::wrap_from(x.widen() * y.widen())
 }
 
-/// The greatest whole number that isn't above x / y.
-pub(crate) fn floor(x: i128, y: i128) -> i128
-    requires from { (negsuc 9223372036854775807 ≤ℤ x) × (x ≤ℤ pos 9223372036854775807) }
-    requires divisor { (negsuc 9223372036854775807 ≤ℤ y) × (y ≤ℤ pos 9223372036854775807) }
-    requires some { y ≢ pos 0 }
-    ensures { result ≡ floor_quotient x y }
+/// The quotient rounded down, as the kind leaves it, and 0 for a divisor of 0.
+#[tactic(auto, using(crate::proofs::Bounds::kind_bounds))]
+pub(crate) fn quotient<T: Elem>(x: T, y: T) -> T
+    ensures { Some (T.number result) ≡ elem FloorDivide T.kind (Some (T.number x)) (Some (T.number y)) }
 {
-    if y > 0 {
-        x.div_euclid(y)
-    } else {
-        (-x).div_euclid(-y)
-    }
+    T::wrap_from(floor_or_zero(x.widen(), y.widen()))
+}
+
+/// What is left by whole multiples of the divisor, and 0 for a divisor of 0.
+#[tactic(auto, using(crate::proofs::Bounds::kind_bounds))]
+pub(crate) fn remainder<T: Elem>(x: T, y: T) -> T
+    ensures { Some (T.number result) ≡ elem Remainder T.kind (Some (T.number x)) (Some (T.number y)) }
+{
+    T::wrap_from(rest_or_zero(x.widen(), y.widen()))
+}
+
+/// The negated number, as the kind leaves it.
+#[tactic(auto, using(crate::proofs::Bounds::kind_bounds))]
+pub(crate) fn negation<T: Elem>(x: T) -> T
+    ensures { Some (T.number result) ≡ elem Negate T.kind (Some (T.number x)) None }
+{
+    T::wrap_from(opposite(x.widen()))
+}
+
+/// The number with all bits turned.
+#[tactic(auto, using(crate::proofs::Bounds::kind_bounds))]
+pub(crate) fn inversion<T: Elem>(x: T) -> T
+    ensures { Some (T.number result) ≡ elem Invert T.kind (Some (T.number x)) None }
+{
+    T::wrap_from(turned(x.widen()))
 }
 
 /// Whether the cells hold one number, as a truth value.
@@ -70,19 +89,4 @@ pub(crate) fn at_most<T: Elem>(x: T, y: T) -> u8
     ensures { Some (truth result) ≡ elem LessEqual T.kind (Some (T.number x)) (Some (T.number y)) }
 {
     u8::from(x.widen() <= y.widen())
-}
-
-/// What is left of x by whole multiples of y, with the sign of y.
-#[tactic(auto, using(crate::proofs::Bounds::floor_rest))]
-pub(crate) fn rest(x: i128, y: i128) -> i128
-    requires from { (negsuc 9223372036854775807 ≤ℤ x) × (x ≤ℤ pos 9223372036854775807) }
-    requires divisor { (negsuc 9223372036854775807 ≤ℤ y) × (y ≤ℤ pos 9223372036854775807) }
-    requires some { y ≢ pos 0 }
-    ensures { result ≡ x -ℤ y *ℤ floor_quotient x y }
-{
-    if y > 0 {
-        x.rem_euclid(y)
-    } else {
-        -(-x).rem_euclid(-y)
-    }
 }

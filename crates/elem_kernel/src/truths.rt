@@ -1,16 +1,16 @@
-//! `== != < <= > >=` of truth values.
-ghost use Rattle.std.specs.Prelude.{◌≡◌, ℕ, List, Some};
+//! Operations on truth values: `== != < <= > >=`, `& | ^` and `~`.
+ghost use Rattle.std.specs.Prelude.{◌≡◌, ℕ, List, Some, None};
 ghost use Rattle.xr_defs.specs.Points.{IsPoint};
 ghost use Rattle.xr_defs.specs.Elements.{elem};
-ghost use Rattle.xr_defs.specs.declared.operation.OpKind.TheVariants.{Equal, NotEqual, Less, LessEqual};
+ghost use Rattle.xr_defs.specs.declared.operation.OpKind.TheVariants.{Equal, NotEqual, Less, LessEqual, And, Or, Xor, Invert};
 ghost use Rattle.xr_types.specs.declared.kind.DType.TheVariants.{Bool};
 ghost use Rattle.strided_block.specs.Views.{Cut, KeptOutside, shown, cell_at};
 ghost use Rattle.strided_block.specs.Typed.{truth};
-ghost use Rattle.elem_kernel.specs.Conditions.{IsComparison};
-ghost use Rattle.elem_kernel.specs.Pairs.{Pairs};
+ghost use Rattle.elem_kernel.specs.Conditions.{IsBitwise, IsComparison};
+ghost use Rattle.elem_kernel.specs.Pairs.{Maps, Pairs};
 
 use crate::number::{at_most, differs, equal, less};
-use crate::pairs::zip_pairs;
+use crate::pairs::{map_cells, zip_pairs};
 use strided_block::{View, Win};
 use xr_defs::OpKind;
 
@@ -95,4 +95,57 @@ pub(crate) fn compare_truths<'v>(op: OpKind, a: &View<'v, u8>, b: &View<'v, u8>,
         OpKind::GreaterEqual => at_mosts(b, a, out),
         _ => unreachable!(),
     }
+}
+
+/// Writes what `& | ^` gives of the truth values of two views.
+pub(crate) fn combine_truths<'v>(op: OpKind, a: &View<'v, u8>, b: &View<'v, u8>, out: &mut Win<u8>)
+    requires op { IsBitwise op }
+    requires shapes { (a.now.shape ≡ out.old.shape) × (b.now.shape ≡ out.old.shape) }
+    ensures place { Cut out.old out.new out.old.low out.old.shape }
+    ensures cells { (p : List ℕ) → IsPoint out.old.shape p → Pairs (λ x y z. Some (truth z) ≡ elem op Bool (Some (truth x)) (Some (truth y))) (shown a.now p) (shown b.now p) (cell_at out.new p) }
+    ensures others { KeptOutside out.old out.new }
+{
+    match op {
+        OpKind::And => zip_pairs(
+            |x: u8, y: u8| -> u8
+                ensures { Some (truth result) ≡ elem And Bool (Some (truth x)) (Some (truth y)) }
+            { u8::from(x != 0) & u8::from(y != 0) },
+            a,
+            b,
+            out,
+        ),
+        OpKind::Or => zip_pairs(
+            |x: u8, y: u8| -> u8
+                ensures { Some (truth result) ≡ elem Or Bool (Some (truth x)) (Some (truth y)) }
+            { u8::from(x != 0) | u8::from(y != 0) },
+            a,
+            b,
+            out,
+        ),
+        OpKind::Xor => zip_pairs(
+            |x: u8, y: u8| -> u8
+                ensures { Some (truth result) ≡ elem Xor Bool (Some (truth x)) (Some (truth y)) }
+            { u8::from(x != 0) ^ u8::from(y != 0) },
+            a,
+            b,
+            out,
+        ),
+        _ => unreachable!(),
+    }
+}
+
+/// Writes the opposite truth values.
+pub(crate) fn invert_truths<'v>(a: &View<'v, u8>, out: &mut Win<u8>)
+    requires { a.now.shape ≡ out.old.shape }
+    ensures place { Cut out.old out.new out.old.low out.old.shape }
+    ensures cells { (p : List ℕ) → IsPoint out.old.shape p → Maps (λ x z. Some (truth z) ≡ elem Invert Bool (Some (truth x)) None) (shown a.now p) (cell_at out.new p) }
+    ensures others { KeptOutside out.old out.new }
+{
+    map_cells(
+        |x: u8| -> u8
+            ensures { Some (truth result) ≡ elem Invert Bool (Some (truth x)) None }
+        { u8::from(x == 0) },
+        a,
+        out,
+    );
 }

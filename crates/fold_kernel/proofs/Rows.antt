@@ -2,7 +2,7 @@
 use Rattle.std.proofs.Common.{◌≡◌, ◌==◌, ◌≢◌, ◌<◌, ◌+◌, ℕ, ℤ, suc, zero, min, Bool, true, false, List, [], ◌∷◌, map, length, get_or, Option, Some, None, option_map, if◌then◌else◌, arith, ap, refl, sym, ◌∙◌}
 use Rattle.std.proofs.Math.Dec.{eqb-suc-zero}
 use Rattle.xr_defs.specs.Arrays.{hidden}
-use Rattle.fold_kernel.specs.Rows.{shown, placed}
+use Rattle.fold_kernel.specs.Rows.{shown, filled, placed}
 
 pub length_shown : {T : Type 0} (xs : List T) (mask : List ℕ) → length (shown xs mask) ≡ min (length xs) (length mask)
 length_shown [] mask = omega arith
@@ -45,3 +45,36 @@ pub masked_run : {T : Type 0} (number : T → ℤ) (xs : List T) (mask : List �
 masked_run number [] mask = refl
 masked_run number (x ∷ xs) [] = refl
 masked_run number (x ∷ xs) (m ∷ mask) = cons_both _ _ _ _ (number_if number (m == 0) x) (masked_run number xs mask)
+
+-- ---- runs with another cell in the place of each missing one
+
+pub length_filled : {T : Type 0} (o : T) (items : List (Option T)) → length (filled o items) ≡ length items
+length_filled o [] = refl
+length_filled o (None ∷ items) = ap suc (length_filled o items)
+length_filled o (Some x ∷ items) = ap suc (length_filled o items)
+
+pub filled_again : {T : Type 0} (p o : T) (items : List (Option T)) → filled p (filled o items) ≡ filled o items
+filled_again p o [] = refl
+filled_again p o (None ∷ items) = ap (λ c. Some o ∷ c) (filled_again p o items)
+filled_again p o (Some x ∷ items) = ap (λ c. Some x ∷ c) (filled_again p o items)
+
+pub filled_there : {T : Type 0} (o : T) (xs : List T) (mask : List ℕ) (i : ℕ) (e : T) (n : ℕ) → i < length (shown xs mask) → get_or mask i n ≡ 0 → Some (get_or xs i e) ≡ get_or (filled o (shown xs mask)) i (Some (get_or xs i e))
+filled_there o [] mask i e n h z = absurd (omega arith)
+filled_there o (x ∷ xs) [] i e n h z = absurd (omega arith)
+filled_there o (x ∷ xs) (zero ∷ mask) zero e n h z = refl
+filled_there o (x ∷ xs) (suc m ∷ mask) zero e n h z = absurd (omega arith)
+filled_there o (x ∷ xs) (zero ∷ mask) (suc i) e n h z = filled_there o xs mask i e n (omega arith) z
+filled_there o (x ∷ xs) (suc m ∷ mask) (suc i) e n h z = let b : (suc m == 0) ≡ false = eqb-suc-zero m in rw b (filled_there o xs mask i e n (omega arith) z)
+
+pub filled_missing : {T : Type 0} (o : T) (xs : List T) (mask : List ℕ) (i : ℕ) → i < length (shown xs mask) → get_or mask i 0 ≢ 0 → Some o ≡ get_or (filled o (shown xs mask)) i (Some o)
+filled_missing o [] mask i h z = absurd (omega arith)
+filled_missing o (x ∷ xs) [] i h z = absurd (omega arith)
+filled_missing o (x ∷ xs) (zero ∷ mask) zero h z = absurd (z refl)
+filled_missing o (x ∷ xs) (suc m ∷ mask) zero h z = let b : (suc m == 0) ≡ false = eqb-suc-zero m in rw b refl
+filled_missing o (x ∷ xs) (zero ∷ mask) (suc i) h z = filled_missing o xs mask i (omega arith) z
+filled_missing o (x ∷ xs) (suc m ∷ mask) (suc i) h z = let b : (suc m == 0) ≡ false = eqb-suc-zero m in rw b (filled_missing o xs mask i (omega arith) z)
+
+pub whole_there : {T : Type 0} (o : T) (xs : List T) (i : ℕ) (e : T) → i < length (map Some xs) → Some (get_or xs i e) ≡ get_or (filled o (map Some xs)) i (Some (get_or xs i e))
+whole_there o [] i e h = absurd (omega arith)
+whole_there o (x ∷ xs) zero e h = refl
+whole_there o (x ∷ xs) (suc i) e h = whole_there o xs i e (omega arith)

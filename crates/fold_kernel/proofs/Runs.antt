@@ -12,7 +12,7 @@ use Rattle.fold_kernel.specs.declared.gather.AnyNonzero.{AnyNonzero}
 use Rattle.fold_kernel.specs.declared.gather.AllNonzero.{AllNonzero}
 use Rattle.fold_kernel.specs.declared.gather.Least.{Least}
 use Rattle.fold_kernel.specs.declared.gather.Greatest.{Greatest}
-use Rattle.fold_kernel.specs.Rows.{placed, gathered, first_shown}
+use Rattle.fold_kernel.specs.Rows.{placed, gathered, filled, first_shown}
 
 wrapped_zero : pos 0 ≡ int_wrap w64 (pos 0)
 unfolding int_wrap
@@ -143,6 +143,29 @@ least_is number first a (Some x ∷ items) e =
     let again : int_min (number x) (number x) ≡ number x = omega (arith, ints, clamps) in
     rw is (least_from number first (record { 0 = x }) (Some x ∷ items) ∙ min_assoc (Some (number x)) (Some (number x)) rest ∙ ap (λ v. of_both int_min (Some v) rest) again)
 
+least_again : {T : Type 0} (number : T → ℤ) (s : Least T) (o : T) → int_min (number s.0) (number o) ≡ number s.0 → number (least_cell number s o).0 ≡ number s.0
+least_again number s o e = lesser number s o ∙ e
+
+least_filled_from : {T : Type 0} (number : T → ℤ) (first : ℕ) (s : Least T) (o : T) (items : List (Option T)) → int_min (number s.0) (number o) ≡ number s.0
+    → Some (number (gathered (least_cell number) s (filled o items)).0) ≡ of_both int_min (Some (number s.0)) (least (numbers (present (placed number first items))))
+least_filled_from number first s o [] e = refl
+least_filled_from number first s o (None ∷ items) e =
+    let same = least_again number s o e in let bound : int_min (number (least_cell number s o).0) (number o) ≡ number (least_cell number s o).0 = rw same e in
+    least_filled_from number (first + 1) (least_cell number s o) o items bound ∙ ap (λ v. of_both int_min (Some v) (least (numbers (present (placed number (first + 1) items))))) same
+least_filled_from number first s o (Some x ∷ items) e =
+    let rest = least (numbers (present (placed number (first + 1) items))) in
+    let now = lesser number s x in
+    let bound : int_min (number (least_cell number s x).0) (number o) ≡ number (least_cell number s x).0 = rw now (omega (arith, ints, clamps, e)) in
+    least_filled_from number (first + 1) (least_cell number s x) o items bound
+    ∙ ap (λ v. of_both int_min (Some v) rest) now
+    ∙ sym (min_assoc (Some (number s.0)) (Some (number x)) rest)
+
+-- the same where the first present cell stands in the place of each missing one
+pub least_filled : {T : Type 0} (number : T → ℤ) (first : ℕ) (a : T) (items : List (Option T)) → Some a ≡ first_shown items → Some (number (gathered (least_cell number) (record { 0 = a }) (filled a items)).0) ≡ least (numbers (present (placed number first items)))
+least_filled number first a items e =
+    let again : int_min (number a) (number a) ≡ number a = omega (arith, ints, clamps) in
+    least_filled_from number first (record { 0 = a }) a items again ∙ sym (least_from number first (record { 0 = a }) items) ∙ least_is number first a items e
+
 pub no_least : {T : Type 0} (number : T → ℤ) (first : ℕ) (items : List (Option T)) → None ≡ first_shown items → None ≡ least (numbers (present (placed number first items)))
 no_least number first [] e = refl
 no_least number first (None ∷ items) e = no_least number (first + 1) items e
@@ -176,6 +199,29 @@ greatest_is number first a (Some x ∷ items) e =
     let rest = greatest (numbers (present (placed number (first + 1) items))) in
     let again : int_max (number x) (number x) ≡ number x = omega (arith, ints, clamps) in
     rw is (greatest_from number first (record { 0 = x }) (Some x ∷ items) ∙ max_assoc (Some (number x)) (Some (number x)) rest ∙ ap (λ v. of_both int_max (Some v) rest) again)
+
+greatest_again : {T : Type 0} (number : T → ℤ) (s : Greatest T) (o : T) → int_max (number s.0) (number o) ≡ number s.0 → number (greatest_cell number s o).0 ≡ number s.0
+greatest_again number s o e = greater number s o ∙ e
+
+greatest_filled_from : {T : Type 0} (number : T → ℤ) (first : ℕ) (s : Greatest T) (o : T) (items : List (Option T)) → int_max (number s.0) (number o) ≡ number s.0
+    → Some (number (gathered (greatest_cell number) s (filled o items)).0) ≡ of_both int_max (Some (number s.0)) (greatest (numbers (present (placed number first items))))
+greatest_filled_from number first s o [] e = refl
+greatest_filled_from number first s o (None ∷ items) e =
+    let same = greatest_again number s o e in let bound : int_max (number (greatest_cell number s o).0) (number o) ≡ number (greatest_cell number s o).0 = rw same e in
+    greatest_filled_from number (first + 1) (greatest_cell number s o) o items bound ∙ ap (λ v. of_both int_max (Some v) (greatest (numbers (present (placed number (first + 1) items))))) same
+greatest_filled_from number first s o (Some x ∷ items) e =
+    let rest = greatest (numbers (present (placed number (first + 1) items))) in
+    let now = greater number s x in
+    let bound : int_max (number (greatest_cell number s x).0) (number o) ≡ number (greatest_cell number s x).0 = rw now (omega (arith, ints, clamps, e)) in
+    greatest_filled_from number (first + 1) (greatest_cell number s x) o items bound
+    ∙ ap (λ v. of_both int_max (Some v) rest) now
+    ∙ sym (max_assoc (Some (number s.0)) (Some (number x)) rest)
+
+-- the same where the first present cell stands in the place of each missing one
+pub greatest_filled : {T : Type 0} (number : T → ℤ) (first : ℕ) (a : T) (items : List (Option T)) → Some a ≡ first_shown items → Some (number (gathered (greatest_cell number) (record { 0 = a }) (filled a items)).0) ≡ greatest (numbers (present (placed number first items)))
+greatest_filled number first a items e =
+    let again : int_max (number a) (number a) ≡ number a = omega (arith, ints, clamps) in
+    greatest_filled_from number first (record { 0 = a }) a items again ∙ sym (greatest_from number first (record { 0 = a }) items) ∙ greatest_is number first a items e
 
 pub no_greatest : {T : Type 0} (number : T → ℤ) (first : ℕ) (items : List (Option T)) → None ≡ first_shown items → None ≡ greatest (numbers (present (placed number first items)))
 no_greatest number first [] e = refl

@@ -17,6 +17,12 @@ gathered f a [] = a
 gathered f a (None ∷ cells) = gathered f a cells
 gathered f a (Some x ∷ cells) = gathered f (f a x) cells
 
+-- the cells of a run, with another cell in the place of each missing one
+abbrev pub filled : {T : Type 0} → T → List (Option T) → List (Option T)
+filled other [] = []
+filled other (None ∷ cells) = Some other ∷ filled other cells
+filled other (Some x ∷ cells) = Some x ∷ filled other cells
+
 -- the first present cell
 abbrev pub first_shown : {T : Type 0} → List (Option T) → Option T
 first_shown [] = None

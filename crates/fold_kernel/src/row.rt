@@ -1,6 +1,6 @@
 //! Runs of neighbouring cells, with a mask or without one.
 ghost use Rattle.std.specs.Prelude.{◌≡◌, ◌<◌, ℕ, List, Option, Some, map, length, get_or};
-ghost use Rattle.fold_kernel.specs.Rows.{shown};
+ghost use Rattle.fold_kernel.specs.Rows.{shown, filled};
 
 /// A run of cells, some of which may be missing.
 pub trait Row<T>: Copy + Drop {
@@ -13,6 +13,37 @@ pub trait Row<T>: Copy + Drop {
     fn get(self, index: usize) -> Option<T>
         requires { index < length (items self) }
         ensures { result ≡ get_or (items self) index result };
+
+    /// The cell, or another one where it is missing.
+    fn cell_or(self, index: usize, other: T) -> T
+        requires { index < length (items self) }
+        ensures { Some result ≡ get_or (filled other (items self)) index (Some result) };
+}
+
+/// A run with another cell in the place of each missing one, so that a loop over it has no branch.
+#[derive(Clone, Copy)]
+pub struct Filled<T, R> {
+    pub row: R,
+    pub other: T,
+}
+
+impl<T: Copy + Drop, R: Row<T>> Row<T> for Filled<T, R> {
+    ghost items = { λ r. filled r.other (R.items r.row) };
+
+    #[tactic(auto, using(crate::proofs::Rows::length_filled))]
+    fn len(self) -> usize {
+        self.row.len()
+    }
+
+    #[tactic(auto, using(crate::proofs::Rows::length_filled))]
+    fn get(self, index: usize) -> Option<T> {
+        Some(self.row.cell_or(index, self.other))
+    }
+
+    #[tactic(auto, using(crate::proofs::Rows::length_filled, crate::proofs::Rows::filled_again))]
+    fn cell_or(self, index: usize, _other: T) -> T {
+        self.row.cell_or(index, self.other)
+    }
 }
 
 /// A run without a mask.
@@ -30,6 +61,10 @@ impl<'a, T: Copy> Row<T> for Whole<'a, T> {
 
     fn get(self, index: usize) -> Option<T> {
         Some(self.cells[index])
+    }
+
+    fn cell_or(self, index: usize, _other: T) -> T {
+        self.cells[index]
     }
 }
 
@@ -55,5 +90,12 @@ impl<'a, T: Copy> Row<T> for Masked<'a, T> {
         } else {
             None
         }
+    }
+
+    // The cell is read first, so that no load hangs on the mask.
+    #[tactic(auto, using(crate::proofs::Rows::length_shown, crate::proofs::Rows::filled_there, crate::proofs::Rows::filled_missing))]
+    fn cell_or(self, index: usize, other: T) -> T {
+        let cell = self.cells[index];
+        if self.mask[index] == 0 { cell } else { other }
     }
 }

@@ -9,7 +9,7 @@ use crate::found::Found;
 use crate::gather::{
     AllNonzero, AnyNonzero, Greatest, Least, Product, Tally, Total, gather, truth,
 };
-use crate::row::Row;
+use crate::row::{Filled, Row};
 use xr_defs::FoldKind;
 use xr_types::Elem;
 
@@ -82,7 +82,7 @@ fn least_of<T: Elem, R: Row<T>>(row: R) -> Option<i128>
     ensures { (first : ℕ) → result ≡ least (numbers (present (placed T.number first (R.items row)))) }
 {
     match first_cell(row) {
-        Some(cell) => Some(gather(Least(cell), row).0.widen()),
+        Some(cell) => Some(gather(Least(cell), Filled { row, other: cell }).0.widen()),
         None => None,
     }
 }
@@ -91,7 +91,11 @@ fn greatest_of<T: Elem, R: Row<T>>(row: R) -> Option<i128>
     ensures { (first : ℕ) → result ≡ greatest (numbers (present (placed T.number first (R.items row)))) }
 {
     match first_cell(row) {
-        Some(cell) => Some(gather(Greatest(cell), row).0.widen()),
+        Some(cell) => Some(
+            gather(Greatest(cell), Filled { row, other: cell })
+                .0
+                .widen(),
+        ),
         None => None,
     }
 }

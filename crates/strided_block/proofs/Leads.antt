@@ -1,13 +1,13 @@
 -- The points that begin with a lead, and the run of their cells.
-use Rattle.std.proofs.Common.{◌≡◌, ◌<◌, ◌≤◌, ◌+◌, ◌*◌, ◌-◌, ℕ, zero, suc, min, List, [], ◌∷◌, ◌++◌, length, map, take, drop, get_or, ◌⊎◌, inl, inr, refl, sym, ap, subst, ◌∙◌, arith, length-take, add-one}
-use Rattle.std.specs.Prelude.{Bool, true, false, leb, ◌||◌, bytes_eq, Option, Some, None}
+use Rattle.std.proofs.Common.{◌≡◌, ◌<◌, ◌≤◌, ◌+◌, ◌*◌, ◌-◌, ℕ, zero, suc, min, List, [], ◌∷◌, ◌++◌, length, map, take, drop, get_or, inl, inr, refl, sym, ap, subst, ◌∙◌, arith, length-take}
+use Rattle.std.specs.Prelude.{Bool, true, leb, ◌||◌, bytes_eq, Some, None}
 use Rattle.std.proofs.lemmas.Bool.{cases_lt}
 use Rattle.std.proofs.lemmas.Slice.Eq.{bytes_eq-Decides}
 use Rattle.std.proofs.lemmas.List.{get_or-map, get_or-take, get_or-drop}
 use Rattle.xr_defs.specs.Points.{size, place, IsPoint}
 use Rattle.strided_block.specs.Boxes.{Fits, plus, zeros}
 use Rattle.strided_block.specs.Views.{Seen, shown, together, sight, IsClear}
-use Rattle.strided_block.proofs.Boxes.{point_long, plus_long, fits_long, plus_inside, place_below, plus-zeros, within}
+use Rattle.strided_block.proofs.Boxes.{point_long, fits_long, place_below, plus-zeros, within}
 
 pub lead_short : (ss ps : List ℕ) → IsPoint (take (length ps) ss) ps → length ps ≤ length ss
 lead_short ss ps i = let l = point_long (take (length ps) ss) ps i in omega (arith, length-take (length ps) ss)

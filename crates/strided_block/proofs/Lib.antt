@@ -2,6 +2,7 @@ pub mod Boxes
 pub mod CellLaws
 pub mod Leads
 pub mod Places
+pub mod Puts
 pub mod Rows
 pub mod Sights
 pub mod Splits

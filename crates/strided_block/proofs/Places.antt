@@ -1,7 +1,7 @@
 -- Products that stop at a bound, and places counted axis by axis.
-use Rattle.std.proofs.Common.{◌≡◌, ◌<◌, ◌≤◌, ◌+◌, ◌*◌, ◌^◌, ℕ, zero, suc, min, List, [], ◌∷◌, length, take, drop, get_or, ◌⊎◌, inl, inr, refl, sym, ap, ◌∙◌, arith, drop-cons, add-one}
+use Rattle.std.proofs.Common.{◌≡◌, ◌<◌, ◌≤◌, ◌+◌, ◌*◌, ℕ, zero, suc, min, List, [], ◌∷◌, length, drop, get_or, ◌⊎◌, inl, inr, refl, sym, ap, ◌∙◌, arith}
 use Rattle.xr_defs.specs.Points.{size, place, IsPoint}
-use Rattle.strided_block.proofs.Boxes.{point_long, point_at, point_drop, place_below}
+use Rattle.strided_block.proofs.Boxes.{point_drop, place_below}
 
 below : (n s m : ℕ) → s ≤ m → min (n * min s m) m ≡ min (n * s) m
 below n s m le = let e : min s m ≡ s = omega arith in rw e refl

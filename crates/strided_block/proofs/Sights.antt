@@ -1,11 +1,11 @@
 -- What views and windows of a vector in row order show and hold.
-use Rattle.std.proofs.Common.{◌≡◌, ◌<◌, ◌≤◌, ◌+◌, ◌-◌, ◌*◌, ◌^◌, ℕ, zero, suc, List, [], ◌∷◌, ◌++◌, length, map, take, drop, get_or, refl, sym, ap, subst, ◌∙◌, arith}
-use Rattle.std.specs.Prelude.{Option, Some, None, slice_set}
-use Rattle.std.proofs.lemmas.List.{get_or-map, length-map}
-use Rattle.xr_defs.specs.Points.{size, place, IsPoint}
-use Rattle.strided_block.specs.Boxes.{Fits, plus, zeros, along, moved, IsRow}
-use Rattle.strided_block.specs.Views.{Seen, Window, shown, together, held, cell_at, sight, wide_window, IsClear, IsFull}
-use Rattle.strided_block.proofs.Boxes.{point_long, plus_long, fits_long, plus_inside, place_below, zeros_fit, zeros_long, plus-zeros}
+use Rattle.std.proofs.Common.{◌≡◌, ◌<◌, ◌≤◌, ◌+◌, ◌-◌, ℕ, zero, suc, List, [], ◌∷◌, length, map, get_or, sym, ap, subst, ◌∙◌, arith}
+use Rattle.std.specs.Prelude.{Some, None, slice_set}
+use Rattle.std.proofs.lemmas.List.{get_or-map}
+use Rattle.xr_defs.specs.Points.{place, IsPoint}
+use Rattle.strided_block.specs.Boxes.{Fits, plus, zeros, moved}
+use Rattle.strided_block.specs.Views.{Seen, shown, sight, IsClear, IsFull}
+use Rattle.strided_block.proofs.Boxes.{point_long, fits_long, plus_inside, place_below, zeros_fit}
 
 module _ {X : Type 0} (cells : List X) (whole low shape : List ℕ) (w : Seen X) (e : sight cells whole low shape ≡ w) (clear : IsClear cells whole low shape) (ps : List ℕ) (i : IsPoint w.shape ps) where
   now_point : IsPoint shape ps

@@ -4,7 +4,7 @@ use Rattle.std.proofs.lemmas.Nat.{div-add-mod', div_below, mod_below}
 use Rattle.std.proofs.Math.Nat.{mul_comm}
 use Rattle.xr_defs.specs.Points.{size, place, IsPoint}
 use Rattle.strided_block.specs.Zips.{point_at}
-use Rattle.strided_block.proofs.Boxes.{place_below, within, one_point}
+use Rattle.strided_block.proofs.Boxes.{within}
 
 pub lead_point : (ns p : List ℕ) (k : ℕ) → IsPoint ns p → IsPoint (take k ns) (take k p)
 lead_point ns p zero i = tt

@@ -1,5 +1,5 @@
 -- Boxes of points in a block, and points that are moved.
-use Rattle.std.specs.Prelude.{◌≡◌, ◌+◌, ◌<◌, ◌≤◌, ℕ, zero, suc, List, [], ◌∷◌, get_or, slice_set, ⊤}
+use Rattle.std.specs.Prelude.{◌+◌, ◌<◌, ◌≤◌, ℕ, zero, suc, List, [], ◌∷◌, get_or, slice_set, ⊤}
 use Rattle.xr_defs.specs.Points.{IsPoint}
 
 -- a box of the sizes ss that begins at ls lies in a block of the sizes ns

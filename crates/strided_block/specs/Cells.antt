@@ -1,10 +1,15 @@
--- What views and windows of cells with their mask show and hold: at each point a number or a missing cell.
+-- What blocks, views and windows of cells with their mask show and hold: at each point a number or a missing cell.
 use Rattle.std.specs.Prelude.{◌≡◌, ℕ, ℤ, List, Option}
 use Rattle.strided_block.specs.Boxes.{plus}
-use Rattle.strided_block.specs.Views.{shown, held}
-use Rattle.strided_block.specs.Typed.{unless_hidden, number_shown, number_held, win_kind, win_box}
+use Rattle.strided_block.specs.Views.{shown, kept, held}
+use Rattle.strided_block.specs.Typed.{unless_hidden, number_shown, number_kept, number_held, win_kind, win_box}
+use Rattle.strided_block.specs.declared.cells.CellBlock.{CellBlock}
 use Rattle.strided_block.specs.declared.cells.CellView.{CellView}
 use Rattle.strided_block.specs.declared.cells.CellWin.{CellWin}
+
+-- the cell that a block holds at a point
+abbrev pub cell_kept : CellBlock → List ℕ → Option ℤ
+cell_kept b p = unless_hidden (kept b.mask p) (number_kept b.cells p)
 
 -- the cell that a view shows at a point
 abbrev pub cell_shown : CellView → List ℕ → Option ℤ

@@ -1,8 +1,9 @@
 -- Blocks, views and windows of cells of one kind: their kind, their sizes, and the numbers at their points.
-use Rattle.std.specs.Prelude.{◌≡◌, ◌==◌, ℕ, ℤ, zero, suc, pos, List, map, Option, Some, None, option_map, if◌then◌else◌}
+use Rattle.std.specs.Prelude.{◌≡◌, ℕ, ℤ, zero, suc, pos, List, Option, Some, None, option_map}
 use Rattle.xr_types.specs.declared.kind.DType.{DType}
 use Rattle.xr_types.specs.declared.kind.DType.TheVariants as kinds
-use Rattle.strided_block.specs.Views.{Stored, Seen, Window, shown, held}
+use Rattle.strided_block.specs.Boxes.{zeros}
+use Rattle.strided_block.specs.Views.{Window, shown, kept, held}
 use Rattle.strided_block.specs.declared.typed.TypedBlock.{TypedBlock}
 use Rattle.strided_block.specs.declared.typed.TypedBlock.TheVariants as blocks
 use Rattle.strided_block.specs.declared.typed.TypedView.{TypedView}
@@ -20,6 +21,43 @@ abbrev pub unless_hidden : Option ℕ → Option ℤ → Option ℤ
 unless_hidden (Some zero) n = n
 unless_hidden (Some (suc b)) n = None
 unless_hidden None n = None
+
+-- the number of a cell, 0 for a missing one
+abbrev pub number_or_zero : Option ℤ → ℤ
+number_or_zero None = pos 0
+number_or_zero (Some n) = n
+
+-- the byte of a mask for a cell
+abbrev pub mask_byte : Option ℤ → ℕ
+mask_byte None = 1
+mask_byte (Some n) = 0
+
+-- ---- blocks
+
+abbrev pub block_kind : TypedBlock → DType
+block_kind (blocks.Bool b) = kinds.Bool
+block_kind (blocks.Char b) = kinds.Char
+block_kind (blocks.Int8 b) = kinds.Int8
+block_kind (blocks.Int16 b) = kinds.Int16
+block_kind (blocks.Int32 b) = kinds.Int32
+block_kind (blocks.Int64 b) = kinds.Int64
+
+abbrev pub block_shape : TypedBlock → List ℕ
+block_shape (blocks.Bool b) = b.shape
+block_shape (blocks.Char b) = b.shape
+block_shape (blocks.Int8 b) = b.shape
+block_shape (blocks.Int16 b) = b.shape
+block_shape (blocks.Int32 b) = b.shape
+block_shape (blocks.Int64 b) = b.shape
+
+-- the number that a block holds at a point
+abbrev pub number_kept : TypedBlock → List ℕ → Option ℤ
+number_kept (blocks.Bool b) p = option_map truth (kept b p)
+number_kept (blocks.Char b) p = option_map pos (kept b p)
+number_kept (blocks.Int8 b) p = kept b p
+number_kept (blocks.Int16 b) p = kept b p
+number_kept (blocks.Int32 b) p = kept b p
+number_kept (blocks.Int64 b) p = kept b p
 
 -- ---- views
 
@@ -66,6 +104,11 @@ pub record Box : Type 0 where
 
 abbrev pub box_of : {X : Type 0} → Window X → Box
 box_of w = record { whole = w.whole; low = w.low; shape = w.shape }
+
+-- the box is the whole block
+pub record IsWide (b : Box) : Type 0 where
+  pub low : b.low ≡ zeros b.whole
+  pub shape : b.shape ≡ b.whole
 
 abbrev pub win_box : TypedWin → Box
 win_box (windows.Bool w) = box_of w

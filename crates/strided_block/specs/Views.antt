@@ -31,6 +31,10 @@ module _ {X : Type 0} where
   abbrev pub together : Seen X → ℕ → Bool
   together v axis = leb (length v.shape) axis || bytes_eq (drop (axis + 1) v.shape) (drop (axis + 1) v.whole)
 
+  -- what a block holds at a point
+  abbrev pub kept : Stored X → List ℕ → Option X
+  kept b cs = get_or (map Some b.cells) (place b.shape cs) None
+
   -- what a window holds at a point of its block
   abbrev pub held : Window X → List ℕ → Option X
   held w cs = get_or w.slots (place w.whole cs) None

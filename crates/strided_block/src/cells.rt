@@ -1,13 +1,29 @@
-//! Cells of one kind with their mask: views and windows.
+//! Cells of one kind with their mask: blocks, views and windows.
 ghost use Rattle.std.specs.Prelude.{◌≡◌, false, ℕ, List, Some};
 ghost use Rattle.xr_defs.specs.Points.{IsPoint};
-ghost use Rattle.strided_block.specs.Views.{shown, cell_at};
-ghost use Rattle.strided_block.specs.Typed.{view_shape, win_box, box_of};
+ghost use Rattle.strided_block.specs.Views.{kept, shown, cell_at};
+ghost use Rattle.strided_block.specs.Typed.{block_shape, view_shape, win_box, box_of};
 
-use crate::typed::{TypedView, TypedWin};
+use crate::block::{Block, mask_of};
+use crate::row::some_missing;
+use crate::typed::{TypedBlock, TypedView, TypedWin};
 use crate::view::View;
 use crate::win::Win;
-use xr_types::{DType, Shape};
+use std::alloc::Global;
+use xr_types::{DType, NoMemory, Shape};
+
+/// A block of cells of one kind and of their mask, whose bytes are 0 where a cell is present.
+#[derive(Drop)]
+pub struct CellBlock {
+    pub cells: TypedBlock,
+    pub mask: Block<u8>,
+    /// Whether a byte of the mask may differ from 0.
+    pub masked: bool,
+    /// The cells and the mask have one shape.
+    pub ghost same_shape: { mask.shape ≡ block_shape cells },
+    /// Without the flag no cell is missing.
+    pub ghost clear: { masked ≡ false → (p : List ℕ) → IsPoint mask.shape p → kept mask p ≡ Some 0 },
+}
 
 /// A view of cells of one kind and of their mask, whose bytes are 0 where a cell is present.
 #[derive(Drop)]
@@ -32,6 +48,78 @@ pub struct CellWin {
     pub ghost same_box: { box_of mask ≡ win_box cells },
     /// Without the flag no cell is missing.
     pub ghost clear: { masked ≡ false → (p : List ℕ) → IsPoint mask.shape p → cell_at mask p ≡ Some 0 },
+}
+
+impl CellBlock {
+    ghost use Rattle.std.specs.Prelude.{◌≡◌, ℕ, pos, List, Option, Some, None, length, get_or, All, IfOk};
+    ghost use Rattle.xr_defs.specs.Arrays.{IsCell};
+    ghost use Rattle.xr_defs.specs.Points.{size, place, IsPoint};
+    ghost use Rattle.strided_block.specs.Typed.{block_kind, view_kind};
+    ghost use Rattle.strided_block.specs.Cells.{cell_kept, cell_shown};
+
+    /// A block whose cells hold 0.
+    pub fn zeroed(alloc: Global, kind: DType, shape: &Shape) -> Result<CellBlock, NoMemory>
+        ensures kind { IfOk result (λ b. block_kind b.cells ≡ kind) }
+        ensures shape { IfOk result (λ b. b.mask.shape ≡ shape.now) }
+        ensures cells { IfOk result (λ b. (p : List ℕ) → IsPoint shape.now p → cell_kept b p ≡ Some (pos 0)) }
+    {
+        let cells = TypedBlock::zeroed(alloc, kind, shape)?;
+        let mask = Block::zeroed(alloc, shape)?;
+        Ok(CellBlock {
+            cells,
+            mask,
+            masked: false,
+        })
+    }
+
+    /// A block of these cells, in row order.
+    pub fn from_slice(
+        alloc: Global,
+        kind: DType,
+        shape: &Shape,
+        cells: &[Option<i128>],
+    ) -> Result<CellBlock, NoMemory>
+        requires count { length cells.now ≡ size shape.now }
+        requires range { All (IsCell kind) cells.now }
+        ensures kind { IfOk result (λ b. block_kind b.cells ≡ kind) }
+        ensures shape { IfOk result (λ b. b.mask.shape ≡ shape.now) }
+        ensures cells { IfOk result (λ b. (p : List ℕ) → IsPoint shape.now p → cell_kept b p ≡ get_or cells.now (place shape.now p) None) }
+    {
+        let numbers = TypedBlock::from_slice(alloc, kind, shape, cells)?;
+        let mask = mask_of(alloc, shape, cells)?;
+        Ok(CellBlock {
+            cells: numbers,
+            mask,
+            masked: some_missing(cells),
+        })
+    }
+
+    /// The kind of the cells.
+    pub fn kind(&self) -> DType
+        ensures { result ≡ block_kind self.now.cells }
+    {
+        self.cells.kind()
+    }
+
+    /// The sizes of the block.
+    pub fn shape(&self) -> &Shape
+        ensures { result.now ≡ self.now.mask.shape }
+    {
+        self.mask.shape()
+    }
+
+    /// The cells of the block.
+    pub fn view(&self) -> CellView<'_>
+        ensures kind { view_kind result.cells ≡ block_kind self.now.cells }
+        ensures shape { result.mask.shape ≡ self.now.mask.shape }
+        ensures cells { (p : List ℕ) → IsPoint self.now.mask.shape p → cell_shown result p ≡ cell_kept self.now p }
+    {
+        CellView {
+            cells: self.cells.view(),
+            mask: self.mask.view(),
+            masked: self.masked,
+        }
+    }
 }
 
 impl<'a> CellView<'a> {
@@ -93,12 +181,32 @@ impl<'a> CellView<'a> {
 }
 
 impl CellWin {
-    ghost use Rattle.std.specs.Prelude.{◌≡◌, ℕ, List};
+    ghost use Rattle.std.specs.Prelude.{◌≡◌, ◌<◌, ℕ, List, Option, None, length, get_or, All};
     ghost use Rattle.xr_defs.specs.Points.{IsPoint};
     ghost use Rattle.xr_defs.specs.Arrays.{IsCell};
-    ghost use Rattle.strided_block.specs.Boxes.{plus};
-    ghost use Rattle.strided_block.specs.Typed.{view_kind, win_kind};
-    ghost use Rattle.strided_block.specs.Cells.{cell_shown, cell_held, cell_in, SameWindow};
+    ghost use Rattle.strided_block.specs.Boxes.{plus, along, IsRow};
+    ghost use Rattle.strided_block.specs.Typed.{view_kind, block_kind, win_kind};
+    ghost use Rattle.strided_block.specs.Views.{IsWhole};
+    ghost use Rattle.strided_block.specs.Cells.{cell_shown, cell_kept, cell_held, cell_in, SameWindow};
+
+    /// The window of a whole block.
+    pub fn whole(block: CellBlock) -> CellWin
+        ensures kind { win_kind result.cells ≡ block_kind block.cells }
+        ensures place { IsWhole result.mask }
+        ensures shape { result.mask.whole ≡ block.mask.shape }
+        ensures cells { (cs : List ℕ) → IsPoint block.mask.shape cs → cell_held result cs ≡ cell_kept block cs }
+    {
+        let CellBlock {
+            cells,
+            mask,
+            masked,
+        } = block;
+        CellWin {
+            cells: TypedWin::whole(cells),
+            mask: Win::whole(mask),
+            masked,
+        }
+    }
 
     /// The kind of the cells.
     pub fn kind(&self) -> DType
@@ -144,6 +252,40 @@ impl CellWin {
                 self.masked = true;
                 self.mask.set(point, 1);
             }
+        }
+    }
+
+    /// Writes cells from a point on along the last axis.
+    pub fn put_row(&mut self, point: &Shape, cells: &[Option<i128>])
+        requires row { IsRow self.old.mask.shape point.now (length cells.now) }
+        requires range { All (IsCell (win_kind self.old.cells)) cells.now }
+        ensures place { SameWindow self.old self.new }
+        ensures written { (j : ℕ) → j < length cells.now → cell_in self.new (along point.now j) ≡ get_or cells.now j None }
+        ensures others { (cs : List ℕ) → IsPoint self.old.mask.whole cs → ((j : ℕ) → j < length cells.now → ¬ (cs ≡ plus self.old.mask.low (along point.now j))) → cell_held self.new cs ≡ cell_held self.old cs }
+    {
+        let missing = some_missing(cells);
+        self.cells.put_row(point, cells);
+        self.mask.put_mask(point, cells);
+        let masked = self.masked | missing;
+        self.masked = masked;
+    }
+
+    /// The block of a window of the whole.
+    pub fn into_block(self) -> CellBlock
+        requires { IsWhole self.mask }
+        ensures kind { block_kind result.cells ≡ win_kind self.cells }
+        ensures shape { result.mask.shape ≡ self.mask.whole }
+        ensures cells { (cs : List ℕ) → IsPoint result.mask.shape cs → cell_kept result cs ≡ cell_held self cs }
+    {
+        let CellWin {
+            cells,
+            mask,
+            masked,
+        } = self;
+        CellBlock {
+            cells: cells.into_block(),
+            mask: mask.into_block(),
+            masked,
         }
     }
 

@@ -4,13 +4,14 @@
 mod block;
 mod cells;
 mod place;
+mod row;
 mod typed;
 mod view;
 mod win;
 mod zip;
 
 pub use block::Block;
-pub use cells::{CellView, CellWin};
+pub use cells::{CellBlock, CellView, CellWin};
 pub use typed::{TypedBlock, TypedView, TypedWin};
 pub use view::View;
 pub use win::Win;

@@ -2,9 +2,10 @@
 use crate::block::Block;
 use crate::view::View;
 use crate::win::Win;
-use xr_types::{DType, Shape};
+use std::alloc::Global;
+use xr_types::{DType, NoMemory, Shape};
 
-/// A block of cells of one kind. A byte of `Bool` is true where it isn't 0.
+/// A block of cells of one kind. A byte of `Bool` is true where it isn't 0; the calls here write 0 and 1.
 #[derive(Drop)]
 pub enum TypedBlock {
     Bool(Block<u8>),
@@ -15,7 +16,7 @@ pub enum TypedBlock {
     Int64(Block<i64>),
 }
 
-/// A view of cells of one kind. A byte of `Bool` is true where it isn't 0.
+/// A view of cells of one kind. A byte of `Bool` is true where it isn't 0; the calls here write 0 and 1.
 #[derive(Drop)]
 pub enum TypedView<'a> {
     Bool(View<'a, u8>),
@@ -26,7 +27,7 @@ pub enum TypedView<'a> {
     Int64(View<'a, i64>),
 }
 
-/// A window of cells of one kind. A byte of `Bool` is true where it isn't 0.
+/// A window of cells of one kind. A byte of `Bool` is true where it isn't 0; the calls here write 0 and 1.
 pub enum TypedWin {
     Bool(Win<u8>),
     Char(Win<u8>),
@@ -34,6 +35,82 @@ pub enum TypedWin {
     Int16(Win<i16>),
     Int32(Win<i32>),
     Int64(Win<i64>),
+}
+
+impl TypedBlock {
+    ghost use Rattle.std.specs.Prelude.{◌≡◌, ℕ, ℤ, pos, List, Option, Some, None, length, get_or, All, IfOk};
+    ghost use Rattle.xr_defs.specs.Arrays.{IsCell};
+    ghost use Rattle.xr_defs.specs.Points.{size, place, IsPoint};
+    ghost use Rattle.strided_block.specs.Typed.{block_kind, block_shape, number_kept, view_kind, view_shape, number_shown};
+
+    /// The kind of the cells.
+    pub fn kind(&self) -> DType
+        ensures { result ≡ block_kind self.now }
+    {
+        match self {
+            TypedBlock::Bool(_) => DType::Bool,
+            TypedBlock::Char(_) => DType::Char,
+            TypedBlock::Int8(_) => DType::Int8,
+            TypedBlock::Int16(_) => DType::Int16,
+            TypedBlock::Int32(_) => DType::Int32,
+            TypedBlock::Int64(_) => DType::Int64,
+        }
+    }
+
+    /// A block whose cells hold 0.
+    pub fn zeroed(alloc: Global, kind: DType, shape: &Shape) -> Result<TypedBlock, NoMemory>
+        ensures kind { IfOk result (λ b. block_kind b ≡ kind) }
+        ensures shape { IfOk result (λ b. block_shape b ≡ shape.now) }
+        ensures cells { IfOk result (λ b. (p : List ℕ) → IsPoint shape.now p → number_kept b p ≡ Some (pos 0)) }
+    {
+        match kind {
+            DType::Bool => Ok(TypedBlock::Bool(Block::zeroed(alloc, shape)?)),
+            DType::Char => Ok(TypedBlock::Char(Block::zeroed(alloc, shape)?)),
+            DType::Int8 => Ok(TypedBlock::Int8(Block::zeroed(alloc, shape)?)),
+            DType::Int16 => Ok(TypedBlock::Int16(Block::zeroed(alloc, shape)?)),
+            DType::Int32 => Ok(TypedBlock::Int32(Block::zeroed(alloc, shape)?)),
+            DType::Int64 => Ok(TypedBlock::Int64(Block::zeroed(alloc, shape)?)),
+        }
+    }
+
+    /// A block of the numbers of these cells, in row order. What stands at a missing cell is left open.
+    pub fn from_slice(
+        alloc: Global,
+        kind: DType,
+        shape: &Shape,
+        cells: &[Option<i128>],
+    ) -> Result<TypedBlock, NoMemory>
+        requires count { length cells.now ≡ size shape.now }
+        requires range { All (IsCell kind) cells.now }
+        ensures kind { IfOk result (λ b. block_kind b ≡ kind) }
+        ensures shape { IfOk result (λ b. block_shape b ≡ shape.now) }
+        ensures cells { IfOk result (λ b. (p : List ℕ) (n : ℤ) → IsPoint shape.now p → get_or cells.now (place shape.now p) None ≡ Some n → number_kept b p ≡ Some n) }
+    {
+        match kind {
+            DType::Bool => Ok(TypedBlock::Bool(Block::of_cells(alloc, shape, cells)?)),
+            DType::Char => Ok(TypedBlock::Char(Block::of_cells(alloc, shape, cells)?)),
+            DType::Int8 => Ok(TypedBlock::Int8(Block::of_cells(alloc, shape, cells)?)),
+            DType::Int16 => Ok(TypedBlock::Int16(Block::of_cells(alloc, shape, cells)?)),
+            DType::Int32 => Ok(TypedBlock::Int32(Block::of_cells(alloc, shape, cells)?)),
+            DType::Int64 => Ok(TypedBlock::Int64(Block::of_cells(alloc, shape, cells)?)),
+        }
+    }
+
+    /// The cells of the block.
+    pub fn view(&self) -> TypedView<'_>
+        ensures kind { view_kind result ≡ block_kind self.now }
+        ensures shape { view_shape result ≡ block_shape self.now }
+        ensures cells { (p : List ℕ) → IsPoint (block_shape self.now) p → number_shown result p ≡ number_kept self.now p }
+    {
+        match self {
+            TypedBlock::Bool(b) => TypedView::Bool(b.view()),
+            TypedBlock::Char(b) => TypedView::Char(b.view()),
+            TypedBlock::Int8(b) => TypedView::Int8(b.view()),
+            TypedBlock::Int16(b) => TypedView::Int16(b.view()),
+            TypedBlock::Int32(b) => TypedView::Int32(b.view()),
+            TypedBlock::Int64(b) => TypedView::Int64(b.view()),
+        }
+    }
 }
 
 impl<'a> TypedView<'a> {
@@ -93,11 +170,29 @@ impl<'a> TypedView<'a> {
 }
 
 impl TypedWin {
-    ghost use Rattle.std.specs.Prelude.{◌≡◌, ℕ, List, Some};
+    ghost use Rattle.std.specs.Prelude.{◌≡◌, ◌<◌, ℕ, ℤ, List, Option, Some, None, length, get_or, All};
     ghost use Rattle.xr_types.specs.Kinds.{InRange};
+    ghost use Rattle.xr_defs.specs.Arrays.{IsCell};
     ghost use Rattle.xr_defs.specs.Points.{IsPoint};
-    ghost use Rattle.strided_block.specs.Boxes.{plus};
-    ghost use Rattle.strided_block.specs.Typed.{view_kind, view_shape, win_kind, win_box, number_shown, number_held};
+    ghost use Rattle.strided_block.specs.Boxes.{plus, along, IsRow};
+    ghost use Rattle.strided_block.specs.Typed.{view_kind, view_shape, block_kind, block_shape, win_kind, win_box, IsWide, number_shown, number_kept, number_held};
+
+    /// The window of a whole block.
+    pub fn whole(block: TypedBlock) -> TypedWin
+        ensures kind { win_kind result ≡ block_kind block }
+        ensures place { IsWide (win_box result) }
+        ensures shape { (win_box result).whole ≡ block_shape block }
+        ensures cells { (cs : List ℕ) → number_held result cs ≡ number_kept block cs }
+    {
+        match block {
+            TypedBlock::Bool(b) => TypedWin::Bool(Win::whole(b)),
+            TypedBlock::Char(b) => TypedWin::Char(Win::whole(b)),
+            TypedBlock::Int8(b) => TypedWin::Int8(Win::whole(b)),
+            TypedBlock::Int16(b) => TypedWin::Int16(Win::whole(b)),
+            TypedBlock::Int32(b) => TypedWin::Int32(Win::whole(b)),
+            TypedBlock::Int64(b) => TypedWin::Int64(Win::whole(b)),
+        }
+    }
 
     /// The kind of the cells.
     pub fn kind(&self) -> DType
@@ -145,6 +240,42 @@ impl TypedWin {
             TypedWin::Int16(w) => w.set(point, number as i16),
             TypedWin::Int32(w) => w.set(point, number as i32),
             TypedWin::Int64(w) => w.set(point, number as i64),
+        }
+    }
+
+    /// Writes the numbers of cells from a point on along the last axis. What is written for a missing cell is left open.
+    pub fn put_row(&mut self, point: &Shape, cells: &[Option<i128>])
+        requires row { IsRow (win_box self.old).shape point.now (length cells.now) }
+        requires range { All (IsCell (win_kind self.old)) cells.now }
+        ensures kind { win_kind self.new ≡ win_kind self.old }
+        ensures place { win_box self.new ≡ win_box self.old }
+        ensures written { (j : ℕ) (n : ℤ) → j < length cells.now → get_or cells.now j None ≡ Some n → number_held self.new (plus (win_box self.old).low (along point.now j)) ≡ Some n }
+        ensures others { (cs : List ℕ) → IsPoint (win_box self.old).whole cs → ((j : ℕ) → j < length cells.now → ¬ (cs ≡ plus (win_box self.old).low (along point.now j))) → number_held self.new cs ≡ number_held self.old cs }
+    {
+        match self {
+            TypedWin::Bool(w) => w.put_cells(point, cells),
+            TypedWin::Char(w) => w.put_cells(point, cells),
+            TypedWin::Int8(w) => w.put_cells(point, cells),
+            TypedWin::Int16(w) => w.put_cells(point, cells),
+            TypedWin::Int32(w) => w.put_cells(point, cells),
+            TypedWin::Int64(w) => w.put_cells(point, cells),
+        }
+    }
+
+    /// The block of a window of the whole.
+    pub fn into_block(self) -> TypedBlock
+        requires { IsWide (win_box self) }
+        ensures kind { block_kind result ≡ win_kind self }
+        ensures shape { block_shape result ≡ (win_box self).whole }
+        ensures cells { (cs : List ℕ) → number_kept result cs ≡ number_held self cs }
+    {
+        match self {
+            TypedWin::Bool(w) => TypedBlock::Bool(w.into_block()),
+            TypedWin::Char(w) => TypedBlock::Char(w.into_block()),
+            TypedWin::Int8(w) => TypedBlock::Int8(w.into_block()),
+            TypedWin::Int16(w) => TypedBlock::Int16(w.into_block()),
+            TypedWin::Int32(w) => TypedBlock::Int32(w.into_block()),
+            TypedWin::Int64(w) => TypedBlock::Int64(w.into_block()),
         }
     }
 

@@ -1,11 +1,13 @@
 //! Windows: owned cells of a block, to be written.
-ghost use Rattle.std.specs.Prelude.{◌≡◌, ◌+◌, ◌<◌, ◌≤◌, ◌++◌, ℕ, List, Some, length, get_or, map, take, drop, slice_set};
+ghost use Rattle.std.specs.Prelude.{◌≡◌, ◌+◌, ◌<◌, ◌≤◌, ◌++◌, ◌⊎◌, ℕ, List, Option, Some, None, length, get_or, map, take, drop, slice_set};
 ghost use Rattle.xr_defs.specs.Points.{IsPoint};
 ghost use Rattle.strided_block.specs.Boxes.{plus, along, IsRow};
+ghost use Rattle.strided_block.specs.Typed.{number_or_zero, mask_byte};
 ghost use Rattle.strided_block.specs.Views.{Cut, KeptOutside, IsWhole, shown, held, cell_at};
 
 use crate::block::Block;
 use crate::place::{origin, place_at, twin};
+use crate::row::{put_bytes, put_numbers};
 use crate::view::View;
 use std::marker::Model;
 use xr_types::{Elem, Shape};
@@ -66,7 +68,51 @@ fn put_slice<T: Copy>(all: &mut [T], at: usize, cells: &[T])
     all[at..end].copy_from_slice(cells);
 }
 
+// Writes the numbers of cells from a place on, 0 for a missing one.
+fn put_number_run<T: Elem>(all: &mut Vec<T>, at: usize, cells: &[Option<i128>])
+    requires { at + length cells.now ≤ length all.old.items }
+    ensures long { length all.new.items ≡ length all.old.items }
+    ensures cells { (i : ℕ) (z : T) → i < length cells.now → get_or all.new.items (at + i) z ≡ T.of (number_or_zero (get_or cells.now i None)) }
+    ensures others { (k : ℕ) (z : T) → (k < at) ⊎ (at + length cells.now ≤ k) → get_or all.new.items k z ≡ get_or all.old.items k z }
+{
+    put_numbers(all.as_mut_slice(), at, cells);
+}
+
+// Writes the mask's bytes of cells from a place on.
+fn put_byte_run(all: &mut Vec<u8>, at: usize, cells: &[Option<i128>])
+    requires { at + length cells.now ≤ length all.old.items }
+    ensures long { length all.new.items ≡ length all.old.items }
+    ensures cells { (i z : ℕ) → i < length cells.now → get_or all.new.items (at + i) z ≡ mask_byte (get_or cells.now i None) }
+    ensures others { (k z : ℕ) → (k < at) ⊎ (at + length cells.now ≤ k) → get_or all.new.items k z ≡ get_or all.old.items k z }
+{
+    put_bytes(all.as_mut_slice(), at, cells);
+}
+
+impl Win<u8> {
+    /// Writes the mask's bytes of cells from a point on along the last axis.
+    pub(crate) fn put_mask(&mut self, point: &Shape, cells: &[Option<i128>])
+        requires { IsRow self.old.shape point.now (length cells.now) }
+        ensures place { Cut self.old self.new self.old.low self.old.shape }
+        ensures written { (j : ℕ) → j < length cells.now → cell_at self.new (along point.now j) ≡ Some (mask_byte (get_or cells.now j None)) }
+        ensures others { (cs : List ℕ) → IsPoint self.old.whole cs → ((j : ℕ) → j < length cells.now → ¬ (cs ≡ plus self.old.low (along point.now j))) → held self.new cs ≡ held self.old cs }
+    {
+        let at = place_at(&self.shape, point);
+        put_byte_run(&mut self.cells, at, cells);
+    }
+}
+
 impl<T: Elem + Drop> Win<T> {
+    /// Writes the numbers of cells from a point on along the last axis, 0 for a missing one.
+    pub(crate) fn put_cells(&mut self, point: &Shape, cells: &[Option<i128>])
+        requires { IsRow self.old.shape point.now (length cells.now) }
+        ensures place { Cut self.old self.new self.old.low self.old.shape }
+        ensures written { (j : ℕ) → j < length cells.now → cell_at self.new (along point.now j) ≡ Some (T.of (number_or_zero (get_or cells.now j None))) }
+        ensures others { (cs : List ℕ) → IsPoint self.old.whole cs → ((j : ℕ) → j < length cells.now → ¬ (cs ≡ plus self.old.low (along point.now j))) → held self.new cs ≡ held self.old cs }
+    {
+        let at = place_at(&self.shape, point);
+        put_number_run(&mut self.cells, at, cells);
+    }
+
     /// The window of a whole block.
     pub fn whole(block: Block<T>) -> Win<T>
         ensures place { IsWhole result }

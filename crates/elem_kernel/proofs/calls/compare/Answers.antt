@@ -1,4 +1,4 @@
-use Rattle.std.proofs.Common.{◌≡◌, ap, sym, subst, ◌∙◌}
+use Rattle.std.proofs.Common.{ap, subst, ◌∙◌}
 use Rattle.xr_defs.specs.Points.{IsPoint}
 use Rattle.strided_block.specs.Boxes.{plus}
 use Rattle.strided_block.specs.Views.{cell_at}

@@ -1,4 +1,4 @@
-use Rattle.std.proofs.Common.{◌≡◌, ◌*ℤ◌, refl, ap, ◌∙◌, arith, lit<}
+use Rattle.std.proofs.Common.{◌*ℤ◌, refl, ap, ◌∙◌, arith, lit<}
 use Rattle.std.proofs.lemmas.Int.{ints, fits_signed_mul, to_z-of_z}
 use Rattle.std.specs.Prelude.{Some}
 use mir.Val.{SFits}

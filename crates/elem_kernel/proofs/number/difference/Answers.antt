@@ -1,4 +1,4 @@
-use Rattle.std.proofs.Common.{◌≡◌, rules, ap, ◌-ℤ◌}
+use Rattle.std.proofs.Common.{rules, ap, ◌-ℤ◌}
 use Rattle.std.specs.Prelude.{Some}
 use mir.Val.{SFits}
 use mir.Syntax.{w128}

@@ -1,4 +1,4 @@
-use Rattle.std.proofs.Common.{◌≡◌, rules, ap, ◌*ℤ◌, arith, lit<}
+use Rattle.std.proofs.Common.{ap, ◌*ℤ◌, arith, lit<}
 use Rattle.std.proofs.lemmas.Int.{ints, fits_signed_mul}
 use Rattle.std.specs.Prelude.{Some}
 use mir.Val.{SFits}

@@ -1,5 +1,4 @@
-use Rattle.std.proofs.Common.{◌≡◌, ◌<◌, ◌+◌, [], ◌∷◌, ◌++◌, length, take, sym, ap, ◌∙◌, arith, length-take}
-use Rattle.strided_block.specs.Boxes.{zeros}
+use Rattle.std.proofs.Common.{◌≡◌, [], ◌∷◌, ◌++◌, length, take, sym, ap, ◌∙◌, arith, length-take}
 use Rattle.strided_block.proofs.Boxes.{zeros_long, zeros-more}
 use Rattle.strided_block.proofs.place.origin.Goals as goal
 

@@ -1,4 +1,4 @@
-use Rattle.std.proofs.Common.{◌≡◌, length, take}
+use Rattle.std.proofs.Common.{◌≡◌, take}
 use Rattle.strided_block.specs.Boxes.{zeros}
 use Rattle.strided_block.proofs.place.origin.Given as goal
 

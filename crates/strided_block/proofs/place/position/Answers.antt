@@ -1,4 +1,4 @@
-use Rattle.std.proofs.Common.{◌≡◌, ◌<◌, ◌≤◌, ◌+◌, length, get_or, sym, arith}
+use Rattle.std.proofs.Common.{sym, arith}
 use Rattle.strided_block.proofs.Boxes.{get-plus, get-plus_past}
 use Rattle.strided_block.proofs.place.position.Goals as goal
 

@@ -1,7 +1,7 @@
-use Rattle.std.proofs.Common.{◌≡◌, ◌<◌, ◌≤◌, ◌+◌, ◌-◌, ◌/◌, ◌%◌, ◌++◌, ℕ, List, [], ◌∷◌, min, length, drop, refl, sym, ap, subst, ◌∙◌, arith, length-append}
+use Rattle.std.proofs.Common.{◌≡◌, ◌<◌, ◌+◌, ◌/◌, ◌%◌, ◌++◌, ℕ, List, [], ◌∷◌, min, length, drop, sym, ap, subst, ◌∙◌, arith, length-append}
 use Rattle.xr_defs.specs.Points.{size}
 use Rattle.strided_block.specs.Zips.{point_at}
-use Rattle.strided_block.proofs.Splits.{size_part, step, step_some, point_more, left_below}
+use Rattle.strided_block.proofs.Splits.{size_part, step_some, point_more, left_below}
 use Rattle.strided_block.proofs.zip.point_of.Goals as goal
 
 step_is : (n : ℕ) (back ns : List ℕ) (k at : ℕ) → n ≡ min (size back) 18446744073709551615 → back ≡ drop (k + 1) ns → at < size ns → size ns < 9223372036854775808 → n ≡ size (drop (k + 1) ns)

@@ -1,4 +1,4 @@
-use Rattle.std.proofs.Common.{◌≡◌, ◌<◌, ◌≤◌, ◌+◌, length, drop, refl, sym, ap, ◌∙◌, arith}
+use Rattle.std.proofs.Common.{◌<◌, ◌+◌, length, drop, refl, ap, arith}
 use Rattle.xr_defs.specs.Points.{size, place}
 use Rattle.strided_block.proofs.Boxes.{place_below}
 use Rattle.strided_block.proofs.Zipped.{found, read_at, zipped_at}

@@ -1,9 +1,9 @@
-use Rattle.std.proofs.Common.{◌≡◌, ◌<◌, ◌≤◌, ◌+◌, ◌*◌, ℕ, List, min, length, take, drop, refl, sym, ap, subst, ◌∙◌, arith, length-take}
-use Rattle.xr_defs.specs.Points.{size, place, IsPoint}
-use Rattle.strided_block.specs.Views.{shown, together}
-use Rattle.strided_block.specs.Zips.{Zips, point_at, stored}
+use Rattle.std.proofs.Common.{◌≡◌, ℕ, List, min, take, drop, ap, ◌∙◌, arith}
+use Rattle.xr_defs.specs.Points.{size, IsPoint}
+use Rattle.strided_block.specs.Views.{shown}
+use Rattle.strided_block.specs.Zips.{Zips, point_at}
 use Rattle.strided_block.proofs.Boxes.{place_below, point_drop}
-use Rattle.strided_block.proofs.Splits.{Counts, counts, lead_there, lead_long}
+use Rattle.strided_block.proofs.Splits.{counts, lead_there, lead_long}
 use Rattle.strided_block.proofs.Zipped.{one_more, lead_below}
 use Rattle.strided_block.proofs.zip.zip_rows.Goals as goal
 

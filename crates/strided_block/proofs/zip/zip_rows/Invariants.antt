@@ -1,4 +1,4 @@
-use Rattle.std.proofs.Common.{◌≡◌, ◌<◌, ℕ, List, take, length}
+use Rattle.std.proofs.Common.{◌<◌, ℕ, List, take}
 use Rattle.xr_defs.specs.Points.{place, IsPoint}
 use Rattle.strided_block.specs.Views.{shown}
 use Rattle.strided_block.specs.Zips.{Zips, stored}

@@ -1,6 +1,3 @@
-use Rattle.std.proofs.Common.{◌≡◌, sym, ap, subst, ◌∙◌}
-use Rattle.strided_block.specs.Views.{IsClear}
-use Rattle.strided_block.proofs.Boxes.{zeros_fit}
 use Rattle.strided_block.proofs.Sights.{block_clear}
 use Rattle.strided_block.proofs.block.Block.view.Goals as goal
 

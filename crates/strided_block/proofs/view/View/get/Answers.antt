@@ -1,4 +1,4 @@
-use Rattle.std.proofs.Common.{◌≡◌, ◌<◌, sym, ap, ◌∙◌}
+use Rattle.std.proofs.Common.{sym, ap, ◌∙◌}
 use Rattle.std.specs.Prelude.{Some}
 use Rattle.strided_block.proofs.Sights.{seen_inside, seen_below, seen_cell}
 use Rattle.strided_block.proofs.view.View.get.Goals as goal

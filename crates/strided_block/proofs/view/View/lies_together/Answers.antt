@@ -1,4 +1,4 @@
-use Rattle.std.proofs.Common.{◌≡◌, length, sym, ap, ◌∙◌, arith}
+use Rattle.std.proofs.Common.{length, sym, ap, ◌∙◌}
 use Rattle.strided_block.proofs.Boxes.{fits_long}
 use Rattle.strided_block.proofs.view.View.lies_together.Goals as goal
 

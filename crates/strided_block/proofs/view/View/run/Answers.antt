@@ -1,4 +1,4 @@
-use Rattle.std.proofs.Common.{◌≡◌, ◌<◌, ◌≤◌, ◌+◌, ℕ, List, min, length, drop, take, get_or, refl, sym, ap, ◌∙◌, arith, length-take, length-drop}
+use Rattle.std.proofs.Common.{◌≡◌, ℕ, List, min, length, drop, take, get_or, sym, ap, ◌∙◌, arith, length-take, length-drop}
 use Rattle.std.specs.Prelude.{Some}
 use Rattle.xr_defs.specs.Points.{size, place}
 use Rattle.strided_block.proofs.Leads.{lead_within, run_size, run_inside, run_within, run_none, run_cell}

@@ -1,4 +1,4 @@
-use Rattle.std.proofs.Common.{◌≡◌, ◌<◌, ◌≤◌, ◌+◌, length, get_or, ap, arith}
+use Rattle.std.proofs.Common.{length, get_or, ap, arith}
 use Rattle.strided_block.proofs.Sights.{low_axis, whole_axis, cut_first, cut_clear, cut_shown}
 use Rattle.strided_block.proofs.view.View.sub.Goals as goal
 

@@ -1,4 +1,4 @@
-use Rattle.strided_block.proofs.Rows.{whole_cut, row_starts, row_small, row_fits, row_full, row_written, row_others}
+use Rattle.strided_block.proofs.Rows.{whole_cut, row_starts, row_fits, row_full, row_written, row_others}
 use Rattle.strided_block.proofs.win.Win.put_row.Goals as goal
 
 pub place_at-at-requires-clause-inside : goal.place_at-at-requires-clause-inside

@@ -1,11 +1,11 @@
-use Rattle.std.proofs.Common.{◌≡◌, ◌-ℤ◌, ◌<ℤ◌, ℤ, pos, neg_ℤ, ap, sym, ◌∙◌, arith, to_z, of_z}
+use Rattle.std.proofs.Common.{◌≡◌, ◌-ℤ◌, ◌<ℤ◌, pos, neg_ℤ, ap, sym, ◌∙◌, arith, to_z, of_z}
 use Rattle.std.proofs.lemmas.Int.{ints, to_z-of_z}
 use lib.Signed.{lt_z}
 use Rattle.std.specs.Int.{int_rem_euclid}
 use mir.Val.{SFits}
 use mir.Syntax.{w128}
 use Rattle.elem_kernel.proofs.Bounds.{rest_turned, negative}
-use Rattle.elem_kernel.proofs.number.rest.Goals as goal
+use Rattle.elem_kernel.proofs.division.rest.Goals as goal
 
 pub returns-else-y-gt0 : goal.returns-else-y-gt0
 returns-else-y-gt0 c =

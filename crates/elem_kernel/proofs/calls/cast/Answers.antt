@@ -1,0 +1,16 @@
+use Rattle.std.proofs.Common.{refl, ap, subst, ◌∙◌}
+use Rattle.xr_defs.specs.Points.{IsPoint}
+use Rattle.xr_defs.specs.declared.operation.OpKind.TheVariants.{Cast}
+use Rattle.strided_block.specs.Boxes.{plus}
+use Rattle.strided_block.specs.Views.{cell_at}
+use Rattle.strided_block.specs.Typed.{win_kind, number_held, unless_hidden}
+use Rattle.elem_kernel.proofs.Made.{turned}
+use Rattle.elem_kernel.proofs.calls.cast.Goals as goal
+
+pub returns-clause-cells : goal.returns-clause-cells
+returns-clause-cells c = λ p i.
+    let box = c.args.out.now.same_box in
+    let numbers = c.cast_numbers.ensures.cells p (subst (λ b. IsPoint b.shape p) box i) in
+    let low = ap (λ b. b.low) (c.copy_mask.ensures.place ∙ box) in
+    (λ j. unless_hidden (cell_at c.copy_mask.new.out.mask p) (number_held (c.copy_mask.ensures.cells j) (plus (low j) p)))
+    ∙ turned Cast (win_kind c.args.out.now.cells) refl _ _ _ _ (c.copy_mask.ensures.bytes p i) numbers

@@ -1,0 +1,121 @@
+//! Quotients of whole numbers, rounded down, what they leave, and negations. A processor divides 64 bits by itself, so wider divisions are left to the ends of the range.
+ghost use Rattle.std.specs.Prelude.{◌≡◌, ◌≢◌, ◌≤ℤ◌, ◌-ℤ◌, ◌*ℤ◌, neg_ℤ, pos, negsuc, true};
+ghost use Rattle.xr_defs.specs.Elements.{floor_quotient, unless_zero};
+
+/// The greatest whole number that isn't above x / y.
+pub(crate) fn floor(x: i128, y: i128) -> i128
+    requires from { (negsuc 9223372036854775807 ≤ℤ x) × (x ≤ℤ pos 9223372036854775807) }
+    requires divisor { (negsuc 9223372036854775807 ≤ℤ y) × (y ≤ℤ pos 9223372036854775807) }
+    requires some { y ≢ pos 0 }
+    ensures { result ≡ floor_quotient x y }
+{
+    if y > 0 {
+        x.div_euclid(y)
+    } else {
+        (-x).div_euclid(-y)
+    }
+}
+
+// The greatest whole number that isn't above x / y, in 64 bits.
+fn floor_long(x: i64, y: i64) -> i64
+    requires from { negsuc 9223372036854775806 ≤ℤ x }
+    requires divisor { negsuc 9223372036854775806 ≤ℤ y }
+    requires some { y ≢ pos 0 }
+    ensures { result ≡ floor_quotient x y }
+{
+    if y > 0 {
+        x.div_euclid(y)
+    } else {
+        (-x).div_euclid(-y)
+    }
+}
+
+// Whether a number and its negation have 64 bits.
+fn is_long(n: i128) -> bool
+    ensures { result ≡ true → (negsuc 9223372036854775806 ≤ℤ n) × (n ≤ℤ pos 9223372036854775807) }
+{
+    n > -9_223_372_036_854_775_808 && n < 9_223_372_036_854_775_808
+}
+
+fn to_long(n: i128) -> i64
+    requires { (negsuc 9223372036854775806 ≤ℤ n) × (n ≤ℤ pos 9223372036854775807) }
+    ensures { result ≡ n }
+{
+    n as i64
+}
+
+// The greatest whole number that isn't above x / y, by a division of 64 bits.
+fn floor_by_long(x: i128, y: i128) -> i128
+    requires from { (negsuc 9223372036854775806 ≤ℤ x) × (x ≤ℤ pos 9223372036854775807) }
+    requires divisor { (negsuc 9223372036854775806 ≤ℤ y) × (y ≤ℤ pos 9223372036854775807) }
+    requires some { y ≢ pos 0 }
+    ensures { result ≡ floor_quotient x y }
+{
+    let dividend = to_long(x);
+    let divisor = to_long(y);
+    let quotient = floor_long(dividend, divisor);
+    i128::from(quotient)
+}
+
+// The greatest whole number that isn't above x / y, by the shortest division that holds both.
+fn floor_shortest(x: i128, y: i128) -> i128
+    requires from { (negsuc 9223372036854775807 ≤ℤ x) × (x ≤ℤ pos 9223372036854775807) }
+    requires divisor { (negsuc 9223372036854775807 ≤ℤ y) × (y ≤ℤ pos 9223372036854775807) }
+    requires some { y ≢ pos 0 }
+    ensures { result ≡ floor_quotient x y }
+{
+    if is_long(x) && is_long(y) {
+        floor_by_long(x, y)
+    } else {
+        floor(x, y)
+    }
+}
+
+/// The greatest whole number that isn't above x / y, and 0 for a y of 0.
+pub(crate) fn floor_or_zero(x: i128, y: i128) -> i128
+    requires from { (negsuc 9223372036854775807 ≤ℤ x) × (x ≤ℤ pos 9223372036854775807) }
+    requires divisor { (negsuc 9223372036854775807 ≤ℤ y) × (y ≤ℤ pos 9223372036854775807) }
+    ensures { result ≡ unless_zero y (floor_quotient x y) }
+{
+    if y == 0 { 0 } else { floor_shortest(x, y) }
+}
+
+/// What is left of x by whole multiples of y, with the sign of y.
+#[tactic(auto, using(crate::proofs::Bounds::floor_rest))]
+pub(crate) fn rest(x: i128, y: i128) -> i128
+    requires from { (negsuc 9223372036854775807 ≤ℤ x) × (x ≤ℤ pos 9223372036854775807) }
+    requires divisor { (negsuc 9223372036854775807 ≤ℤ y) × (y ≤ℤ pos 9223372036854775807) }
+    requires some { y ≢ pos 0 }
+    ensures { result ≡ x -ℤ y *ℤ floor_quotient x y }
+{
+    if y > 0 {
+        x.rem_euclid(y)
+    } else {
+        -(-x).rem_euclid(-y)
+    }
+}
+
+/// What is left of x by whole multiples of y, with the sign of y, and 0 for a y of 0.
+pub(crate) fn rest_or_zero(x: i128, y: i128) -> i128
+    requires from { (negsuc 9223372036854775807 ≤ℤ x) × (x ≤ℤ pos 9223372036854775807) }
+    requires divisor { (negsuc 9223372036854775807 ≤ℤ y) × (y ≤ℤ pos 9223372036854775807) }
+    ensures { result ≡ unless_zero y (x -ℤ y *ℤ floor_quotient x y) }
+{
+    if y == 0 { 0 } else { rest(x, y) }
+}
+
+/// The negated number.
+pub(crate) fn opposite(n: i128) -> i128
+    requires { (negsuc 9223372036854775807 ≤ℤ n) × (n ≤ℤ pos 9223372036854775807) }
+    ensures { result ≡ neg_ℤ n }
+{
+    -n
+}
+
+/// The number whose bits are all turned.
+pub(crate) fn turned(n: i128) -> i128
+    requires { (negsuc 9223372036854775807 ≤ℤ n) × (n ≤ℤ pos 9223372036854775807) }
+    ensures { result ≡ negsuc 0 -ℤ n }
+{
+    -1 - n
+}

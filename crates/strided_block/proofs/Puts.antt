@@ -1,0 +1,154 @@
+-- Cells that a caller gives as numbers or holes: as the cells of a block, and as a row of a window of a whole block.
+use Rattle.std.proofs.Common.{◌≡◌, ◌<◌, ◌≤◌, ◌+◌, ◌-◌, ℕ, ℤ, zero, suc, pos, negsuc, unsigned_abs, List, length, map, get_or, ◌⊎◌, inl, inr, refl, sym, ap, subst, ◌∙◌, arith}
+use Rattle.std.specs.Prelude.{Option, Some, None, option_map, replicate, All}
+use Rattle.std.proofs.lemmas.Bool.{cases_lt}
+use Rattle.std.proofs.lemmas.Int.{ints}
+use Rattle.std.proofs.lemmas.List.{get_or-map, get_or-replicate, length-map, length-replicate, same_lists}
+use Rattle.std.proofs.lemmas.List.Elements.{All-get_or}
+use Rattle.xr_types.specs.Cells.{again_char, again_int8, again_int16, again_int32, again_int64}
+use Rattle.xr_types.specs.Kinds.{InRange, wrap_to}
+use Rattle.xr_types.specs.declared.kind.DType.{DType}
+use Rattle.xr_types.specs.declared.kind.DType.TheVariants.{Bool, Char, Int8, Int16, Int32, Int64}
+use Rattle.xr_defs.specs.Arrays.{IsCell}
+use Rattle.xr_defs.specs.Points.{size, place, IsPoint}
+use Rattle.strided_block.specs.Boxes.{plus, zeros, along, IsRow}
+use Rattle.strided_block.specs.Typed.{Box, IsWide, box_of, truth, number_or_zero}
+use Rattle.strided_block.specs.Views.{Stored, Seen, Window, shown, kept, held, cell_at, sight, wide_window, IsWhole, IsFull}
+use Rattle.strided_block.proofs.Boxes.{place_below}
+use Rattle.strided_block.proofs.Rows.{laid, laid-length, laid_in, laid_out, plus_origin, row_starts, row_fits, row_full, row_written, row_others}
+
+-- ---- a number of a kind is found again
+
+pub again_bool : (n : ℤ) → InRange Bool n → truth (unsigned_abs (wrap_to Char n)) ≡ n
+again_bool (pos zero) r = refl
+again_bool (pos (suc zero)) r = refl
+again_bool (pos (suc (suc k))) r = let h = r.1 in absurd (omega (arith, ints))
+again_bool (negsuc k) r = let h = r.0 in absurd (omega (arith, ints))
+
+pub again_text : (n : ℤ) → InRange Char n → pos (unsigned_abs (wrap_to Char n)) ≡ n
+again_text (pos k) r = ap pos (again_char k r.0 r.1)
+again_text (negsuc k) r = let h = r.0 in absurd (omega (arith, ints))
+
+cell_range : (t : DType) (cells : List (Option ℤ)) (j : ℕ) (n : ℤ) → All (IsCell t) cells → j < length cells → get_or cells j None ≡ Some n → InRange t n
+cell_range t cells j n all lt e = subst (IsCell t) e (All-get_or (IsCell t) cells j None lt all)
+
+pub again_number : {X : Type 0} (t : DType) (of : ℤ → X) (read : X → ℤ) → ((n : ℤ) → InRange t n → read (of n) ≡ n) → (cells : List (Option ℤ)) (j : ℕ) (n : ℤ) → All (IsCell t) cells → j < length cells
+    → get_or cells j None ≡ Some n → (r : Option X) → r ≡ Some (of (number_or_zero (get_or cells j None))) → option_map read r ≡ Some n
+again_number t of read law cells j n all lt e r is = ap (option_map read) is ∙ ap (λ c. Some (read (of (number_or_zero c)))) e ∙ ap Some (law n (cell_range t cells j n all lt e))
+
+pub at_int8 : (cells : List (Option ℤ)) (j : ℕ) (n : ℤ) → All (IsCell Int8) cells → j < length cells → get_or cells j None ≡ Some n → (r : Option ℤ) → r ≡ Some (wrap_to Int8 (number_or_zero (get_or cells j None))) → r ≡ Some n
+at_int8 cells j n all lt e r is = let h = cell_range Int8 cells j n all lt e in is ∙ ap (λ c. Some (wrap_to Int8 (number_or_zero c))) e ∙ ap Some (again_int8 n h.0 h.1)
+
+pub at_int16 : (cells : List (Option ℤ)) (j : ℕ) (n : ℤ) → All (IsCell Int16) cells → j < length cells → get_or cells j None ≡ Some n → (r : Option ℤ) → r ≡ Some (wrap_to Int16 (number_or_zero (get_or cells j None))) → r ≡ Some n
+at_int16 cells j n all lt e r is = let h = cell_range Int16 cells j n all lt e in is ∙ ap (λ c. Some (wrap_to Int16 (number_or_zero c))) e ∙ ap Some (again_int16 n h.0 h.1)
+
+pub at_int32 : (cells : List (Option ℤ)) (j : ℕ) (n : ℤ) → All (IsCell Int32) cells → j < length cells → get_or cells j None ≡ Some n → (r : Option ℤ) → r ≡ Some (wrap_to Int32 (number_or_zero (get_or cells j None))) → r ≡ Some n
+at_int32 cells j n all lt e r is = let h = cell_range Int32 cells j n all lt e in is ∙ ap (λ c. Some (wrap_to Int32 (number_or_zero c))) e ∙ ap Some (again_int32 n h.0 h.1)
+
+pub at_int64 : (cells : List (Option ℤ)) (j : ℕ) (n : ℤ) → All (IsCell Int64) cells → j < length cells → get_or cells j None ≡ Some n → (r : Option ℤ) → r ≡ Some (wrap_to Int64 (number_or_zero (get_or cells j None))) → r ≡ Some n
+at_int64 cells j n all lt e r is = let h = cell_range Int64 cells j n all lt e in is ∙ ap (λ c. Some (wrap_to Int64 (number_or_zero c))) e ∙ ap Some (again_int64 n h.0 h.1)
+
+-- 0 is kept at each width
+pub zero_int8 : wrap_to Int8 (pos 0) ≡ pos 0
+zero_int8 = again_int8 (pos 0) (omega (arith, ints)) (omega (arith, ints))
+
+pub zero_int16 : wrap_to Int16 (pos 0) ≡ pos 0
+zero_int16 = again_int16 (pos 0) (omega (arith, ints)) (omega (arith, ints))
+
+pub zero_int32 : wrap_to Int32 (pos 0) ≡ pos 0
+zero_int32 = again_int32 (pos 0) (omega (arith, ints)) (omega (arith, ints))
+
+pub zero_int64 : wrap_to Int64 (pos 0) ≡ pos 0
+zero_int64 = again_int64 (pos 0) (omega (arith, ints)) (omega (arith, ints))
+
+-- ---- blocks
+
+module _ {X : Type 0} where
+  -- a block that holds one cell everywhere
+  pub alike : (b : Stored X) (ns p : List ℕ) (x : X) → b ≡ record { shape = ns; cells = replicate (size ns) x } → IsPoint ns p → kept b p ≡ Some x
+  alike b ns p x e i =
+      let below = place_below ns p i in let lt : place ns p < length (replicate (size ns) x) = omega (arith, length-replicate (size ns) x) in
+      ap (λ u. kept u p) e ∙ get_or-map Some (replicate (size ns) x) (place ns p) x None lt ∙ ap Some (get_or-replicate (size ns) (place ns p) x x below)
+
+  -- a block whose cells are made of given ones
+  pub made_kept : (f : Option ℤ → X) (cs : List (Option ℤ)) (items : List X) (ns p : List ℕ) → length items ≡ length cs → length cs ≡ size ns → ((i : ℕ) (z : X) → i < length cs → get_or items i z ≡ f (get_or cs i None))
+      → IsPoint ns p → get_or (map Some items) (place ns p) None ≡ Some (f (get_or cs (place ns p) None))
+  made_kept f cs items ns p long count made i =
+      let below = place_below ns p i in let lt : place ns p < length items = omega arith in let in_cells : place ns p < length cs = omega arith in
+      let x : X = f (get_or cs (place ns p) None) in get_or-map Some items (place ns p) x None lt ∙ ap Some (made (place ns p) x in_cells)
+
+  -- the view of a block
+  pub seen_kept : (cells : List X) (shape : List ℕ) (v : Seen X) (p : List ℕ) → v ≡ sight cells shape (zeros shape) shape → IsPoint shape p → shown v p ≡ get_or (map Some cells) (place shape p) None
+  seen_kept cells shape v p e i = ap (λ u. shown u p) e ∙ ap (λ q. get_or (map Some cells) (place shape q) None) (plus_origin shape p i)
+
+  -- the window of a block
+  pub whole_held : (cells : List X) (shape : List ℕ) (w : Window X) (cs : List ℕ) → w.whole ≡ shape → w.slots ≡ map Some cells → held w cs ≡ get_or (map Some cells) (place shape cs) None
+  whole_held cells shape w cs whole slots = λ i. get_or (slots i) (place (whole i) cs) None
+
+-- the window's box, where it and another are whole
+pub wide_boxes : {X : Type 0} (w : Window X) (b : Box) → IsWhole w → IsWide b → w.whole ≡ b.whole → box_of w ≡ b
+wide_boxes w b m n e = λ i. record { whole = e i; low = (m.low ∙ ap zeros e ∙ sym n.low) i; shape = (m.shape ∙ e ∙ sym n.shape) i }
+
+at_home : {X : Type 0} (w : Window X) (p : List ℕ) → IsWhole w → IsPoint w.whole p → cell_at w p ≡ held w p
+at_home w p m j = ap (held w) (ap (λ l. plus l p) m.low ∙ plus_origin w.whole p j)
+
+-- a mask that is 0 everywhere is so in the window of its block, and in the block of its window
+pub whole_clear : (b : Stored ℕ) (w : Window ℕ) → IsWhole w → w.whole ≡ b.shape → w.slots ≡ map Some b.cells → ((p : List ℕ) → IsPoint b.shape p → kept b p ≡ Some 0) → (p : List ℕ) → IsPoint w.shape p → cell_at w p ≡ Some 0
+whole_clear b w m e s was p i =
+    let j : IsPoint w.whole p = subst (λ n. IsPoint n p) m.shape i in
+    at_home w p m j ∙ whole_held b.cells b.shape w p e s ∙ was p (subst (λ n. IsPoint n p) e j)
+
+pub block_clear_of : (b : Stored ℕ) (w : Window ℕ) → IsWhole w → b.shape ≡ w.whole → map Some b.cells ≡ w.slots → ((p : List ℕ) → IsPoint w.shape p → cell_at w p ≡ Some 0) → (p : List ℕ) → IsPoint b.shape p → kept b p ≡ Some 0
+block_clear_of b w m e s was p i =
+    let j : IsPoint w.whole p = subst (λ n. IsPoint n p) e i in
+    sym (whole_held b.cells b.shape w p (sym e) (sym s)) ∙ sym (at_home w p m j) ∙ was p (subst (λ n. IsPoint n p) (sym m.shape) j)
+
+-- ---- a row of a window
+
+module _ {X : Type 0} (f : Option ℤ → X) (cs : List (Option ℤ)) (cells : List X) (shape : List ℕ) (w : Window X) (e : wide_window cells shape ≡ w) (full : IsFull shape cells)
+    (ps : List ℕ) (row : IsRow w.shape ps (length cs)) where
+  made_long : length (map f cs) ≡ length cs
+  made_long = length-map cs f
+
+  made_row : IsRow w.shape ps (length (map f cs))
+  made_row = subst (λ n. IsRow w.shape ps n) (sym made_long) row
+
+  pub put_starts : IsPoint shape ps
+  put_starts = row_starts cells (map f cs) shape w e full ps made_row
+
+  module _ (at : ℕ) (is : at ≡ place shape ps) where
+    fits : at + length (map f cs) ≤ length cells
+    fits = row_fits cells (map f cs) shape w e full ps made_row at is
+
+    pub put_fits : at + length cs ≤ length cells
+    put_fits = let h = fits in omega (arith, made_long)
+
+    module _ (new : List X) (long : length new ≡ length cells) (put : (i : ℕ) (z : X) → i < length cs → get_or new (at + i) z ≡ f (get_or cs i None))
+        (rest : (k : ℕ) (z : X) → (k < at) ⊎ (at + length cs ≤ k) → get_or new k z ≡ get_or cells k z) where
+      same_at : (k : ℕ) (d : X) → get_or new k d ≡ get_or (laid cells at (map f cs)) k d
+      same_at k d = elim (cases_lt k at) [
+        | inl lt ↦ rest k d (inl lt) ∙ sym (laid_out cells (map f cs) at k d fits (inl lt))
+        | inr le ↦ elim (cases_lt k (at + length cs)) [
+          | inl lt ↦
+              let j : ℕ = k - at in let there : at + j ≡ k = omega arith in let within : j < length cs = omega arith in let in_row : j < length (map f cs) = omega (arith, made_long) in
+              ap (λ i. get_or new i d) (sym there) ∙ put j d within ∙ sym (get_or-map f cs j None d within) ∙ sym (laid_in cells (map f cs) at j k d fits in_row (sym there))
+          | inr past ↦ let behind : at + length (map f cs) ≤ k = omega (arith, made_long) in rest k d (inr past) ∙ sym (laid_out cells (map f cs) at k d fits (inr behind))
+        ]
+      ]
+
+      is_laid : new ≡ laid cells at (map f cs)
+      is_laid = same_lists new (laid cells at (map f cs)) (long ∙ sym (laid-length cells (map f cs) at fits)) (λ k d lt. same_at k d)
+
+      pub put_full : IsFull shape new
+      put_full = row_full cells (map f cs) shape w e full ps made_row at is new is_laid
+
+      pub put_written : (j : ℕ) → j < length cs → cell_at (wide_window new shape) (along ps j) ≡ Some (f (get_or cs j None))
+      put_written j lt =
+          let x : X = f (get_or cs j None) in let in_row : j < length (map f cs) = omega (arith, made_long) in
+          row_written cells (map f cs) shape w e full ps made_row at is new is_laid j x in_row ∙ ap Some (get_or-map f cs j None x lt)
+
+      none_made : (c : List ℕ) → ((j : ℕ) → j < length cs → ¬ (c ≡ plus w.low (along ps j))) → (j : ℕ) → j < length (map f cs) → ¬ (c ≡ plus w.low (along ps j))
+      none_made c none j lt = none j (omega (arith, made_long))
+
+      pub put_others : (c : List ℕ) → IsPoint w.whole c → ((j : ℕ) → j < length cs → ¬ (c ≡ plus w.low (along ps j))) → held (wide_window new shape) c ≡ held w c
+      put_others c i none = row_others cells (map f cs) shape w e full ps made_row at is new is_laid c i (none_made c none)
