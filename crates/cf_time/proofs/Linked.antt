@@ -42,6 +42,8 @@ pub record Placed (y : ℤ) (m d n : ℕ) : Type 0 where
   pub month : m ≡ month_at n
   pub day : d ≡ day_at n
   pub ordinal : day_of_year y m d ≡ day_in_year n + 1
+  pub number : day_number (year_at n) (month_at n) (day_at n) ≡ n
+  pub civil : IsCivil (year_at n) (month_at n) (day_at n)
 
 day_is : (y : ℤ) (m d n : ℕ) → days_from_civil y m d +ℤ pos 4371587 ≡ pos (n + 3652425) → day_count y m d ≡ n + 3652791
 day_is y m d n h = omega (arith, ints, days_from_civil-day_count y m d, h)
@@ -68,6 +70,8 @@ in_years y m d n from c most h =
       month = sym t.month;
       day = sym t.day;
       ordinal = (let e : civil.days_of_months (pos y) (m - 1) ≡ days_of_months y (m - 1) = months y (m - 1) in let f : 1 ≤ d = c.2.0 in omega (arith, e, f, t.rest));
+      number = subst (λ a. day_number a (month_at n) (day_at n) ≡ n) (sym t.year) (subst (λ b. day_number y b (day_at n) ≡ n) (sym t.month) (subst (λ e. day_number y m e ≡ n) (sym t.day) at));
+      civil = subst (λ a. IsCivil a (month_at n) (day_at n)) (sym t.year) (subst (λ b. IsCivil y b (day_at n)) (sym t.month) (subst (λ e. IsCivil y m e) (sym t.day) is));
     }
 
 pub placed : (y : ℤ) (m d n : ℕ) → IsCivilDate y m d → n < 3652059 → days_from_civil y m d +ℤ pos 4371587 ≡ pos (n + 3652425) → Placed y m d n

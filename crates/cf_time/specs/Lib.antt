@@ -1,0 +1,5 @@
+pub mod Units
+pub mod Parts
+pub mod Bins
+pub mod Counts
+pub mod Fields

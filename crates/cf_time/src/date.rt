@@ -1,6 +1,6 @@
 //! The date of a time, its fields and its text.
-ghost use Rattle.std.specs.Prelude.{◌≡◌, ◌+◌, ◌<◌, pos};
-ghost use Rattle.xr_defs.specs.Times.{IsTime, seconds_since, day_since, second_of_day, year_at, month_at, day_at, day_in_year, field_of, digit, time_text};
+ghost use Rattle.std.specs.Prelude.{◌≡◌, ◌+◌, ◌<◌, ◌≤◌, pos};
+ghost use Rattle.xr_defs.specs.Times.{IsTime, IsCivil, day_number, seconds_since, day_since, second_of_day, year_at, month_at, day_at, day_in_year, field_of, digit, time_text};
 ghost use Rattle.jiff_core.specs.Date.{ordinal, weekday_of};
 
 use jiff_core::civil::Date;
@@ -22,8 +22,44 @@ pub fn date_at(day: u64) -> Date
     ensures month { result.month ≡ month_at day }
     ensures day { result.day ≡ day_at day }
     ensures ordinal { ordinal result ≡ day_in_year day + 1 }
+    ensures number { day_number (year_at day) (month_at day) (day_at day) ≡ day }
+    ensures civil { IsCivil (year_at day) (month_at day) (day_at day) }
+    ensures years { (1 ≤ year_at day) × (year_at day ≤ 9999) }
+    ensures months { (1 ≤ month_at day) × (month_at day ≤ 12) }
+    ensures days { 1 ≤ day_at day }
 {
     Date::from_days_since_min(day as u32 + 3_652_425)
+}
+
+/// A date by its numbers: the year, the month, the day of the month and the day of the year.
+#[derive(Clone, Copy)]
+pub struct Parts {
+    pub year: u16,
+    pub month: u8,
+    pub day: u8,
+    pub ordinal: u16,
+}
+
+/// The date that many days after 0001-01-01, by its numbers.
+pub fn parts_at(day: u64) -> Parts
+    requires { day < 3652059 }
+    ensures year { result.year ≡ year_at day }
+    ensures month { result.month ≡ month_at day }
+    ensures day { result.day ≡ day_at day }
+    ensures ordinal { result.ordinal ≡ day_in_year day + 1 }
+    ensures number { day_number (year_at day) (month_at day) (day_at day) ≡ day }
+    ensures civil { IsCivil (year_at day) (month_at day) (day_at day) }
+    ensures years { (1 ≤ year_at day) × (year_at day ≤ 9999) }
+    ensures months { (1 ≤ month_at day) × (month_at day ≤ 12) }
+    ensures days { 1 ≤ day_at day }
+{
+    let date = date_at(day);
+    Parts {
+        year: date.year as u16,
+        month: date.month,
+        day: date.day,
+        ordinal: date.day_of_year(),
+    }
 }
 
 /// A field of a time.

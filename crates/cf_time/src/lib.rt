@@ -1,13 +1,24 @@
 //! Times of the CF conventions: the fields and the text of a time, dates of a script, units of a file, and bins.
 #![tactic(auto)]
 
+mod bin_list;
+mod binning;
+mod counts;
 mod date;
+mod each_field;
 mod read;
+mod run;
 mod units;
+mod units_text;
 
+pub use bin_list::BinList;
+pub use binning::bins;
+pub use counts::{count, written_unit};
 pub use date::{field, text};
+pub use each_field::fields;
 pub use read::read_date;
 pub use units::decode;
+pub use units_text::read_units;
 
 #[cfg(test)]
 mod tests;

@@ -1,5 +1,6 @@
 //! Date texts of a script.
 ghost use Rattle.std.specs.Prelude.{◌≡◌, ◌≤◌, ◌<◌, ◌+◌, ◌*◌, ◌-ℤ◌, ◌&&◌, pos, length, true, if◌then◌else◌, Some, None, IfSome};
+ghost use Rattle.cf_time.specs.Units.{is_civil};
 ghost use Rattle.xr_defs.specs.Times.{IsCivil, day_number, epoch, time_of, month_days, is_digit, has_two, two_at, has_year, year_in, has_month, has_day, has_clock, period, year_period, month_period, day_period, clock_period, second_period, date_period};
 
 use jiff_core::civil;
@@ -7,7 +8,7 @@ use jiff_core::civil::Date;
 use xr_defs::Period;
 
 /// The time of a second of a date.
-fn time_at(year: u16, month: u8, day: u8, second: u32) -> i64
+pub fn time_at(year: u16, month: u8, day: u8, second: u32) -> i64
     requires civil { IsCivil year month day }
     requires second { second < 86400 }
     ensures { result ≡ pos (86400 * day_number year month day + second) -ℤ pos epoch }
@@ -110,11 +111,21 @@ fn clock(text: &[u8]) -> Option<u32>
 }
 
 /// The days of a month.
-fn month_days(year: u16, month: u8) -> u8
+pub fn month_days(year: u16, month: u8) -> u8
     requires { year ≤ 9999 }
     ensures { result ≡ month_days year month }
 {
     civil::days_in_month(year as i16, month)
+}
+
+/// Whether the calendar has a date, in the years 1 to 9999.
+pub fn is_date(year: u16, month: u16, day: u16) -> bool
+    ensures { result ≡ is_civil year month day }
+{
+    if year == 0 || year > 9999 || month == 0 || month > 12 || day == 0 {
+        return false;
+    }
+    day <= u16::from(civil::days_in_month(year as i16, month as u8))
 }
 
 /// The period from a date's first second to another's last.

@@ -1,9 +1,12 @@
+ghost use Rattle.std.specs.Prelude.{All};
 ghost use Rattle.xr_defs.specs.Times.{IsTime};
+ghost use Rattle.cf_time.specs.Bins.{IsFreq};
 
-use crate::{decode, field, read_date, text};
+use crate::{bins, count, decode, field, fields, read_date, read_units, text, written_unit};
+use std::alloc::Global;
 use std::process::Abort;
 use std::test::Fail;
-use xr_defs::Field;
+use xr_defs::{Field, Freq};
 use xr_types::{TimeUnit, Units};
 
 // The times and what they show are those of Python:
@@ -38,6 +41,8 @@ fn ends_of_years(rt: HostRuntime) {
     shown(&rt, 253_402_300_799, "9999-12-31T23:59:59", 365, 4);
 }
 
+// Periods by Python's calendar and datetime: (datetime(y, 2, 1) - datetime(1970, 1, 1)).total_seconds(), and the
+// same of datetime(y, 2, calendar.monthrange(y, 2)[1], 23, 59, 59).
 fn read(rt: &impl Abort, date: &str, first: i64, last: i64) {
     match read_date(date.as_bytes()) {
         Some(period) => assert!(rt; period.first == first && period.last == last, "{date}"),
@@ -47,7 +52,12 @@ fn read(rt: &impl Abort, date: &str, first: i64, last: i64) {
 
 #[test]
 fn dates(rt: HostRuntime) {
+    read(&rt, "0001", -62_135_596_800, -62_104_060_801);
+    read(&rt, "1582", -12_244_089_600, -12_212_553_601);
+    read(&rt, "1600-02", -11_673_417_600, -11_670_912_001);
     read(&rt, "2000", 946_684_800, 978_307_199);
+    read(&rt, "2100-02", 4_105_123_200, 4_107_542_399);
+    read(&rt, "9999", 253_370_764_800, 253_402_300_799);
     read(&rt, "1900-02", -2_206_310_400, -2_203_891_201);
     read(&rt, "2000-02", 949_363_200, 951_868_799);
     read(&rt, "2000-01-11T00:00:00", 947_548_800, 947_548_800);
@@ -71,4 +81,240 @@ fn counts(rt: HostRuntime) -> Result<(), Fail> {
     assert_eq!(rt; decode(&days, -115_861), None);
     assert_eq!(rt; decode(&days, i128::MAX), None);
     Ok(())
+}
+
+/// What a text of units says, as the time of its reference.
+fn refers(rt: &impl Abort, text: &str, calendar: &str, unit: TimeUnit, reference: i64) {
+    match read_units(text.as_bytes(), Some(calendar.as_bytes())) {
+        Some(units) => {
+            assert!(rt;
+                units.unit == unit && units.reference == reference,
+                "{text}"
+            )
+        }
+        None => assert!(rt; false, "{text}"),
+    }
+}
+
+fn refused(rt: &impl Abort, text: &str, calendar: &str) {
+    assert!(rt;
+        read_units(text.as_bytes(), Some(calendar.as_bytes())).is_none(),
+        "{text}"
+    );
+}
+
+// The references are those of cftime 1.6.2, which refuses the other texts too:
+// t = cftime.num2date(0, units, calendar)
+// s = datetime(t.year, t.month, t.day, t.hour, t.minute, t.second) - datetime(1970, 1, 1)
+// print(s.days * 86400 + s.seconds)
+#[test]
+fn units(rt: HostRuntime) {
+    refers(
+        &rt,
+        "days since 2000-01-01",
+        "standard",
+        TimeUnit::Days,
+        946_684_800,
+    );
+    refers(
+        &rt,
+        "day since 2000-1-1",
+        "gregorian",
+        TimeUnit::Days,
+        946_684_800,
+    );
+    refers(
+        &rt,
+        "hours since 2000-01-01 06:30",
+        "standard",
+        TimeUnit::Hours,
+        946_708_200,
+    );
+    refers(
+        &rt,
+        "minutes\tsince  2000-01-01T06:30:15",
+        "standard",
+        TimeUnit::Minutes,
+        946_708_215,
+    );
+    refers(
+        &rt,
+        "seconds since 2000-01-01 6:30:15.00",
+        "standard",
+        TimeUnit::Seconds,
+        946_708_215,
+    );
+    refers(
+        &rt,
+        "hours since 1900-01-01 00:00:00.0",
+        "standard",
+        TimeUnit::Hours,
+        -2_208_988_800,
+    );
+    refers(
+        &rt,
+        "second since 9999-12-31",
+        "standard",
+        TimeUnit::Seconds,
+        253_402_214_400,
+    );
+    refers(
+        &rt,
+        "days since 1582-10-15",
+        "standard",
+        TimeUnit::Days,
+        -12_219_292_800,
+    );
+    refers(
+        &rt,
+        "days since 1582-10-14",
+        "proleptic_gregorian",
+        TimeUnit::Days,
+        -12_219_379_200,
+    );
+    refers(
+        &rt,
+        "days since 0001-01-01",
+        "proleptic_gregorian",
+        TimeUnit::Days,
+        -62_135_596_800,
+    );
+    refused(&rt, "days since 1582-10-14", "standard");
+    refused(&rt, "days since 2000-02-30", "standard");
+    refused(&rt, "days since 1900-02-29", "proleptic_gregorian");
+    refused(&rt, "days since 0000-01-01", "proleptic_gregorian");
+    refused(&rt, "days since 2000-13-01", "standard");
+    refused(&rt, "days after 2000-01-01", "standard");
+    refused(&rt, "weeks since 2000-01-01", "standard");
+    refused(&rt, "since 2000-01-01", "standard");
+    refused(&rt, "days since", "standard");
+    refused(&rt, "hours since 2000-01-01 24:00", "standard");
+    refused(&rt, "hours since 2000-01-01 12:60", "standard");
+    refused(&rt, "dayssince 2000-01-01", "standard");
+    refused(&rt, "days since yesterday", "standard");
+    refused(&rt, "", "standard");
+}
+
+// These cftime takes and this crate doesn't: blanks in front, a fraction of a second, a time zone, a calendar
+// that isn't civil, and `standard` before 1582-10-15.
+#[test]
+fn units_of_no_use(rt: HostRuntime) {
+    refused(&rt, " days since 2000-01-01", "standard");
+    refused(&rt, "seconds since 2000-01-01 6:30:15.5", "standard");
+    refused(&rt, "seconds since 2000-01-01 6:30:15.", "standard");
+    refused(&rt, "days since 2000-01-01 00:00:00 +1:00", "standard");
+    refused(&rt, "days since 2000-01-01", "360_day");
+    refused(&rt, "days since 0001-01-01", "standard");
+    assert!(rt; read_units(b"days since 2000-01-01", None).is_some());
+}
+
+fn binned(rt: &impl Abort, alloc: Global, labels: &[i64], freq: Freq, starts: &[i64], bin: &[u32])
+    requires times { All IsTime labels.now }
+    requires freq { IsFreq freq }
+{
+    match bins(alloc, labels, freq) {
+        Ok(list) => {
+            assert!(rt; list.starts.as_slice() == starts);
+            assert!(rt; list.bin.as_slice() == bin);
+        }
+        Err(_) => assert!(rt; false),
+    }
+}
+
+// Starts and places are those of pandas 1.5.3:
+// g = pd.Series(0, index=pd.DatetimeIndex(np.array(labels, dtype="M8[s]"))).resample(freq).grouper
+// print([int(x.timestamp()) for x in g.binlabels], np.repeat(np.arange(len(g.bins)), np.diff(np.r_[0, g.bins])))
+#[test]
+fn bins_of_widths(rt: HostRuntime) {
+    let labels = [946_731_600, 946_735_200, 946_774_800];
+    let starts = [946_728_000, 946_749_600, 946_771_200];
+    binned(
+        &rt,
+        rt.alloc(),
+        &labels,
+        Freq::Seconds(21_600),
+        &starts,
+        &[0, 0, 2],
+    );
+    let starts = [946_710_000, 946_735_200, 946_760_400];
+    binned(
+        &rt,
+        rt.alloc(),
+        &labels,
+        Freq::Seconds(25_200),
+        &starts,
+        &[0, 1, 2],
+    );
+}
+
+#[test]
+fn bins_of_the_calendar(rt: HostRuntime) {
+    let labels = [946_684_800, 947_548_800, 949_363_200, 978_307_200];
+    let months = [
+        946_684_800,
+        949_363_200,
+        951_868_800,
+        954_547_200,
+        957_139_200,
+        959_817_600,
+        962_409_600,
+        965_088_000,
+        967_766_400,
+        970_358_400,
+        973_036_800,
+        975_628_800,
+        978_307_200,
+    ];
+    binned(
+        &rt,
+        rt.alloc(),
+        &labels,
+        Freq::Months,
+        &months,
+        &[0, 0, 1, 12],
+    );
+    let years = [946_684_800, 978_307_200];
+    binned(&rt, rt.alloc(), &labels, Freq::Years, &years, &[0, 0, 0, 1]);
+}
+
+// Counts as Python has them: (datetime(2000, 1, 1, 18) - datetime(2000, 1, 2)) // timedelta(hours=1)
+#[test]
+fn counts_to_write(rt: HostRuntime) -> Result<(), Fail> {
+    let days = Units {
+        unit: TimeUnit::Days,
+        reference: 946_771_200,
+        early: false,
+    };
+    assert_eq!(rt; count(&days, 946_684_800), Some(-1));
+    assert_eq!(rt; count(&days, 946_749_600), None);
+    let hours = Units {
+        unit: TimeUnit::Hours,
+        reference: 946_771_200,
+        early: false,
+    };
+    assert_eq!(rt; count(&hours, 946_749_600), Some(-6));
+    assert!(rt; written_unit(&days, &[946_684_800, 946_771_200]) == TimeUnit::Days);
+    assert!(rt; written_unit(&days, &[946_684_800, 946_749_600]) == TimeUnit::Hours);
+    assert!(rt; written_unit(&hours, &[946_684_800, 946_771_200]) == TimeUnit::Hours);
+    assert!(rt; written_unit(&days, &[946_749_660]) == TimeUnit::Minutes);
+    assert!(rt; written_unit(&days, &[946_749_661]) == TimeUnit::Seconds);
+    Ok(())
+}
+
+// 2000-02-29T06:30:15 and the day after at midnight, by Python's datetime.
+#[test]
+fn fields_of_many(rt: HostRuntime) {
+    let labels = [951_805_815, 951_868_800];
+    match fields(rt.alloc(), &labels, Field::Month) {
+        Ok(values) => assert!(rt; values.as_slice() == [2, 3].as_slice()),
+        Err(_) => assert!(rt; false),
+    }
+    match fields(rt.alloc(), &labels, Field::DayOfYear) {
+        Ok(values) => assert!(rt; values.as_slice() == [60, 61].as_slice()),
+        Err(_) => assert!(rt; false),
+    }
+    match fields(rt.alloc(), &labels, Field::Hour) {
+        Ok(values) => assert!(rt; values.as_slice() == [6, 0].as_slice()),
+        Err(_) => assert!(rt; false),
+    }
 }

@@ -1,5 +1,6 @@
 //! Times as a file counts them.
 ghost use Rattle.std.specs.Prelude.{◌≡◌, ◌&&◌, ◌||◌, pos, IfSome, Some, None, if◌then◌else◌};
+ghost use Rattle.cf_time.specs.Units.{units};
 ghost use Rattle.xr_defs.specs.Times.{IsTime, unit_seconds, is_time, is_gregorian, decoded};
 
 use xr_types::{TimeUnit, Units};
@@ -46,4 +47,18 @@ pub fn decode(units: &Units, count: i128) -> Option<i64>
         return None;
     };
     bounded(units.early, time)
+}
+
+/// Units from a reference, if the calendar reads it: one before 1582-10-15 only where early times are read.
+pub fn units_with(unit: TimeUnit, reference: i64, early: bool) -> Option<Units>
+    ensures { result ≡ units unit reference early }
+{
+    if !early && reference < -12_219_292_800 {
+        return None;
+    }
+    Some(Units {
+        unit,
+        reference,
+        early,
+    })
 }

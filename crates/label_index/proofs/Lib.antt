@@ -5,3 +5,4 @@ pub mod Permuting
 pub mod Finding
 pub mod Cutting
 pub mod Nearing
+pub mod Guessing

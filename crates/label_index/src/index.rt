@@ -6,23 +6,25 @@ ghost use Rattle.xr_defs.specs.Labels.{labels_of, repeats, direction_of, find_of
 ghost use Rattle.label_index.specs.Ranks.{IsRanked};
 
 use crate::rank::Ranks;
-use crate::{between, label, near, rank, scan, search};
+use crate::{between, guess, label, near, rank, scan, search};
 use std::alloc::Global;
 use std::marker::Model;
 use xr_defs::{Direction, Near, Span};
 use xr_types::{Axis, Fault, Label, LabelList, NoMemory};
 
 /// An axis's labels, ready for look-ups. It holds the axis and, where the labels neither ascend nor descend,
-/// the positions in the order of their labels.
+/// the positions in the order of their labels, four bytes each.
 #[derive(Drop)]
 pub struct Index<'a> {
     list: &'a LabelList,
     ranks: Ranks,
     is_unique: bool,
+    // the mean step of labels that ascend and of which none stands twice, or 0
+    step: u64,
 }
 
 impl<'a> Model for Index<'a> {
-    ghost use Rattle.std.specs.Prelude.{◌≡◌, not};
+    ghost use Rattle.std.specs.Prelude.{◌≡◌, ◌<◌, false, not};
     ghost use Rattle.xr_types.specs.declared.axis.LabelList.{LabelList};
     ghost use Rattle.xr_defs.specs.Labels.{labels_of, repeats};
     ghost use Rattle.label_index.specs.Ranks.{IsRanked};
@@ -31,7 +33,7 @@ impl<'a> Model for Index<'a> {
 
     ghost view = { λ i. i.list.now };
 
-    ghost invariant = { λ i. IsRanked (labels_of i.list.now) i.ranks × (i.is_unique ≡ not (repeats (labels_of i.list.now))) };
+    ghost invariant = { λ i. IsRanked (labels_of i.list.now) i.ranks × (i.is_unique ≡ not (repeats (labels_of i.list.now))) × (0 < i.step → repeats (labels_of i.list.now) ≡ false) };
 }
 
 impl<'a> Index<'a> {
@@ -47,10 +49,16 @@ impl<'a> Index<'a> {
         };
         let ranks = scan::rank_all(alloc, list)?;
         let is_unique = search::is_distinct(list, &ranks);
+        let step = if is_unique {
+            guess::step_of(list, &ranks)
+        } else {
+            0
+        };
         Ok(Index {
             list,
             ranks,
             is_unique,
+            step,
         })
     }
 
@@ -61,6 +69,9 @@ impl<'a> Index<'a> {
     {
         if !label::is_kin(self.list, label) {
             return Err(Fault::LabelKind);
+        }
+        if let Some(at) = guess::find(self.list, self.step, label) {
+            return Ok(at);
         }
         search::find(self.list, &self.ranks, label)
     }

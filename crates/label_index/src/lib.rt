@@ -2,6 +2,7 @@
 #![tactic(auto)]
 
 mod between;
+mod guess;
 mod index;
 mod label;
 mod near;

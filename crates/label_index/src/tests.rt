@@ -5,7 +5,9 @@ use crate::index::Index;
 use std::alloc::{AllocError, Global};
 use std::test::Fail;
 use xr_defs::{Direction, Near, Span};
-use xr_types::{Axis, DType, Fault, Items, Label, LabelList, Labels, TextBytes};
+use xr_types::{
+    Axis, DType, Fault, Items, Label, LabelList, Labels, TextBytes, TimeCoding, TimeUnit, Units,
+};
 
 /// An axis `x` with these numbers.
 fn axis(alloc: Global, numbers: &[i64]) -> Result<Axis, AllocError>
@@ -20,6 +22,32 @@ fn axis(alloc: Global, numbers: &[i64]) -> Result<Axis, AllocError>
     Ok(Axis {
         name: TextBytes::from_str(alloc, "x")?,
         size: numbers.len() as u64,
+        labels: Some(labels),
+    })
+}
+
+/// An axis `time` with these times, as days since 2000-01-01.
+fn times(alloc: Global, times: &[i64]) -> Result<Axis, AllocError>
+    requires { length times.now ≤ 10 }
+    ensures labelled { IfOk result IsLabelled }
+    ensures size { IfOk result (λ a. a.size ≤ 10) }
+{
+    let coding = TimeCoding {
+        units: Units {
+            unit: TimeUnit::Days,
+            reference: 946_684_800,
+            early: false,
+        },
+        units_text: TextBytes::from_str(alloc, "days since 2000-01-01")?,
+        calendar_text: None,
+    };
+    let labels = Labels {
+        list: LabelList::Times(coding, Items::from_slice(alloc, times)?),
+        attrs: Items::new(alloc),
+    };
+    Ok(Axis {
+        name: TextBytes::from_str(alloc, "time")?,
+        size: times.len() as u64,
         labels: Some(labels),
     })
 }
@@ -99,5 +127,41 @@ fn ascending(rt: HostRuntime) -> Result<(), Fail> {
         said(index.find(&Label::Text(TextBytes::from_str(rt.alloc(), "15")?))),
         Err(10)
     );
+    Ok(())
+}
+
+// The days 0, 10, 31 and 366 since 2000-01-01, and ends of periods, by Python's datetime:
+// (datetime(2000, 2, 29, 23, 59, 59) - datetime(1970, 1, 1)).total_seconds()
+#[test]
+fn dates(rt: HostRuntime) -> Result<(), Fail> {
+    let axis = times(
+        rt.alloc(),
+        &[946_684_800, 947_548_800, 949_363_200, 978_307_200],
+    )?;
+    let index = Index::of(rt.alloc(), &axis).ok().ok_or("memory")?;
+    let (from, to) = (Label::Time(946_684_800), Label::Time(951_868_799));
+    assert_eq!(rt; run(index.slice(Some(&from), Some(&to))), Ok((0, 3)));
+    assert_eq!(rt; said(index.find(&Label::Time(947_548_800))), Ok(1));
+    assert_eq!(rt; said(index.find(&Label::Int(3))), Err(10));
+    let near = Label::Time(947_030_400);
+    assert_eq!(rt;
+        said(index.find_near(&near, Near::Nearest, Some(345_600))),
+        Ok(0)
+    );
+    assert_eq!(rt;
+        said(index.find_near(&near, Near::Nearest, Some(345_599))),
+        Err(6)
+    );
+    Ok(())
+}
+
+#[test]
+fn evenly_spaced(rt: HostRuntime) -> Result<(), Fail> {
+    let axis = axis(rt.alloc(), &[-6, -3, 0, 3, 6])?;
+    let index = Index::of(rt.alloc(), &axis).ok().ok_or("memory")?;
+    assert_eq!(rt; said(index.find(&Label::Int(-6))), Ok(0));
+    assert_eq!(rt; said(index.find(&Label::Int(3))), Ok(3));
+    assert_eq!(rt; said(index.find(&Label::Int(4))), Err(6));
+    assert_eq!(rt; said(index.find(&Label::Int(-9))), Err(6));
     Ok(())
 }

@@ -1,0 +1,6 @@
+use Rattle.std.proofs.Common.{◌≡◌, drop}
+use Rattle.cf_time.specs.Bins.{rises_from}
+use Rattle.cf_time.proofs.binning.rises_from.Given as goal
+
+abbrev pub invariant-loop-label : goal.invariant-loop-label
+invariant-loop-label l = rises_from l.last (drop l.label-index l.labels) ≡ rises_from l.fn.before l.fn.labels

@@ -1,0 +1,6 @@
+use Rattle.std.proofs.Common.{◌≡◌, drop}
+use Rattle.cf_time.specs.Counts.{are_counts}
+use Rattle.cf_time.proofs.counts.are_counts.Given as goal
+
+abbrev pub invariant-loop-label : goal.invariant-loop-label
+invariant-loop-label l = are_counts l.unit l.reference (drop l.label-index l.labels) ≡ are_counts l.unit l.reference l.labels
