@@ -1,11 +1,13 @@
 //! A file without its values.
-ghost use Rattle.std.specs.Prelude.{◌≡◌, take, drop, false};
-ghost use Rattle.xr_defs.specs.Files.{head_size, is_record_var};
+ghost use Rattle.std.specs.Prelude.{◌≡◌, ◌≤◌, length, take, drop, false, IfOk};
+ghost use Rattle.xr_defs.specs.Files.{most_bytes, head_size, is_record_var};
 ghost use Rattle.cdf_reader.specs.Heads.{var_seen};
 
-use crate::data::fixed_values;
+use crate::data::{Places, fixed_values, raw_at};
+use crate::sizes::distance_of;
+use std::alloc::{AllocError, Global};
 use xr_defs::{CdfDim, VarHead};
-use xr_types::{Attr, Items};
+use xr_types::{Attr, ByteList, Items};
 
 /// What the header of a file lists. `numrecs` is the number of records; of a streamed file, those that lie in it.
 #[derive(Drop)]
@@ -24,4 +26,23 @@ pub fn values_at<'a>(bytes: &'a [u8], head: &FileHead, var: &VarHead) -> &'a [u8
     ensures fixed { is_record_var head.now.dims var.now.dims ≡ false → result.now ≡ (var_seen bytes.now head.now var.now).raw }
 {
     fixed_values(bytes, head.dims.as_slice(), var)
+}
+
+/// The values of a variable in new memory, a record variable's record by record.
+pub fn copied_values(
+    alloc: Global,
+    bytes: &[u8],
+    head: &FileHead,
+    var: &VarHead,
+) -> Result<ByteList, AllocError>
+    requires { length bytes.now ≤ most_bytes }
+    ensures { IfOk result (λ raw. raw ≡ (var_seen bytes.now head.now var.now).raw) }
+{
+    let dims = head.dims.as_slice();
+    let places = Places {
+        dims,
+        numrecs: head.numrecs,
+        distance: distance_of(dims, head.vars.as_slice()),
+    };
+    raw_at(alloc, places, bytes, var)
 }

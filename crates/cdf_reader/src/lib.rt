@@ -21,7 +21,7 @@ mod variables;
 pub use cells::Numbers;
 pub use decode::{numbers, numbers_in, sum_of_ints};
 pub use fault::CdfFault;
-pub use heads::{FileHead, values_at};
+pub use heads::{FileHead, copied_values, values_at};
 pub use laws::{most_records, one_answer};
 pub use reading::{read, read_head};
 pub use sizes::is_record;
