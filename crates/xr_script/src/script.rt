@@ -1,0 +1,26 @@
+//! Scripts from their text.
+ghost use Rattle.std.specs.Prelude.{◌≡◌, IfOk, Err};
+ghost use Rattle.xr_types.specs.declared.status.ScriptFault.{ScriptFault as Fault};
+ghost use Rattle.xr_defs.specs.Scripts.{IsScriptText, IsFirstFault};
+ghost use Rattle.xr_script.specs.declared.fault.ParseFault.TheVariants.{Script as of_script};
+ghost use Rattle.xr_script.specs.Progress.{lines_of};
+
+use crate::fault::ParseFault;
+use crate::walk::parse_tokens;
+use std::alloc::Global;
+use xr_defs::Script;
+use xr_tokens::{scan, text_of};
+
+/// The script that a text is, or the first fault of a text that is none. Want of memory alone is free.
+pub fn parse(alloc: Global, bytes: &[u8]) -> Result<Script, ParseFault>
+    ensures script { IfOk result (λ s. IsScriptText bytes.now (lines_of s.statements.items)) }
+    ensures fault { (f : Fault) → result ≡ Err (of_script f) → IsFirstFault bytes.now f }
+{
+    match text_of(bytes) {
+        Ok(text) => {
+            let scan = scan(alloc, text)?;
+            parse_tokens(alloc, &scan)
+        }
+        Err(fault) => Err(ParseFault::Script(fault)),
+    }
+}

@@ -1,0 +1,286 @@
+//! Operators and signs that wait for an operand.
+ghost use Rattle.std.specs.Prelude.{◌≡◌, IfOk, MatchResult, Some, None, Err, reverse};
+ghost use Rattle.xr_defs.specs.Syntax.{tree_of};
+ghost use Rattle.xr_grammar.specs.Machine.{fresh, empty, joined, signed, folded, put, whole as whole_of, with_sign as one_more, join as join_of, compare as compare_of, Need, go, Around as m_around};
+ghost use Rattle.xr_defs.specs.Grammar.{unary, term, sum as a_sum, bitand, bitxor, bitor};
+ghost use Rattle.xr_script.specs.Terminals.{rank_of};
+ghost use Rattle.xr_script.specs.States.{slot_of, levels_of, wait_of};
+
+use crate::state::{Levels, Slot, Stop, Wait};
+use crate::terminal::Level;
+use std::alloc::{AllocError, Global};
+use xr_defs::{Expr, OpKind};
+use xr_tree::{binary, unary as signed_by};
+
+fn no_levels() -> Levels
+    ensures { levels_of result ≡ empty bitor }
+{
+    Levels {
+        bit_or: None,
+        bit_xor: None,
+        bit_and: None,
+        sum: None,
+        product: None,
+    }
+}
+
+/// Nothing waits.
+pub fn nothing(alloc: Global) -> Wait
+    ensures { wait_of result ≡ fresh }
+{
+    Wait {
+        compare: None,
+        levels: no_levels(),
+        signs: Vec::new(alloc),
+    }
+}
+
+/// One sign more.
+#[tactic(auto, using(crate::proofs::Steps::reverse_more))]
+pub fn with_sign(mut wait: Wait, op: OpKind) -> Result<Wait, AllocError>
+    ensures { IfOk result (λ w. wait_of w ≡ one_more op (wait_of wait)) }
+{
+    wait.signs.push(op)?;
+    Ok(wait)
+}
+
+/// An operand with the signs before it.
+#[tactic(auto, using(crate::proofs::Steps::reverse_more))]
+fn with_signs(alloc: Global, mut signs: Vec<OpKind>, e: Expr) -> Result<Expr, AllocError>
+    ensures { IfOk result (λ r. tree_of r ≡ signed (reverse signs.items) (tree_of e)) }
+{
+    let mut e = e;
+    while let Some(op) = signs.pop() {
+        e = signed_by(alloc, op, e)?;
+    }
+    Ok(e)
+}
+
+/// An operand as the right side of an operator.
+fn joined_to(alloc: Global, slot: Slot, e: Expr) -> Result<Expr, AllocError>
+    ensures { IfOk result (λ r. tree_of r ≡ joined (slot_of slot) (tree_of e)) }
+{
+    match slot {
+        None => Ok(e),
+        Some((op, a)) => binary(alloc, op, a, e),
+    }
+}
+
+/// An operand as the left side of an operator.
+fn left_side(alloc: Global, op: OpKind, e: Expr) -> Result<Slot, AllocError>
+    ensures { IfOk result (λ s. slot_of s ≡ Some (op, tree_of e)) }
+{
+    Ok(Some((op, Box::new(alloc, e)?)))
+}
+
+/// An operand with the operators of all levels.
+fn with_levels(alloc: Global, levels: Levels, e: Expr) -> Result<Expr, AllocError>
+    ensures { IfOk result (λ r. tree_of r ≡ folded (levels_of levels) (tree_of e)) }
+{
+    let Levels {
+        bit_or,
+        bit_xor,
+        bit_and,
+        sum,
+        product,
+    } = levels;
+    let e = joined_to(alloc, product, e)?;
+    let e = joined_to(alloc, sum, e)?;
+    let e = joined_to(alloc, bit_and, e)?;
+    let e = joined_to(alloc, bit_xor, e)?;
+    joined_to(alloc, bit_or, e)
+}
+
+/// The expression that ends with an operand.
+#[tactic(auto, unfolding(xr_grammar::specs::Machine::whole))]
+pub fn finish(alloc: Global, wait: Wait, e: Expr) -> Result<Expr, AllocError>
+    ensures { IfOk result (λ r. tree_of r ≡ whole_of (wait_of wait) (tree_of e)) }
+{
+    let Wait {
+        compare,
+        levels,
+        signs,
+    } = wait;
+    let e = with_signs(alloc, signs, e)?;
+    let e = with_levels(alloc, levels, e)?;
+    joined_to(alloc, compare, e)
+}
+
+fn put_product(alloc: Global, levels: Levels, e: Expr, op: OpKind) -> Result<Levels, AllocError>
+    ensures { IfOk result (λ l. put unary op (levels_of levels) (tree_of e) ≡ Some (levels_of l)) }
+{
+    let Levels {
+        bit_or,
+        bit_xor,
+        bit_and,
+        sum,
+        product,
+    } = levels;
+    let e = joined_to(alloc, product, e)?;
+    Ok(Levels {
+        bit_or,
+        bit_xor,
+        bit_and,
+        sum,
+        product: left_side(alloc, op, e)?,
+    })
+}
+
+fn put_sum(alloc: Global, levels: Levels, e: Expr, op: OpKind) -> Result<Levels, AllocError>
+    ensures { IfOk result (λ l. put term op (levels_of levels) (tree_of e) ≡ Some (levels_of l)) }
+{
+    let Levels {
+        bit_or,
+        bit_xor,
+        bit_and,
+        sum,
+        product,
+    } = levels;
+    let e = joined_to(alloc, product, e)?;
+    let e = joined_to(alloc, sum, e)?;
+    Ok(Levels {
+        bit_or,
+        bit_xor,
+        bit_and,
+        sum: left_side(alloc, op, e)?,
+        product: None,
+    })
+}
+
+fn put_bit_and(alloc: Global, levels: Levels, e: Expr, op: OpKind) -> Result<Levels, AllocError>
+    ensures { IfOk result (λ l. put a_sum op (levels_of levels) (tree_of e) ≡ Some (levels_of l)) }
+{
+    let Levels {
+        bit_or,
+        bit_xor,
+        bit_and,
+        sum,
+        product,
+    } = levels;
+    let e = joined_to(alloc, product, e)?;
+    let e = joined_to(alloc, sum, e)?;
+    let e = joined_to(alloc, bit_and, e)?;
+    Ok(Levels {
+        bit_or,
+        bit_xor,
+        bit_and: left_side(alloc, op, e)?,
+        sum: None,
+        product: None,
+    })
+}
+
+fn put_bit_xor(alloc: Global, levels: Levels, e: Expr, op: OpKind) -> Result<Levels, AllocError>
+    ensures { IfOk result (λ l. put bitand op (levels_of levels) (tree_of e) ≡ Some (levels_of l)) }
+{
+    let Levels {
+        bit_or,
+        bit_xor,
+        bit_and,
+        sum,
+        product,
+    } = levels;
+    let e = joined_to(alloc, product, e)?;
+    let e = joined_to(alloc, sum, e)?;
+    let e = joined_to(alloc, bit_and, e)?;
+    let e = joined_to(alloc, bit_xor, e)?;
+    Ok(Levels {
+        bit_or,
+        bit_xor: left_side(alloc, op, e)?,
+        bit_and: None,
+        sum: None,
+        product: None,
+    })
+}
+
+fn put_bit_or(alloc: Global, levels: Levels, e: Expr, op: OpKind) -> Result<Levels, AllocError>
+    ensures { IfOk result (λ l. put bitxor op (levels_of levels) (tree_of e) ≡ Some (levels_of l)) }
+{
+    let Levels {
+        bit_or,
+        bit_xor,
+        bit_and,
+        sum,
+        product,
+    } = levels;
+    let e = joined_to(alloc, product, e)?;
+    let e = joined_to(alloc, sum, e)?;
+    let e = joined_to(alloc, bit_and, e)?;
+    let e = joined_to(alloc, bit_xor, e)?;
+    let e = joined_to(alloc, bit_or, e)?;
+    Ok(Levels {
+        bit_or: left_side(alloc, op, e)?,
+        bit_xor: None,
+        bit_and: None,
+        sum: None,
+        product: None,
+    })
+}
+
+/// An operand as the left side of an operator of a level.
+fn put_at(
+    alloc: Global,
+    levels: Levels,
+    e: Expr,
+    level: Level,
+    op: OpKind,
+) -> Result<Levels, AllocError>
+    ensures { IfOk result (λ l. put (rank_of level) op (levels_of levels) (tree_of e) ≡ Some (levels_of l)) }
+{
+    match level {
+        Level::Product => put_product(alloc, levels, e, op),
+        Level::Sum => put_sum(alloc, levels, e, op),
+        Level::BitAnd => put_bit_and(alloc, levels, e, op),
+        Level::BitXor => put_bit_xor(alloc, levels, e, op),
+        Level::BitOr => put_bit_or(alloc, levels, e, op),
+    }
+}
+
+/// An operand as the left side of an operator of a level.
+#[tactic(auto, unfolding(xr_grammar::specs::Machine::join))]
+pub fn join(
+    alloc: Global,
+    wait: Wait,
+    e: Expr,
+    level: Level,
+    op: OpKind,
+) -> Result<Wait, AllocError>
+    ensures { IfOk result (λ w. (u : m_around) → join_of (wait_of wait) u (tree_of e) (rank_of level) op ≡ go (Need (wait_of w) u)) }
+{
+    let Wait {
+        compare,
+        levels,
+        signs,
+    } = wait;
+    let e = with_signs(alloc, signs, e)?;
+    let levels = put_at(alloc, levels, e, level, op)?;
+    Ok(Wait {
+        compare,
+        levels,
+        signs: Vec::new(alloc),
+    })
+}
+
+/// An operand as the left side of a comparison, of which an expression has one at most.
+#[tactic(auto, unfolding(xr_grammar::specs::Machine::compare))]
+pub fn compare(alloc: Global, wait: Wait, e: Expr, op: OpKind) -> Result<Wait, Stop>
+    ensures ok { IfOk result (λ w. (u : m_around) → compare_of (wait_of wait) u (tree_of e) op ≡ go (Need (wait_of w) u)) }
+    ensures err { result ≡ Err Stop.Syntax → (u : m_around) → compare_of (wait_of wait) u (tree_of e) op ≡ None }
+{
+    let Wait {
+        compare,
+        levels,
+        signs,
+    } = wait;
+    match compare {
+        Some(_) => Err(Stop::Syntax),
+        None => {
+            let e = with_signs(alloc, signs, e)?;
+            let e = with_levels(alloc, levels, e)?;
+            Ok(Wait {
+                compare: left_side(alloc, op, e)?,
+                levels: no_levels(),
+                signs: Vec::new(alloc),
+            })
+        }
+    }
+}
