@@ -76,6 +76,28 @@ JOBS = [
         ],
         "whole": [("xarray, whole", "xarray", 'import xarray\nprint(int(xarray.open_dataset("v.nc")["v"].sum()))')],
     },
+    {
+        "name": "open and write 2^25 ints",
+        "cells": 1 << 25,
+        "script": 'o = open_dataset("v.nc")["v"]\no.to_netcdf("w.nc")\n',
+        "peers": [
+            ("xarray with scipy, in process", "xarray, scipy", TIMED.format(
+                before="import xarray, scipy.io",
+                code='d = xarray.open_dataset("v.nc", engine="scipy").load()\nd.to_netcdf("x.nc", engine="scipy")')),
+        ],
+        "whole": [],
+    },
+    {
+        "name": "print 10 million cells",
+        "cells": 10_000_000,
+        "script": 'o = open_dataset("v.nc")["v"]\nprint(o)\n',
+        "peers": [
+            ("python, ' '.join, in process", "numpy", TIMED.format(
+                before='import numpy as np, os\nout = open(os.devnull, "w")',
+                code='a = np.fromfile("v.nc", ">i4", offset=80)\nout.write(" ".join(map(str, a.tolist())))')),
+        ],
+        "whole": [],
+    },
 ]
 
 

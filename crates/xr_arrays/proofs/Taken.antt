@@ -1,18 +1,21 @@
 -- What is copied from a list in row order is the array at the positions.
-use Rattle.std.proofs.Common.{◌≡◌, ◌<◌, ◌≤◌, ◌+◌, ◌-◌, ◌*◌, ◌^◌, ℕ, ℤ, false, zero, suc, List, [], ◌∷◌, ◌++◌, length, map, take, drop, set, get_or, min, Option, Some, None, refl, sym, ap, subst, ◌∙◌, arith, append_assoc, add-one, length-drop}
+use Rattle.std.proofs.Common.{pos, ◌≡◌, ◌<◌, ◌≤◌, ◌+◌, ◌-◌, ◌*◌, ◌^◌, ℕ, ℤ, zero, suc, List, [], ◌∷◌, ◌++◌, length, map, take, drop, set, get_or, min, Option, Some, None, refl, sym, ap, subst, ◌∙◌, arith, append_assoc, add-one, length-drop}
 use Rattle.std.specs.List.{All, flat_map, range_with_len}
 use Rattle.std.proofs.lemmas.List.{take-append-le, drop-append-le, take_all, append-nil, map-append}
 use Rattle.std.proofs.lemmas.List.Elements.{All-head, All-tail, All-weaker}
+use Rattle.xr_defs.specs.Canonical.{are_distinct}
 use Rattle.xr_types.specs.declared.axis.Axis.{Axis}
-use Rattle.xr_types.specs.declared.kind.DType.TheVariants.{Int32}
 use Rattle.xr_defs.specs.Points.{size, tab, place}
-use Rattle.xr_defs.specs.Values.{DataArray, shape_over, no_axis, chosen_axes, chosen_axis, taken}
-use Rattle.xr_arrays.specs.declared.axis.IntAxis.{IntAxis}
-use Rattle.xr_arrays.specs.Held.{axis_of, sizes, array_seen}
+use Rattle.xr_defs.specs.Values.{DataArray, shape_over, no_axis, chosen, chosen_axes, chosen_axis, taken}
+use Rattle.xr_arrays.specs.declared.axis.HeldAxis.{HeldAxis}
+use Rattle.xr_arrays.specs.declared.axis.Numbers.{Numbers}
+use Rattle.xr_arrays.specs.Numbers.{width_of, number_as, numbers_as}
+use Rattle.xr_arrays.specs.Held.{axis_of, sizes, names, numbers_in, array_seen, AreMany, IsHeld, IsHeldAxis}
 use Rattle.xr_arrays.specs.Takes.{part, parts, each_block, copied}
-use Rattle.xr_arrays.proofs.Opened.{sizes_seen}
+use Rattle.xr_arrays.proofs.Seen.{sizes_seen, take-some, drop-some, some-length, sizes-length, seen-length, names_seen}
+use Rattle.xr_arrays.proofs.Rows.{each, numbers_are, numbers-length, copied_numbers, copied-length, copied_chosen, outer_times}
+use Rattle.xr_arrays.proofs.Products.{saturates}
 use Rattle.xr_arrays.proofs.Tabs.{tab_row, tab-length, flat_same, tab_read, within}
-use Rattle.xr_arrays.proofs.Joined.{take-some, drop-some, some-length}
 
 flat_agree : {A X : Type 0} (P : A → Type 0) (f g : A → List X) (items : List A) → All P items → ((a : A) → P a → f a ≡ g a) → flat_map f items ≡ flat_map g items
 flat_agree P f g [] all h = refl
@@ -102,36 +105,28 @@ copied_is s k ps cells long lt inside =
     ∙ ap (copied (size (take k s)) (get_or s k 0) (size (drop (suc k) s)) ps) (sym (tab_read s (map Some cells) None (some-length cells ∙ long)))
     ∙ taken_tab s k f ps lt inside
 
-pub sizes-length : (axes : List IntAxis) → length (sizes axes) ≡ length axes
-sizes-length [] = refl
-sizes-length (x ∷ axes) = ap suc (sizes-length axes)
-
-seen-length : (axes : List IntAxis) → length (map axis_of axes) ≡ length axes
-seen-length [] = refl
-seen-length (x ∷ axes) = ap suc (seen-length axes)
-
-pub size_at : (axes : List IntAxis) (k : ℕ) → (get_or (map axis_of axes) k no_axis).size ≡ get_or (sizes axes) k 0
+pub size_at : (axes : List HeldAxis) (k : ℕ) → (get_or (map axis_of axes) k no_axis).size ≡ get_or (sizes axes) k 0
 size_at [] k = refl
 size_at (x ∷ axes) zero = refl
 size_at (x ∷ axes) (suc k) = size_at axes k
 
-pub size_held : (axes : List IntAxis) (k : ℕ) (x : IntAxis) → k < length axes → x ≡ get_or axes k x → x.size ≡ get_or (sizes axes) k 0
+pub size_held : (axes : List HeldAxis) (k : ℕ) (x : HeldAxis) → k < length axes → x ≡ get_or axes k x → x.size ≡ get_or (sizes axes) k 0
 size_held [] k x lt is = absurd (omega arith)
-size_held (y ∷ axes) zero x lt is = ap (λ (z : IntAxis). z.size) is
+size_held (y ∷ axes) zero x lt is = ap (λ (z : HeldAxis). z.size) is
 size_held (y ∷ axes) (suc k) x lt is = size_held axes k x (omega arith) is
 
-seen_at : (axes : List IntAxis) (k : ℕ) (x : IntAxis) → k < length axes → x ≡ get_or axes k x → axis_of x ≡ get_or (map axis_of axes) k no_axis
+pub seen_at : (axes : List HeldAxis) (k : ℕ) (x : HeldAxis) → k < length axes → x ≡ get_or axes k x → axis_of x ≡ get_or (map axis_of axes) k no_axis
 seen_at [] k x lt is = absurd (omega arith)
 seen_at (y ∷ axes) zero x lt is = ap axis_of is
 seen_at (y ∷ axes) (suc k) x lt is = seen_at axes k x (omega arith) is
 
-seen_set : (axes : List IntAxis) (k : ℕ) (x : IntAxis) → map axis_of (set axes k x) ≡ set (map axis_of axes) k (axis_of x)
+seen_set : (axes : List HeldAxis) (k : ℕ) (x : HeldAxis) → map axis_of (set axes k x) ≡ set (map axis_of axes) k (axis_of x)
 seen_set [] k x = refl
 seen_set (y ∷ axes) zero x = refl
 seen_set (y ∷ axes) (suc k) x = ap (λ t. axis_of y ∷ t) (seen_set axes k x)
 
 -- an axis is put in place of an old one
-pub axes_taken : (axes more : List IntAxis) (k : ℕ) (x y : IntAxis) (ps : List ℕ) → k < length axes → x ≡ get_or axes k x → axis_of y ≡ chosen_axis (axis_of x) ps → more ≡ set axes k y → map axis_of more ≡ chosen_axes (map axis_of axes) k ps
+pub axes_taken : (axes more : List HeldAxis) (k : ℕ) (x y : HeldAxis) (ps : List ℕ) → k < length axes → x ≡ get_or axes k x → axis_of y ≡ chosen_axis (axis_of x) ps → more ≡ set axes k y → map axis_of more ≡ chosen_axes (map axis_of axes) k ps
 axes_taken axes more k x y ps lt is is_y is_more =
     ap (map axis_of) is_more ∙ seen_set axes k y ∙ ap (set (map axis_of axes) k) (is_y ∙ ap (λ z. chosen_axis z ps) (seen_at axes k x lt is))
 
@@ -140,20 +135,85 @@ sizes_set [] k x = refl
 sizes_set (y ∷ axes) zero x = refl
 sizes_set (y ∷ axes) (suc k) x = ap (λ t. y.size ∷ t) (sizes_set axes k x)
 
-new_sizes : (axes more : List IntAxis) (k : ℕ) (ps : List ℕ) → map axis_of more ≡ chosen_axes (map axis_of axes) k ps → sizes more ≡ set (sizes axes) k (length ps)
+new_sizes : (axes more : List HeldAxis) (k : ℕ) (ps : List ℕ) → map axis_of more ≡ chosen_axes (map axis_of axes) k ps → sizes more ≡ set (sizes axes) k (length ps)
 new_sizes axes more k ps is = sizes_seen more ∙ ap shape_over is ∙ sizes_set (map axis_of axes) k (chosen_axis (get_or (map axis_of axes) k no_axis) ps) ∙ ap (λ s. set s k (length ps)) (sym (sizes_seen axes))
 
--- the array that the code makes, and that it is whole
-pub take_is : (name : List ℕ) (axes more : List IntAxis) (k : ℕ) (ps : List ℕ) (cells new : List ℤ) → length cells ≡ size (sizes axes) → k < length axes → All (λ p. p < get_or (sizes axes) k 0) ps → map axis_of more ≡ chosen_axes (map axis_of axes) k ps
-    → new ≡ copied (size (take k (sizes axes))) (get_or (sizes axes) k 0) (size (drop (suc k) (sizes axes))) ps cells → (array_seen name more new ≡ taken (array_seen name axes cells) k ps) × (length new ≡ size (sizes more))
-take_is name axes more k ps cells new long lt inside is_more is_new =
-    let under : k < length (sizes axes) = let e = sizes-length axes in omega arith in
-    let cell : List ℕ → List ℕ → Option ℤ = λ s p. get_or (map Some cells) (place s (set p k (get_or ps (get_or p k 0) 0))) None in
-    let made : map Some new ≡ tab (set (sizes axes) k (length ps)) (cell (sizes axes)) = ap (map Some) is_new ∙ copied_is (sizes axes) k ps cells long under inside in
-    let seen : List Axis → List (Option ℤ) → DataArray = λ xs cs. record { name = Some name; axes = xs; kind = Int32; masked = false; attrs = []; coords = []; cells = cs } in (
-      ap (λ xs. seen xs (map Some new)) is_more ∙ ap (seen (chosen_axes (map axis_of axes) k ps)) (made ∙ ap (λ s. tab (set s k (length ps)) (cell s)) (sizes_seen axes)),
-      sym (some-length new) ∙ ap length made ∙ tab-length (set (sizes axes) k (length ps)) (cell (sizes axes)) ∙ ap size (sym (new_sizes axes more k ps is_more)),
+names_set : (axes : List Axis) (k : ℕ) (x : Axis) → x.name ≡ (get_or axes k no_axis).name → map (λ (y : Axis). y.name) (set axes k x) ≡ map (λ (y : Axis). y.name) axes
+names_set [] k x e = refl
+names_set (y ∷ axes) zero x e = ap (λ t. t ∷ map (λ (z : Axis). z.name) axes) e
+names_set (y ∷ axes) (suc k) x e = ap (λ t. y.name ∷ t) (names_set axes k x e)
+
+-- positions of an axis leave the names
+same_names : (axes more : List HeldAxis) (k : ℕ) (ps : List ℕ) → map axis_of more ≡ chosen_axes (map axis_of axes) k ps → names more ≡ names axes
+same_names axes more k ps is =
+    names_seen more ∙ ap (map (λ (y : Axis). y.name)) is ∙ names_set (map axis_of axes) k (chosen_axis (get_or (map axis_of axes) k no_axis) ps) refl ∙ sym (names_seen axes)
+
+names-length : (axes : List HeldAxis) → length (names axes) ≡ length axes
+names-length [] = refl
+names-length (x ∷ axes) = ap suc (names-length axes)
+
+-- the array that the code makes, and that it is one
+pub take_is : (name : List ℕ) (axes more : List HeldAxis) (k : ℕ) (ps : List ℕ) (cells : Numbers) (raw : List ℕ) → IsHeld name axes cells → k < length axes → All (λ p. p < get_or (sizes axes) k 0) ps → map axis_of more ≡ chosen_axes (map axis_of axes) k ps → All IsHeldAxis more
+    → raw ≡ copied (size (take k (sizes axes))) (get_or (sizes axes) k 0) (size (drop (suc k) (sizes axes)) * width_of cells.kind) ps cells.raw
+    → (array_seen name more (record { kind = cells.kind; raw = raw }) ≡ taken (array_seen name axes cells) k ps) × IsHeld name more (record { kind = cells.kind; raw = raw })
+take_is name axes more k ps cells raw held lt inside is_more good is_raw =
+    let s : List ℕ = sizes axes in
+    let w : ℕ = width_of cells.kind in
+    let a : ℕ = size (take k s) in
+    let m : ℕ = get_or s k 0 in
+    let b : ℕ = size (drop (suc k) s) in
+    let f : List ℕ → ℤ = number_as cells.kind in
+    let under : k < length s = let e = sizes-length axes in omega arith in
+    let count : size s ≡ a * (m * b) = size_split s k under in
+    let old : length cells.raw ≡ (a * (m * b)) * w = held.whole ∙ ap (λ n. n * w) count in
+    let deep : length cells.raw ≡ a * (m * (b * w)) = old ∙ sym (outer_times a m b w) in
+    let long : length raw ≡ (a * (length ps * b)) * w = ap length is_raw ∙ copied-length a m (b * w) ps cells.raw inside deep ∙ outer_times a (length ps) b w in
+    let are : numbers_as cells.kind raw ≡ copied a m b ps (numbers_in cells) =
+    numbers_are cells.kind (a * (length ps * b)) raw long ∙ ap (each f w (a * (length ps * b))) is_raw ∙ copied_numbers f w a m b ps cells.raw inside deep
+    ∙ ap (copied a m b ps) (sym (numbers_are cells.kind (a * (m * b)) cells.raw old)) in
+    let numbers_long : length (numbers_in cells) ≡ size s = numbers-length cells.kind (size s) cells.raw held.whole in
+    let cell : List ℕ → List ℕ → Option ℤ = λ t p. get_or (map Some (numbers_in cells)) (place t (set p k (get_or ps (get_or p k 0) 0))) None in
+    let made : map Some (numbers_as cells.kind raw) ≡ tab (set s k (length ps)) (cell s) = ap (map Some) are ∙ copied_is s k ps (numbers_in cells) numbers_long under inside in
+    let seen : List Axis → List (Option ℤ) → DataArray = λ xs cs. record (array_seen name axes cells) { axes = xs; cells = cs } in
+    let all : a * (length ps * b) ≡ size (sizes more) =
+    sym (numbers-length cells.kind (a * (length ps * b)) raw long) ∙ sym (some-length (numbers_as cells.kind raw)) ∙ ap length made ∙ tab-length (set s k (length ps)) (cell s) ∙ ap size (sym (new_sizes axes more k ps is_more)) in
+    let left : names more ≡ names axes = same_names axes more k ps is_more in (
+      ap (λ xs. seen xs (map Some (numbers_as cells.kind raw))) is_more ∙ ap (seen (chosen_axes (map axis_of axes) k ps)) (made ∙ ap (λ t. tab (set t k (length ps)) (cell t)) (sizes_seen axes)),
+      record {
+        named = held.named;
+        whole = long ∙ ap (λ n. n * w) all;
+        each = good;
+        distinct = ap are_distinct left ∙ held.distinct;
+        few = let e : length more ≡ length axes = sym (names-length more) ∙ ap length left ∙ names-length axes in let f = held.few in omega arith;
+      },
     )
+
+-- ---- labels
+
+one_width : (w : ℕ) → 1 * w ≡ w
+one_width w = grind arith
+
+one_count : (n : ℕ) → 1 * (n * 1) ≡ n
+one_count n = omega arith
+
+one_block_of : (n w : ℕ) → 1 * (n * w) ≡ n * w
+one_block_of n w = grind arith
+
+pub labels-length : (labels : Numbers) (n : ℕ) (ps raw : List ℕ) → AreMany n labels → All (λ p. p < n) ps → raw ≡ copied 1 n (width_of labels.kind) ps labels.raw → length raw ≡ length ps * width_of labels.kind
+labels-length labels n ps raw many inside is =
+    let w : ℕ = width_of labels.kind in
+    ap length is ∙ copied-length 1 n w ps labels.raw inside (many ∙ sym (one_block_of n w)) ∙ one_block_of (length ps) w
+
+pub labels_are : (labels : Numbers) (n : ℕ) (ps raw : List ℕ) → AreMany n labels → All (λ p. p < n) ps → raw ≡ copied 1 n (width_of labels.kind) ps labels.raw → numbers_as labels.kind raw ≡ chosen (pos 0) (numbers_in labels) ps
+labels_are labels n ps raw many inside is =
+    let w : ℕ = width_of labels.kind in
+    let f : List ℕ → ℤ = number_as labels.kind in
+    let deep : length labels.raw ≡ 1 * (n * (1 * w)) = many ∙ sym (one_block_of n w) ∙ ap (λ k. 1 * (n * k)) (sym (one_width w)) in
+    numbers_are labels.kind (length ps) raw (labels-length labels n ps raw many inside is)
+    ∙ ap (λ k. each f w k raw) (sym (one_count (length ps))) ∙ ap (each f w (1 * (length ps * 1))) (is ∙ ap (λ k. copied 1 n k ps labels.raw) (sym (one_width w)))
+    ∙ copied_numbers f w 1 n 1 ps labels.raw inside deep
+    ∙ ap (λ k. copied 1 n 1 ps (each f w k labels.raw)) (one_count n) ∙ ap (copied 1 n 1 ps) (sym (numbers_are labels.kind n labels.raw many))
+    ∙ copied_chosen n ps (numbers_in labels) (numbers-length labels.kind n labels.raw many) inside
 
 -- ---- copying
 
@@ -172,16 +232,24 @@ blocks_end f out whole rest width n i le so_far =
     let k : n - i ≡ 0 = omega arith in
     sym (append-nil out) ∙ ap (λ m. out ++ each_block f width m rest) (sym k) ∙ so_far
 
+-- a row more lies in what is left
+pub row_left : (n i row len : ℕ) → i < n → len ≡ (n - i) * row → (row ≤ len) × (len - row ≡ (n - (i + 1)) * row)
+row_left n i row len lt is =
+    let k : n - i ≡ suc (n - (i + 1)) = omega arith in
+    let rows : suc (n - (i + 1)) * row ≡ row + (n - (i + 1)) * row = grind arith in
+    let both : len ≡ row + (n - (i + 1)) * row = is ∙ ap (λ m. m * row) k ∙ rows in
+    (omega arith, omega arith)
+
 -- ---- no cells
 
-no_cells : List ℤ
+no_cells : List ℕ
 no_cells = []
 
 none_is : [] ≡ no_cells
 unfolding no_cells
 none_is = refl
 
-nothing_before : (xs : List ℤ) → no_cells ++ xs ≡ xs
+nothing_before : (xs : List ℕ) → no_cells ++ xs ≡ xs
 unfolding no_cells
 nothing_before xs = refl
 
@@ -205,7 +273,7 @@ blocks_none width (suc n) row ps =
     ap (λ t. parts row ps t ++ each_block (parts row ps) width n (drop width no_cells)) (take_none width) ∙ ap (λ t. t ++ each_block (parts row ps) width n (drop width no_cells)) (parts_none row ps)
     ∙ nothing_before (each_block (parts row ps) width n (drop width no_cells)) ∙ ap (each_block (parts row ps) width n) (drop_none width) ∙ blocks_none width n row ps
 
-pub copied_none : (outer n row : ℕ) (ps : List ℕ) (cells : List ℤ) → length cells ≡ 0 → [] ≡ copied outer n row ps cells
+pub copied_none : (outer n row : ℕ) (ps cells : List ℕ) → length cells ≡ 0 → [] ≡ copied outer n row ps cells
 copied_none outer n row ps [] e = none_is ∙ sym (ap (each_block (parts row ps) (n * row) outer) none_is ∙ blocks_none (n * row) outer row ps)
 copied_none outer n row ps (c ∷ cells) e = absurd (omega arith)
 
@@ -222,39 +290,45 @@ positive : (a c len : ℕ) → len ≡ a * c → 0 < len → 0 < c
 positive a zero len e lt = absurd (omega arith)
 positive a (suc c) len e lt = omega arith
 
-sizes_take : (axes : List IntAxis) (k : ℕ) → sizes (take k axes) ≡ take k (sizes axes)
+sizes_take : (axes : List HeldAxis) (k : ℕ) → sizes (take k axes) ≡ take k (sizes axes)
 sizes_take axes zero = refl
 sizes_take [] (suc k) = refl
 sizes_take (x ∷ axes) (suc k) = ap (λ t. x.size ∷ t) (sizes_take axes k)
 
-sizes_drop : (axes : List IntAxis) (k : ℕ) → sizes (drop k axes) ≡ drop k (sizes axes)
+sizes_drop : (axes : List HeldAxis) (k : ℕ) → sizes (drop k axes) ≡ drop k (sizes axes)
 sizes_drop axes zero = refl
 sizes_drop [] (suc k) = refl
 sizes_drop (x ∷ axes) (suc k) = sizes_drop axes k
 
--- the counts of cells before, on and behind an axis, where there are cells
-pub record AreCounts (axes : List IntAxis) (k len outer n row : ℕ) : Type 0 where
+-- the counts of bytes before, on and behind an axis, where there are any
+pub record AreCounts (axes : List HeldAxis) (k w len outer n row : ℕ) : Type 0 where
   pub outer_is : outer ≡ size (take k (sizes axes))
   pub n_is : n ≡ get_or (sizes axes) k 0
-  pub row_is : row ≡ size (drop (suc k) (sizes axes))
+  pub row_is : row ≡ size (drop (suc k) (sizes axes)) * w
   pub all : len ≡ outer * (n * row)
   pub fits : n * row ≤ len
 
-pub counts : (axes front behind : List IntAxis) (k len outer n row : ℕ) (x : IntAxis) → len < 2 ^ 64 → 0 < len → len ≡ size (sizes axes) → k < length axes → front ≡ take k axes → behind ≡ drop (k + 1) axes → outer ≡ min (size (sizes front)) (2 ^ 64 - 1) → row ≡ min (size (sizes behind)) (2 ^ 64 - 1)
-    → x ≡ get_or axes k x → n ≡ x.size → AreCounts axes k len outer n row
-counts axes front behind k len outer n row x small some long lt is_front is_behind is_outer is_row is_x is_n =
+grouped : (a m b w : ℕ) → (a * (m * b)) * w ≡ a * (m * (b * w))
+grouped a m b w = grind arith
+
+pub counts : (axes front behind : List HeldAxis) (k w len outer n points row : ℕ) (x : HeldAxis) → len < 2 ^ 64 → 0 < len → len ≡ size (sizes axes) * w → k < length axes → front ≡ take k axes → behind ≡ drop (k + 1) axes → outer ≡ min (size (sizes front)) (2 ^ 64 - 1) → points ≡ min (size (sizes behind)) (2 ^ 64 - 1)
+    → row ≡ min (points * w) (2 ^ 64 - 1) → x ≡ get_or axes k x → n ≡ x.size → AreCounts axes k w len outer n row
+counts axes front behind k w len outer n points row x small some long lt is_front is_behind is_outer is_points is_row is_x is_n =
     let a : ℕ = size (take k (sizes axes)) in
     let m : ℕ = get_or (sizes axes) k 0 in
-    let b : ℕ = size (drop (suc k) (sizes axes)) in
+    let s : ℕ = size (drop (suc k) (sizes axes)) in
+    let b : ℕ = s * w in
     let under : k < length (sizes axes) = let e = sizes-length axes in omega arith in
-    let all : len ≡ a * (m * b) = long ∙ size_split (sizes axes) k under in
+    let all : len ≡ a * (m * b) = long ∙ ap (λ t. t * w) (size_split (sizes axes) k under) ∙ grouped a m s w in
     let one = factors_fit a (m * b) len all some in
     let others : 0 < m * b = positive a (m * b) len all some in
     let two = factors_fit m b (m * b) refl others in
     let e1 : outer ≡ min a (2 ^ 64 - 1) = is_outer ∙ ap (λ t. min (size t) (2 ^ 64 - 1)) (ap sizes is_front ∙ sizes_take axes k) in
-    let e2 : row ≡ min b (2 ^ 64 - 1) = is_row ∙ ap (λ t. min (size t) (2 ^ 64 - 1)) (ap sizes is_behind ∙ sizes_drop axes (k + 1) ∙ ap (λ j. drop j (sizes axes)) (add-one k)) in
+    let e2 : points ≡ min s (2 ^ 64 - 1) = is_points ∙ ap (λ t. min (size t) (2 ^ 64 - 1)) (ap sizes is_behind ∙ sizes_drop axes (k + 1) ∙ ap (λ j. drop j (sizes axes)) (add-one k)) in
+    let swap : (x y : ℕ) → x * y ≡ y * x = λ x y. grind arith in
+    let e3 : row ≡ min b (2 ^ 64 - 1) = is_row ∙ ap (λ t. min (t * w) (2 ^ 64 - 1)) e2 ∙ ap (λ t. min t (2 ^ 64 - 1)) (swap (min s (2 ^ 64 - 1)) w) ∙ saturates w s (2 ^ 64 - 1) ∙ ap (λ t. min t (2 ^ 64 - 1)) (swap w s) in
     let o : outer ≡ a = omega (arith, e1, one.0, small) in
-    let r : row ≡ b = omega (arith, e2, two.1, one.1, small) in
+    let r : row ≡ b = omega (arith, e3, two.1, one.1, small) in
     let c : n ≡ m = is_n ∙ size_held axes k x lt is_x in
     record {
       outer_is = o;
@@ -265,23 +339,28 @@ counts axes front behind k len outer n row x small some long lt is_front is_behi
     }
 
 -- what is copied by the counts is what is meant
-pub copied_by : (axes : List IntAxis) (k len outer n row : ℕ) (ps : List ℕ) (cells : List ℤ) → AreCounts axes k len outer n row → copied outer n row ps cells ≡ copied (size (take k (sizes axes))) (get_or (sizes axes) k 0) (size (drop (suc k) (sizes axes))) ps cells
-copied_by axes k len outer n row ps cells are =
+pub copied_by : (axes : List HeldAxis) (k w len outer n row : ℕ) (ps cells : List ℕ) → AreCounts axes k w len outer n row → copied outer n row ps cells ≡ copied (size (take k (sizes axes))) (get_or (sizes axes) k 0) (size (drop (suc k) (sizes axes)) * w) ps cells
+copied_by axes k w len outer n row ps cells are =
     ap (λ t. copied t n row ps cells) are.outer_is ∙ ap (λ t. copied (size (take k (sizes axes))) t row ps cells) are.n_is ∙ ap (λ t. copied (size (take k (sizes axes))) (get_or (sizes axes) k 0) t ps cells) are.row_is
 
 -- ---- from what the code has at hand
 
-pub inside_held : (a : DataArray) (name : List ℕ) (axes : List IntAxis) (cells : List ℤ) (k : ℕ) (ps : List ℕ) → array_seen name axes cells ≡ a → All (λ p. p < (get_or a.axes k no_axis).size) ps → All (λ p. p < get_or (sizes axes) k 0) ps
+pub inside_held : (a : DataArray) (name : List ℕ) (axes : List HeldAxis) (cells : Numbers) (k : ℕ) (ps : List ℕ) → array_seen name axes cells ≡ a → All (λ p. p < (get_or a.axes k no_axis).size) ps → All (λ p. p < get_or (sizes axes) k 0) ps
 inside_held a name axes cells k ps e h = subst (λ (n : ℕ). All (λ p. p < n) ps) (ap (λ (b : DataArray). (get_or b.axes k no_axis).size) (sym e) ∙ size_at axes k) h
 
-axis_held : (a : DataArray) (name : List ℕ) (axes : List IntAxis) (cells : List ℤ) (k : ℕ) → array_seen name axes cells ≡ a → k < length a.axes → k < length axes
+pub axis_held : (a : DataArray) (name : List ℕ) (axes : List HeldAxis) (cells : Numbers) (k : ℕ) → array_seen name axes cells ≡ a → k < length a.axes → k < length axes
 axis_held a name axes cells k e lt = let long : length a.axes ≡ length axes = ap (λ (b : DataArray). length b.axes) (sym e) ∙ seen-length axes in omega arith
 
-pub taken_here : (a : DataArray) (name text : List ℕ) (axes more held : List IntAxis) (k : ℕ) (ps : List ℕ) (cells kept new : List ℤ) → array_seen name axes cells ≡ a → length cells ≡ size (sizes axes) → k < length a.axes → All (λ p. p < (get_or a.axes k no_axis).size) ps
-    → text ≡ name → map axis_of more ≡ chosen_axes (map axis_of axes) k ps → held ≡ axes → kept ≡ cells → new ≡ copied (size (take k (sizes held))) (get_or (sizes held) k 0) (size (drop (suc k) (sizes held))) ps kept
-    → (array_seen text more new ≡ taken a k ps) × (length new ≡ size (sizes more))
-taken_here a name text axes more held k ps cells kept new e long lt inside is_text is_more is_held is_kept is_new =
-    let same : new ≡ copied (size (take k (sizes axes))) (get_or (sizes axes) k 0) (size (drop (suc k) (sizes axes))) ps cells =
-    is_new ∙ ap (λ x. copied (size (take k (sizes x))) (get_or (sizes x) k 0) (size (drop (suc k) (sizes x))) ps kept) is_held ∙ ap (copied (size (take k (sizes axes))) (get_or (sizes axes) k 0) (size (drop (suc k) (sizes axes))) ps) is_kept in
-    let both = take_is name axes more k ps cells new long (axis_held a name axes cells k e lt) (inside_held a name axes cells k ps e inside) is_more same in
-    (ap (λ t. array_seen t more new) is_text ∙ both.0 ∙ ap (λ b. taken b k ps) e, both.1)
+pub few_held : (a : DataArray) (name : List ℕ) (axes : List HeldAxis) (cells : Numbers) (k : ℕ) (ps : List ℕ) → array_seen name axes cells ≡ a → length ps ≤ (get_or a.axes k no_axis).size → length ps ≤ get_or (sizes axes) k 0
+few_held a name axes cells k ps e h = subst (λ n. length ps ≤ n) (ap (λ (b : DataArray). (get_or b.axes k no_axis).size) (sym e) ∙ size_at axes k) h
+
+pub taken_here : (a : DataArray) (name text : List ℕ) (axes more held : List HeldAxis) (k : ℕ) (ps : List ℕ) (cells : Numbers) (raw : List ℕ) → array_seen name axes cells ≡ a → IsHeld name axes cells → k < length a.axes → All (λ p. p < (get_or a.axes k no_axis).size) ps
+    → text ≡ name → map axis_of more ≡ chosen_axes (map axis_of axes) k ps → All IsHeldAxis more → held ≡ axes
+    → raw ≡ copied (size (take k (sizes held))) (get_or (sizes held) k 0) (size (drop (suc k) (sizes held)) * width_of cells.kind) ps cells.raw
+    → (array_seen text more (record { kind = cells.kind; raw = raw }) ≡ taken a k ps) × IsHeld text more (record { kind = cells.kind; raw = raw })
+taken_here a name text axes more held k ps cells raw e whole lt inside is_text is_more good is_held is_raw =
+    let new : Numbers = record { kind = cells.kind; raw = raw } in
+    let same : raw ≡ copied (size (take k (sizes axes))) (get_or (sizes axes) k 0) (size (drop (suc k) (sizes axes)) * width_of cells.kind) ps cells.raw =
+    is_raw ∙ ap (λ x. copied (size (take k (sizes x))) (get_or (sizes x) k 0) (size (drop (suc k) (sizes x)) * width_of cells.kind) ps cells.raw) is_held in
+    let both = take_is name axes more k ps cells raw whole (axis_held a name axes cells k e lt) (inside_held a name axes cells k ps e inside) is_more good same in
+    (ap (λ t. array_seen t more new) is_text ∙ both.0 ∙ ap (λ b. taken b k ps) e, subst (λ t. IsHeld t more new) (sym is_text) both.1)

@@ -1,3 +1,6 @@
+pub mod Numbers
 pub mod Held
-pub mod Printed
+pub mod Opened
 pub mod Takes
+pub mod Printed
+pub mod Filed

@@ -1,15 +1,22 @@
-//! The arrays that scripts have so far: cells of kind int32, axes with whole numbers as labels.
+//! Files that are opened, and the arrays that scripts have so far: cells of integer kinds, and whole numbers as labels.
 #![tactic(auto)]
 
 mod array;
 mod axis;
+mod built;
+mod bytes;
+mod coordinate;
 mod file;
-mod opening;
+mod kind;
+mod number;
+mod open_file;
 mod positions;
 mod printing;
 mod take;
+#[cfg(test)]
+mod tests;
+mod total;
+mod variable;
 
-pub use array::IntArray;
-pub use file::file_of;
-pub use positions::slice_positions;
-pub use printing::push_text;
+pub use array::HeldArray;
+pub use open_file::OpenFile;

@@ -1,5 +1,5 @@
 //! The positions of a slice (Python, "Sequence types: s[i:j:k]").
-ghost use Rattle.std.specs.Prelude.{◌≡◌, ◌<◌, ◌≤◌, ◌-◌, ◌^◌, min, IfOk, All, unsigned_abs, Some};
+ghost use Rattle.std.specs.Prelude.{◌≡◌, ◌<◌, ◌≤◌, ◌-◌, ◌^◌, min, IfOk, All, length, unsigned_abs, Some};
 ghost use Rattle.xr_defs.specs.Slices.{rising_end, falling_end, given, rising, falling, slice_positions};
 
 use std::alloc::{AllocError, Global};
@@ -65,6 +65,7 @@ fn walk_on(alloc: Global, n: u64, start: u64, stop: u64, step: u64) -> Result<Ve
     requires stop { stop ≤ n }
     requires step { 0 < step }
     ensures positions { IfOk result (λ v. v.items ≡ rising n start stop step) }
+    ensures few { IfOk result (λ v. length v.items ≤ n) }
     ensures inside { IfOk result (λ v. All (λ p. p < n) v.items) }
 {
     let mut out = Vec::new(alloc);
@@ -81,6 +82,7 @@ fn walk_back(alloc: Global, n: u64, above: u64, low: u64, step: u64) -> Result<V
     requires above { above ≤ n }
     requires step { 0 < step }
     ensures positions { IfOk result (λ v. v.items ≡ falling n above low step) }
+    ensures few { IfOk result (λ v. length v.items ≤ n) }
     ensures inside { IfOk result (λ v. All (λ p. p < n) v.items) }
 {
     let mut out = Vec::new(alloc);
@@ -100,6 +102,7 @@ fn by_step(
     step: i128,
 ) -> Result<Vec<u64>, AllocError>
     ensures positions { IfOk result (λ v. v.items ≡ slice_positions size start stop (Some step)) }
+    ensures few { IfOk result (λ v. length v.items ≤ size) }
     ensures inside { IfOk result (λ v. All (λ p. p < size) v.items) }
 {
     let far = magnitude(step);
@@ -126,6 +129,7 @@ pub fn slice_positions(
     step: Option<i128>,
 ) -> Result<Vec<u64>, AllocError>
     ensures positions { IfOk result (λ v. v.items ≡ slice_positions size start stop step) }
+    ensures few { IfOk result (λ v. length v.items ≤ size) }
     ensures inside { IfOk result (λ v. All (λ p. p < size) v.items) }
 {
     match step {

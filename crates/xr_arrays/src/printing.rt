@@ -1,13 +1,15 @@
 //! Prints an array: the first line, the rows, and the indexes.
-ghost use Rattle.std.specs.Prelude.{◌≡◌, ◌++◌, ◌∷◌, ◌*◌, ◌/◌, ◌<◌, [], length, map, flat_map, OnOk, Some, codes};
+ghost use Rattle.std.specs.Prelude.{◌≡◌, ◌+◌, ◌++◌, ◌∷◌, ◌*◌, ◌/◌, ◌<◌, ◌≤◌, ◌-◌, [], length, map, flat_map, take, drop, OnOk, Some, codes};
 ghost use Rattle.std.specs.Fmt.{decimal, signed_decimal};
-ghost use Rattle.xr_types.specs.declared.kind.DType.TheVariants as kinds;
 ghost use Rattle.xr_defs.specs.Text.{is_control, hex_digit, printed_byte, printed_name, after_blanks, joined, cell_text, rows_text, axis_text, index_text, index_line, text_of, row_size};
-ghost use Rattle.xr_arrays.specs.Held.{axis_of, labels_of, sizes};
-ghost use Rattle.xr_arrays.specs.Printed.{after_commas, cells_printed, head_printed};
+ghost use Rattle.xr_arrays.specs.Numbers.{dtype_of, width_of, numbers_as};
+ghost use Rattle.xr_arrays.specs.Held.{axis_of, labels_of, numbers_in, sizes};
+ghost use Rattle.xr_arrays.specs.Printed.{after_commas, cells_printed, head_printed, index_head};
 
-use crate::array::IntArray;
-use crate::axis::IntAxis;
+use crate::array::HeldArray;
+use crate::axis::{HeldAxis, Numbers};
+use crate::kind::IntKind;
+use crate::number::number_at;
 use itoa::Buffer;
 use std::alloc::AllocError;
 
@@ -43,7 +45,7 @@ fn push_name(out: &mut Vec<u8>, name: &[u8]) -> Result<(), AllocError>
     Ok(())
 }
 
-fn push_axis(out: &mut Vec<u8>, digits: &mut Buffer, axis: &IntAxis) -> Result<(), AllocError>
+fn push_axis(out: &mut Vec<u8>, digits: &mut Buffer, axis: &HeldAxis) -> Result<(), AllocError>
     ensures { OnOk result (out.new.items ≡ out.old.items ++ axis_text (axis_of axis.now)) }
 {
     push_name(out, axis.name.as_bytes())?;
@@ -54,7 +56,7 @@ fn push_axis(out: &mut Vec<u8>, digits: &mut Buffer, axis: &IntAxis) -> Result<(
 fn push_more_axes(
     out: &mut Vec<u8>,
     digits: &mut Buffer,
-    axes: &[IntAxis],
+    axes: &[HeldAxis],
 ) -> Result<(), AllocError>
     ensures { OnOk result (out.new.items ≡ out.old.items ++ after_commas (map axis_of axes.now)) }
 {
@@ -65,7 +67,7 @@ fn push_more_axes(
     Ok(())
 }
 
-fn push_axes(out: &mut Vec<u8>, digits: &mut Buffer, axes: &[IntAxis]) -> Result<(), AllocError>
+fn push_axes(out: &mut Vec<u8>, digits: &mut Buffer, axes: &[HeldAxis]) -> Result<(), AllocError>
     ensures { OnOk result (out.new.items ≡ out.old.items ++ joined (codes ", ") (map axis_text (map axis_of axes.now))) }
 {
     match axes {
@@ -77,54 +79,66 @@ fn push_axes(out: &mut Vec<u8>, digits: &mut Buffer, axes: &[IntAxis]) -> Result
     }
 }
 
+// Appends the numbers of these places, a blank before each.
 fn push_after_blanks(
     out: &mut Vec<u8>,
     digits: &mut Buffer,
-    numbers: &[i32],
+    kind: IntKind,
+    raw: &[u8],
+    from: usize,
+    to: usize,
 ) -> Result<(), AllocError>
-    ensures { OnOk result (out.new.items ≡ out.old.items ++ after_blanks (map signed_decimal numbers.now)) }
+    requires { to ≤ length raw.now / width_of kind }
+    ensures { OnOk result (out.new.items ≡ out.old.items ++ after_blanks (map signed_decimal (take (to - from) (drop from (numbers_as kind raw.now))))) }
 {
-    for n in numbers {
+    for i in from..to {
         out.push(b' ')?;
-        out.extend_from_slice(digits.format(*n).as_bytes())?;
+        out.extend_from_slice(digits.format(number_at(kind, raw, i)).as_bytes())?;
     }
     Ok(())
 }
 
-fn push_row(out: &mut Vec<u8>, digits: &mut Buffer, row: &[i32]) -> Result<(), AllocError>
-    ensures { OnOk result (out.new.items ≡ out.old.items ++ joined (32 ∷ []) (map (cell_text kinds.Int32) (map Some row.now))) }
+// Appends a row of n numbers, from a place on.
+fn push_row(
+    out: &mut Vec<u8>,
+    digits: &mut Buffer,
+    kind: IntKind,
+    raw: &[u8],
+    from: usize,
+    n: usize,
+) -> Result<(), AllocError>
+    requires { from + n ≤ length raw.now / width_of kind }
+    ensures { OnOk result (out.new.items ≡ out.old.items ++ joined (32 ∷ []) (map (cell_text (dtype_of kind)) (map Some (take n (drop from (numbers_as kind raw.now)))))) }
 {
-    match row {
-        [] => Ok(()),
-        [first, rest @ ..] => {
-            out.extend_from_slice(digits.format(*first).as_bytes())?;
-            push_after_blanks(out, digits, rest)
-        }
+    if n == 0 {
+        return Ok(());
     }
+    out.extend_from_slice(digits.format(number_at(kind, raw, from)).as_bytes())?;
+    push_after_blanks(out, digits, kind, raw, from + 1, from + n)
 }
 
-// A line for each of so many rows of n cells.
+// A line for each of so many rows of n numbers.
 fn push_rows(
     out: &mut Vec<u8>,
     digits: &mut Buffer,
+    kind: IntKind,
+    raw: &[u8],
     rows: usize,
     n: usize,
-    cells: &[i32],
 ) -> Result<(), AllocError>
-    requires { length cells.now ≡ rows * n }
-    ensures { OnOk result (out.new.items ≡ out.old.items ++ rows_text kinds.Int32 rows n (map Some cells.now)) }
+    requires { length raw.now / width_of kind ≡ rows * n }
+    ensures { OnOk result (out.new.items ≡ out.old.items ++ rows_text (dtype_of kind) rows n (map Some (numbers_as kind raw.now))) }
 {
-    let mut rest = cells;
+    let mut at: usize = 0;
     for _ in 0..rows {
-        let (row, behind) = rest.split_at(n);
-        push_row(out, digits, row)?;
+        push_row(out, digits, kind, raw, at, n)?;
         out.push(b'\n')?;
-        rest = behind;
+        at += n;
     }
     Ok(())
 }
 
-fn row_size(axes: &[IntAxis]) -> u64
+fn row_size(axes: &[HeldAxis]) -> u64
     ensures { result ≡ row_size (sizes axes.now) }
 {
     match axes {
@@ -138,43 +152,64 @@ fn push_cells(
     out: &mut Vec<u8>,
     digits: &mut Buffer,
     n: u64,
-    cells: &[i32],
+    cells: &Numbers,
 ) -> Result<(), AllocError>
-    requires { length cells.now ≡ (length cells.now / n) * n }
+    requires { length cells.now.raw / width_of cells.now.kind ≡ (length cells.now.raw / width_of cells.now.kind / n) * n }
     ensures { OnOk result (out.new.items ≡ out.old.items ++ cells_printed n cells.now) }
 {
+    let raw = cells.raw.as_slice();
+    let count = raw.len() / cells.kind.width();
     let n = n as usize;
-    let rows = if n == 0 { 0 } else { cells.len() / n };
-    push_rows(out, digits, rows, n, cells)
+    let rows = if n == 0 { 0 } else { count / n };
+    push_rows(out, digits, cells.kind, raw, rows, n)
 }
 
+// Appends all of the numbers, a blank before each.
+fn push_labels(out: &mut Vec<u8>, digits: &mut Buffer, labels: &Numbers) -> Result<(), AllocError>
+    ensures { OnOk result (out.new.items ≡ out.old.items ++ after_blanks (map signed_decimal (numbers_in labels.now))) }
+{
+    let raw = labels.raw.as_slice();
+    let count = raw.len() / labels.kind.width();
+    push_after_blanks(out, digits, labels.kind, raw, 0, count)
+}
+
+// The part of an index's line before its labels.
+fn push_index_head(out: &mut Vec<u8>, name: &[u8], kind: IntKind) -> Result<(), AllocError>
+    ensures { OnOk result (out.new.items ≡ out.old.items ++ index_head name.now kind) }
+{
+    out.extend_from_slice(b"coord ")?;
+    push_name(out, name)?;
+    out.push(b' ')?;
+    out.extend_from_slice(kind.dtype().name().as_bytes())?;
+    out.extend_from_slice(b" (")?;
+    push_name(out, name)?;
+    out.extend_from_slice(b"):")
+}
+
+#[tactic(auto, using(crate::proofs::Joined::index_parts))]
 fn push_index(
     out: &mut Vec<u8>,
     digits: &mut Buffer,
     name: &[u8],
-    labels: &[i32],
+    labels: &Numbers,
 ) -> Result<(), AllocError>
     ensures { OnOk result (out.new.items ≡ out.old.items ++ index_line name.now (labels_of labels.now).list) }
 {
-    out.extend_from_slice(b"coord ")?;
-    push_name(out, name)?;
-    out.extend_from_slice(b" int32 (")?;
-    push_name(out, name)?;
-    out.extend_from_slice(b"):")?;
-    push_after_blanks(out, digits, labels)?;
+    push_index_head(out, name, labels.kind)?;
+    push_labels(out, digits, labels)?;
     Ok(out.push(b'\n')?)
 }
 
-fn push_index_of(out: &mut Vec<u8>, digits: &mut Buffer, axis: &IntAxis) -> Result<(), AllocError>
+fn push_index_of(out: &mut Vec<u8>, digits: &mut Buffer, axis: &HeldAxis) -> Result<(), AllocError>
     ensures { OnOk result (out.new.items ≡ out.old.items ++ index_text (axis_of axis.now)) }
 {
     match &axis.labels {
-        Some(labels) => push_index(out, digits, axis.name.as_bytes(), labels.as_slice()),
+        Some(labels) => push_index(out, digits, axis.name.as_bytes(), labels),
         None => Ok(()),
     }
 }
 
-fn push_indexes(out: &mut Vec<u8>, digits: &mut Buffer, axes: &[IntAxis]) -> Result<(), AllocError>
+fn push_indexes(out: &mut Vec<u8>, digits: &mut Buffer, axes: &[HeldAxis]) -> Result<(), AllocError>
     ensures { OnOk result (out.new.items ≡ out.old.items ++ flat_map index_text (map axis_of axes.now)) }
 {
     for axis in axes {
@@ -187,24 +222,35 @@ fn push_head(
     out: &mut Vec<u8>,
     digits: &mut Buffer,
     name: &[u8],
-    axes: &[IntAxis],
+    axes: &[HeldAxis],
+    kind: IntKind,
 ) -> Result<(), AllocError>
-    ensures { OnOk result (out.new.items ≡ out.old.items ++ head_printed name.now (map axis_of axes.now)) }
+    ensures { OnOk result (out.new.items ≡ out.old.items ++ head_printed name.now (map axis_of axes.now) kind) }
 {
     out.extend_from_slice(b"DataArray ")?;
     push_name(out, name)?;
     out.extend_from_slice(b" (")?;
     push_axes(out, digits, axes)?;
-    out.extend_from_slice(b") int32\n")
+    out.extend_from_slice(b") ")?;
+    out.extend_from_slice(kind.dtype().name().as_bytes())?;
+    Ok(out.push(b'\n')?)
 }
 
-/// Appends the printed form of an array.
-pub fn push_text(out: &mut Vec<u8>, a: &IntArray) -> Result<(), AllocError>
-    ensures { OnOk result (out.new.items ≡ out.old.items ++ text_of a.now) }
-{
-    let mut digits = Buffer::new();
-    let axes = a.axes.as_slice();
-    push_head(out, &mut digits, a.name.as_bytes(), axes)?;
-    push_cells(out, &mut digits, row_size(axes), a.cells.as_slice())?;
-    push_indexes(out, &mut digits, axes)
+impl HeldArray {
+    /// Appends the printed form.
+    pub fn push_text(&self, out: &mut Vec<u8>) -> Result<(), AllocError>
+        ensures { OnOk result (out.new.items ≡ out.old.items ++ text_of self.now) }
+    {
+        let mut digits = Buffer::new();
+        let axes = self.axes.as_slice();
+        push_head(
+            out,
+            &mut digits,
+            self.name.as_bytes(),
+            axes,
+            self.cells.kind,
+        )?;
+        push_cells(out, &mut digits, row_size(axes), &self.cells)?;
+        push_indexes(out, &mut digits, axes)
+    }
 }

@@ -1,63 +1,20 @@
 //! Takes positions of one axis.
-ghost use Rattle.std.specs.Prelude.{◌≡◌, ◌<◌, ◌≤◌, ◌+◌, ◌++◌, ◌*◌, ◌-◌, ◌^◌, length, min, map, All, OnOk, IfOk, get_or, pos, slice_set, suc, drop, take};
+ghost use Rattle.std.specs.Prelude.{◌≡◌, ◌<◌, ◌≤◌, ◌+◌, ◌++◌, ◌*◌, ◌-◌, ◌^◌, length, min, map, All, OnOk, IfOk, get_or, slice_set, suc, drop, take};
+ghost use Rattle.xr_defs.specs.Calls.{at_positions};
 ghost use Rattle.xr_defs.specs.Points.{size};
-ghost use Rattle.xr_defs.specs.Values.{chosen, chosen_axis, chosen_axes, taken, no_axis};
-ghost use Rattle.xr_arrays.specs.Held.{axis_of, sizes, IsLabelled};
+ghost use Rattle.xr_defs.specs.Values.{chosen_axis, chosen_axes, chosen_list, taken, no_axis};
+ghost use Rattle.xr_arrays.specs.Numbers.{width_of};
+ghost use Rattle.xr_arrays.specs.Held.{axis_of, labels_of, sizes, AreMany, IsHeldAxis};
 ghost use Rattle.xr_arrays.specs.Takes.{part, parts, copied};
 
-use crate::array::IntArray;
-use crate::axis::IntAxis;
+use crate::array::HeldArray;
+use crate::axis::{HeldAxis, Numbers};
+use crate::bytes::SharedBytes;
+use crate::positions::slice_positions;
 use std::alloc::{AllocError, Global};
-use xr_types::{DeepCopy, Items};
+use xr_types::{DeepCopy, Items, NoMemory};
 
-fn chosen_labels(alloc: Global, labels: &[i32], ps: &[u64]) -> Result<Items<i32>, AllocError>
-    requires { All (λ p. p < length labels.now) ps.now }
-    ensures { IfOk result (λ ns. ns ≡ chosen (pos 0) labels.now ps.now) }
-{
-    let mut out = Vec::new(alloc);
-    for p in ps {
-        out.push(labels[*p as usize])?;
-    }
-    Ok(Items::of(out))
-}
-
-fn axis_at(alloc: Global, axis: &IntAxis, ps: &[u64]) -> Result<IntAxis, AllocError>
-    requires labelled { IsLabelled axis.now }
-    requires inside { All (λ p. p < axis.now.size) ps.now }
-    ensures axis { IfOk result (λ x. axis_of x ≡ chosen_axis (axis_of axis.now) ps.now) }
-    ensures labelled { IfOk result IsLabelled }
-{
-    let name = axis.name.deep_copy(alloc)?;
-    let labels = match &axis.labels {
-        Some(labels) => Some(chosen_labels(alloc, labels.as_slice(), ps)?),
-        None => None,
-    };
-    Ok(IntAxis {
-        name,
-        size: ps.len() as u64,
-        labels,
-    })
-}
-
-fn axes_at(
-    alloc: Global,
-    axes: &Items<IntAxis>,
-    axis: usize,
-    ps: &[u64],
-) -> Result<Items<IntAxis>, AllocError>
-    requires axis { axis < length axes.now }
-    requires labelled { All IsLabelled axes.now }
-    requires inside { All (λ p. p < get_or (sizes axes.now) axis 0) ps.now }
-    ensures axes { IfOk result (λ xs. map axis_of xs ≡ chosen_axes (map axis_of axes.now) axis ps.now) }
-    ensures labelled { IfOk result (All IsLabelled) }
-{
-    let chosen = axis_at(alloc, &axes.as_slice()[axis], ps)?;
-    let mut copies = axes.deep_copy(alloc)?;
-    copies.set(axis, chosen);
-    Ok(copies)
-}
-
-fn push_part(out: &mut Vec<i32>, row: usize, p: u64, cells: &[i32]) -> Result<(), AllocError>
+fn push_part(out: &mut Vec<u8>, row: usize, p: u64, cells: &[u8]) -> Result<(), AllocError>
     requires { p * row + row ≤ length cells.now }
     ensures { OnOk result (out.new.items ≡ out.old.items ++ part row cells.now p) }
 {
@@ -66,7 +23,7 @@ fn push_part(out: &mut Vec<i32>, row: usize, p: u64, cells: &[i32]) -> Result<()
     out.extend_from_slice(here)
 }
 
-fn push_parts(out: &mut Vec<i32>, row: usize, ps: &[u64], cells: &[i32]) -> Result<(), AllocError>
+fn push_parts(out: &mut Vec<u8>, row: usize, ps: &[u64], cells: &[u8]) -> Result<(), AllocError>
     requires { All (λ p. p * row + row ≤ length cells.now) ps.now }
     ensures { OnOk result (out.new.items ≡ out.old.items ++ parts row ps.now cells.now) }
 {
@@ -76,14 +33,14 @@ fn push_parts(out: &mut Vec<i32>, row: usize, ps: &[u64], cells: &[i32]) -> Resu
     Ok(())
 }
 
-// The cells at the positions of an axis of size n: so many blocks stand before it, and rows behind it.
+// The bytes at the positions of an axis of size n: so many blocks stand before it, and a row of bytes behind it.
 fn push_copied(
-    out: &mut Vec<i32>,
+    out: &mut Vec<u8>,
     outer: usize,
     n: usize,
     row: usize,
     ps: &[u64],
-    cells: &[i32],
+    cells: &[u8],
 ) -> Result<(), AllocError>
     requires cells { length cells.now ≡ outer * (n * row) }
     requires inside { All (λ p. p < n) ps.now }
@@ -100,9 +57,79 @@ fn push_copied(
     Ok(())
 }
 
+fn copied_bytes(
+    alloc: Global,
+    outer: usize,
+    n: usize,
+    row: usize,
+    ps: &[u64],
+    bytes: &[u8],
+) -> Result<SharedBytes, AllocError>
+    requires cells { length bytes.now ≡ outer * (n * row) }
+    requires inside { All (λ p. p < n) ps.now }
+    requires small { n * row < 2 ^ 64 }
+    ensures { IfOk result (λ s. s ≡ copied outer n row ps.now bytes.now) }
+{
+    let mut out = Vec::new(alloc);
+    push_copied(&mut out, outer, n, row, ps, bytes)?;
+    SharedBytes::of(alloc, out)
+}
+
+fn labels_at(alloc: Global, size: u64, labels: &Numbers, ps: &[u64]) -> Result<Numbers, AllocError>
+    requires whole { AreMany size labels.now }
+    requires inside { All (λ p. p < size) ps.now }
+    ensures labels { IfOk result (λ m. labels_of m ≡ record (labels_of labels.now) { list = chosen_list (labels_of labels.now).list ps.now }) }
+    ensures whole { IfOk result (AreMany (length ps.now)) }
+{
+    let width = labels.kind.width();
+    let raw = copied_bytes(alloc, 1, size as usize, width, ps, labels.raw.as_slice())?;
+    Ok(Numbers {
+        kind: labels.kind,
+        raw,
+    })
+}
+
+fn axis_at(alloc: Global, axis: &HeldAxis, ps: &[u64]) -> Result<HeldAxis, AllocError>
+    requires held { IsHeldAxis axis.now }
+    requires inside { All (λ p. p < axis.now.size) ps.now }
+    requires few { length ps.now ≤ axis.now.size }
+    ensures axis { IfOk result (λ x. axis_of x ≡ chosen_axis (axis_of axis.now) ps.now) }
+    ensures held { IfOk result IsHeldAxis }
+{
+    let name = axis.name.deep_copy(alloc)?;
+    let labels = match &axis.labels {
+        Some(labels) => Some(labels_at(alloc, axis.size, labels, ps)?),
+        None => None,
+    };
+    Ok(HeldAxis {
+        name,
+        size: ps.len() as u64,
+        labels,
+    })
+}
+
+fn axes_at(
+    alloc: Global,
+    axes: &Items<HeldAxis>,
+    axis: usize,
+    ps: &[u64],
+) -> Result<Items<HeldAxis>, AllocError>
+    requires axis { axis < length axes.now }
+    requires held { All IsHeldAxis axes.now }
+    requires inside { All (λ p. p < get_or (sizes axes.now) axis 0) ps.now }
+    requires few { length ps.now ≤ get_or (sizes axes.now) axis 0 }
+    ensures axes { IfOk result (λ xs. map axis_of xs ≡ chosen_axes (map axis_of axes.now) axis ps.now) }
+    ensures held { IfOk result (All IsHeldAxis) }
+{
+    let chosen = axis_at(alloc, &axes.as_slice()[axis], ps)?;
+    let mut copies = axes.deep_copy(alloc)?;
+    copies.set(axis, chosen);
+    Ok(copies)
+}
+
 // How many points the axes have, as far as 64 bits count.
 #[tactic(auto, using(crate::proofs::Products::saturates))]
-fn points(axes: &[IntAxis]) -> u64
+fn points(axes: &[HeldAxis]) -> u64
     ensures { result ≡ min (size (sizes axes.now)) (2 ^ 64 - 1) }
 {
     match axes {
@@ -113,40 +140,69 @@ fn points(axes: &[IntAxis]) -> u64
 
 fn cells_at(
     alloc: Global,
-    axes: &[IntAxis],
+    axes: &[HeldAxis],
     axis: usize,
     ps: &[u64],
-    cells: &[i32],
-) -> Result<Items<i32>, AllocError>
+    cells: &Numbers,
+) -> Result<SharedBytes, AllocError>
     requires axis { axis < length axes.now }
-    requires whole { length cells.now ≡ size (sizes axes.now) }
+    requires whole { AreMany (size (sizes axes.now)) cells.now }
     requires inside { All (λ p. p < get_or (sizes axes.now) axis 0) ps.now }
-    ensures { IfOk result (λ v. v ≡ copied (size (take axis (sizes axes.now))) (get_or (sizes axes.now) axis 0) (size (drop (suc axis) (sizes axes.now))) ps.now cells.now) }
+    ensures { IfOk result (λ s. s ≡ copied (size (take axis (sizes axes.now))) (get_or (sizes axes.now) axis 0) (size (drop (suc axis) (sizes axes.now)) * width_of cells.now.kind) ps.now cells.now.raw) }
 {
-    let mut out = Vec::new(alloc);
-    let count = cells.len();
+    let bytes = cells.raw.as_slice();
+    let count = bytes.len();
     if count == 0 {
-        return Ok(Items::of(out));
+        return SharedBytes::of(alloc, Vec::new(alloc));
     }
     let (front, _) = axes.split_at(axis);
     let (_, behind) = axes.split_at(axis + 1);
     let outer = points(front) as usize;
-    let row = points(behind) as usize;
+    let width = cells.kind.width();
+    let row = points(behind).saturating_mul(width as u64) as usize;
     let n = axes[axis].size as usize;
-    push_copied(&mut out, outer, n, row, ps, cells)?;
-    Ok(Items::of(out))
+    copied_bytes(alloc, outer, n, row, ps, bytes)
 }
 
-impl IntArray {
+impl HeldArray {
     /// The array at these positions of one axis, in their order, with the labels there.
-    pub fn take(&self, alloc: Global, axis: usize, ps: &[u64]) -> Result<IntArray, AllocError>
+    pub(crate) fn take(
+        &self,
+        alloc: Global,
+        axis: usize,
+        ps: &[u64],
+    ) -> Result<HeldArray, AllocError>
         requires axis { axis < length self.now.axes }
         requires inside { All (λ p. p < (get_or self.now.axes axis no_axis).size) ps.now }
+        requires few { length ps.now ≤ (get_or self.now.axes axis no_axis).size }
         ensures { IfOk result (λ a. a ≡ taken self.now axis ps.now) }
     {
         let name = self.name.deep_copy(alloc)?;
         let axes = axes_at(alloc, &self.axes, axis, ps)?;
-        let cells = cells_at(alloc, self.axes.as_slice(), axis, ps, self.cells.as_slice())?;
-        Ok(IntArray { name, axes, cells })
+        let raw = cells_at(alloc, self.axes.as_slice(), axis, ps, &self.cells)?;
+        Ok(HeldArray {
+            name,
+            axes,
+            cells: Numbers {
+                kind: self.cells.kind,
+                raw,
+            },
+        })
+    }
+    /// The array at the positions of a slice `start:stop:step` of one axis. A step of 0 takes none.
+    pub fn at_positions(
+        &self,
+        alloc: Global,
+        axis: usize,
+        start: Option<i128>,
+        stop: Option<i128>,
+        step: Option<i128>,
+    ) -> Result<HeldArray, NoMemory>
+        requires { axis < length self.now.axes }
+        ensures { IfOk result (λ a. a ≡ at_positions self.now axis (record { start = start; stop = stop; step = step })) }
+    {
+        let size = self.axes.as_slice()[axis].size;
+        let ps = slice_positions(alloc, size, start, stop, step)?;
+        Ok(self.take(alloc, axis, &ps)?)
     }
 }

@@ -1,6 +1,5 @@
 pub mod Trees
 mod FileExamples
-mod RunExamples
 pub mod FormatLaws
 pub mod HeaderLaws
 pub mod FileLaws

@@ -11,11 +11,9 @@ pub mod Numbers
 pub mod Slices
 pub mod Values
 pub mod Text
-pub mod Lines
 pub mod Messages
 pub mod Opening
 pub mod Writing
-pub mod Runs
 pub mod Labels
 pub mod Times
 pub mod Folds
@@ -23,3 +21,7 @@ pub mod Elements
 pub mod Tokens
 pub mod Spellings
 pub mod Scripts
+pub mod Meanings
+pub mod Calls
+pub mod Evaluation
+pub mod Runs

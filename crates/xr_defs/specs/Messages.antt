@@ -1,5 +1,5 @@
 -- The line on the error sink that a run ends with.
-use Rattle.std.specs.Prelude.{ℕ, List, [], ◌∷◌, ◌++◌, codes}
+use Rattle.std.specs.Prelude.{ℕ, List, [], ◌∷◌, ◌++◌, Option, Some, None, codes}
 use Rattle.std.specs.Fmt.{decimal}
 use Rattle.xr_types.specs.Faults.{fault_number, fault_words, kind_words, script_words}
 use Rattle.xr_types.specs.declared.fault.Fault.{Fault}
@@ -22,19 +22,20 @@ named_text f = []
 abbrev pub fault_text : Fault → List ℕ
 fault_text f = 70 ∷ (decimal (fault_number f) ++ (32 ∷ (fault_words f ++ named_text f)))
 
-abbrev pub second : List (List ℕ) → List ℕ
-second (program ∷ script ∷ words) = script
-second words = []
+-- the name of a script, where the words give one
+abbrev pub script_name : Option (List ℕ) → List ℕ
+script_name None = []
+script_name (Some name) = name
 
 abbrev pub usage : List ℕ
 usage = codes "usage: xrs [--workers N] [--chunk N] SCRIPT | --demo N"
 
 -- nothing after a run that was carried out
-abbrev pub status_line : List (List ℕ) → Status → List ℕ
-status_line words Done = []
-status_line words (Refused n f) = codes "xrs: statement " ++ (decimal n ++ (codes ": " ++ (fault_text f ++ 10 ∷ [])))
-status_line words BadWords = codes "xrs: " ++ (usage ++ 10 ∷ [])
-status_line words NoScript = codes "xrs: no script " ++ (printed_name (second words) ++ 10 ∷ [])
-status_line words (BadScript f) = codes "xrs: line " ++ (decimal f.line ++ (codes ": " ++ (script_words f.kind ++ 10 ∷ [])))
-status_line words Storage = codes "xrs: storage fault" ++ 10 ∷ []
-status_line words NoMemory = codes "xrs: out of memory" ++ 10 ∷ []
+abbrev pub status_line : Option (List ℕ) → Status → List ℕ
+status_line script Done = []
+status_line script (Refused n f) = codes "xrs: statement " ++ (decimal n ++ (codes ": " ++ (fault_text f ++ 10 ∷ [])))
+status_line script BadWords = codes "xrs: " ++ (usage ++ 10 ∷ [])
+status_line script NoScript = codes "xrs: no script " ++ (printed_name (script_name script) ++ 10 ∷ [])
+status_line script (BadScript f) = codes "xrs: line " ++ (decimal f.line ++ (codes ": " ++ (script_words f.kind ++ 10 ∷ [])))
+status_line script Storage = codes "xrs: storage fault" ++ 10 ∷ []
+status_line script NoMemory = codes "xrs: out of memory" ++ 10 ∷ []

@@ -1,25 +1,21 @@
 -- What a statement does, and what a run of a script gives: the files, the text printed, and how it ended.
-use Rattle.std.specs.Prelude.{◌+◌, ℕ, ℤ, Bool, false, List, [], ◌∷◌, ◌++◌, get_or, Option, Some, None, Result, Ok, Err, ◌==◌, if◌then◌else◌}
+use Rattle.std.specs.Prelude.{◌≡◌, ◌+◌, ℕ, List, [], ◌∷◌, ◌++◌, Option, Some, None, Result, Ok, Err, if◌then◌else◌}
 use Rattle.std.specs.Str.{bytes_eq}
 use Rattle.xr_types.specs.declared.fault.Fault.{Fault}
-use Rattle.xr_types.specs.declared.fault.Fault.TheVariants.{UnknownName, NoDimension}
+use Rattle.xr_types.specs.declared.fault.Fault.TheVariants.{UnknownName, WrongKind}
 use Rattle.xr_types.specs.declared.status.ScriptFault.{ScriptFault}
 use Rattle.xr_types.specs.declared.status.Status.{Status}
 use Rattle.xr_types.specs.declared.status.Status.TheVariants.{Done, Refused, BadWords, NoScript, BadScript}
-use Rattle.xr_defs.specs.declared.line.Line.{Line}
-use Rattle.xr_defs.specs.declared.line.Line.TheVariants.{PrintSum}
 use Rattle.xr_defs.specs.Results.{◌>>=◌}
-use Rattle.xr_defs.specs.Slices.{slice_positions}
-use Rattle.xr_defs.specs.Values.{DataArray, taken, total, axis_position, no_axis}
-use Rattle.xr_defs.specs.Opening.{Files, opened, variable_in}
-use Rattle.xr_defs.specs.Text.{text_of}
-use Rattle.xr_defs.specs.Lines.{script_in}
+use Rattle.xr_defs.specs.Syntax as tree
+use Rattle.xr_defs.specs.Syntax.{Line, Tree}
+use Rattle.xr_defs.specs.Scripts.{IsScriptText, IsFirstFault}
+use Rattle.xr_defs.specs.Opening.{Files}
+use Rattle.xr_defs.specs.Meanings.{Value}
+use Rattle.xr_defs.specs.Calls.{printed, file_written}
+use Rattle.xr_defs.specs.Evaluation.{Names, named, value_of, given_of}
 
--- the array that each name stands for
-abbrev pub Names : Type 0
-Names = List ℕ → Option DataArray
-
--- a run so far: what its names stand for, the files, and the text printed. A name stands for an array and not for a
+-- a run so far: what its names stand for, the files, and the text printed. A name stands for a value and not for a
 -- file, so a later write doesn't change it.
 pub record State : Type 0 where
   pub names : Names
@@ -30,19 +26,8 @@ pub record State : Type 0 where
 abbrev pub put : {X : Type 0} → (List ℕ → Option X) → List ℕ → X → List ℕ → Option X
 put entries name x other = if bytes_eq other name then Some x else entries other
 
-abbrev pub named : Names → List ℕ → Result DataArray Fault
-named names name = elim (names name) [ None ↦ Err (UnknownName name) | Some a ↦ Ok a ]
-
--- the positions from one number up to before another, along a dimension
-abbrev pub selected : DataArray → List ℕ → ℤ → ℤ → Result DataArray Fault
-selected a dimension start stop =
-    elim (axis_position dimension a.axes) [
-      | None ↦ Err (NoDimension dimension)
-      | Some k ↦ Ok (taken a k (slice_positions (get_or a.axes k no_axis).size (Some start) (Some stop) None))
-    ]
-
-abbrev pub with_name : State → List ℕ → DataArray → State
-with_name s name a = record s { names = put s.names name a }
+abbrev pub with_name : State → List ℕ → Value → State
+with_name s name v = record s { names = put s.names name v }
 
 abbrev pub with_text : State → List ℕ → State
 with_text s text = record s { text = s.text ++ text }
@@ -50,12 +35,15 @@ with_text s text = record s { text = s.text ++ text }
 abbrev pub with_file : State → List ℕ → List ℕ → State
 with_file s name bytes = record s { files = put s.files name bytes }
 
-abbrev pub open_variable : Files → List ℕ → List ℕ → Result DataArray Fault
-open_variable files file variable = opened files file >>= λ f. variable_in f variable
-
--- the next state, or the statement's first fault
+-- The next state, or the statement's first fault. No function aligns, and no variable is set in a dataset, so far.
 unfoldable pub step : Line → State → Result State Fault
-step (PrintSum file variable) s = open_variable s.files file variable >>= λ a. Ok (with_text s (text_of (total a)))
+step (tree.Assigned name e) s = value_of s.names s.files e >>= λ v. Ok (with_name s name v)
+step (tree.Aligned names (tree.Call f gs)) s = given_of s.names s.files gs >>= λ g. Err (UnknownName f)
+step (tree.Aligned names e) s = Err WrongKind
+step (tree.Placed name variable e) s = value_of s.names s.files e >>= λ v. named s.names name >>= λ w. Err WrongKind
+step (tree.Printed e) s = value_of s.names s.files e >>= λ v. printed v >>= λ text. Ok (with_text s text)
+step (tree.Written (tree.Method e f gs)) s = value_of s.names s.files e >>= λ v. given_of s.names s.files gs >>= λ g. file_written v g >>= λ w. Ok (with_file s w.0 w.1)
+step (tree.Written e) s = Err WrongKind
 
 -- how a run ended: its status, the files, and the text printed
 pub record Ended : Type 0 where
@@ -71,33 +59,28 @@ unfoldable pub run_from : ℕ → List Line → State → Ended
 run_from n [] s = ended Done s
 run_from n (l ∷ ls) s = elim (step l s) [ Err f ↦ ended (Refused n f) s | Ok t ↦ run_from (n + 1) ls t ]
 
+-- A name of a file that a run of these statements puts, from this state on: the next one makes bytes those of the name, or
+-- a later one does.
+pub data IsPut : List Line → State → List ℕ → Type 0 where
+  put_now : (e : Tree) (ls : List Line) (s : State) (n bytes : List ℕ) → step (tree.Written e) s ≡ Ok (with_file s n bytes) → IsPut (tree.Written e ∷ ls) s n
+  put_later : (l : Line) (ls : List Line) (s t : State) (n : List ℕ) → step l s ≡ Ok t → IsPut ls t n → IsPut (l ∷ ls) s n
+
 -- before the first statement there are no names and no text
 abbrev pub start : Files → State
 start files = record { names = λ name. None; files = files; text = [] }
 
--- ---- the command
+-- how the run of a script of these bytes ends
+pub data ScriptRun (files : Files) (bytes : List ℕ) : Ended → Type 0 where
+  not_begun : (f : ScriptFault) → IsFirstFault bytes f → ScriptRun files bytes (ended (BadScript f) (start files))
+  begun : (ls : List Line) → IsScriptText bytes ls → ScriptRun files bytes (run_from 1 ls (start files))
 
--- the words are the program's name and that of a script, which doesn't begin with a dash
-abbrev pub begins_dash : List ℕ → Bool
-begins_dash [] = false
-begins_dash (c ∷ cs) = c == 45
+-- How the run of the command ends over these files, where its words give the name of a script, or don't fit. Exactly one
+-- end fits.
+pub data Run (files : Files) : Option (List ℕ) → Ended → Type 0 where
+  no_words : Run files None (ended BadWords (start files))
+  no_script : (name : List ℕ) → files name ≡ None → Run files (Some name) (ended NoScript (start files))
+  script : (name bytes : List ℕ) (e : Ended) → files name ≡ Some bytes → ScriptRun files bytes e → Run files (Some name) e
 
-abbrev pub script_word : List (List ℕ) → Option (List ℕ)
-script_word (program ∷ script ∷ []) = if begins_dash script then None else Some script
-script_word words = None
-
-abbrev pub run_script : Files → Result (List Line) ScriptFault → Ended
-run_script files (Err f) = ended (BadScript f) (start files)
-run_script files (Ok ls) = run_from 1 ls (start files)
-
-abbrev pub run_held : Files → Option (List ℕ) → Ended
-run_held files None = ended NoScript (start files)
-run_held files (Some bytes) = run_script files (script_in bytes)
-
-abbrev pub run_named : Files → Option (List ℕ) → Ended
-run_named files None = ended BadWords (start files)
-run_named files (Some name) = run_held files (files name)
-
--- the run of the command with these words over these files
-abbrev pub run_of : List (List ℕ) → Files → Ended
-run_of words files = run_named files (script_word words)
+-- a name of a file that the run of the command puts
+pub data IsPutInRun (files : Files) : Option (List ℕ) → List ℕ → Type 0 where
+  put_by : (name bytes n : List ℕ) (ls : List Line) → files name ≡ Some bytes → IsScriptText bytes ls → IsPut ls (start files) n → IsPutInRun files (Some name) n

@@ -3,10 +3,10 @@
 
 mod array;
 mod file;
-mod line;
 mod operation;
 mod scan;
 mod search;
+mod slice;
 mod stop;
 mod syntax;
 mod tally;
@@ -16,10 +16,10 @@ mod value;
 
 pub use array::{ArrayValue, Cells};
 pub use file::{CdfDim, CdfFile, CdfVar, VarHead};
-pub use line::Line;
 pub use operation::{FoldKind, How, Near, OpKind};
 pub use scan::{Front, Scan, ScanEnd};
 pub use search::{Direction, Span};
+pub use slice::Part;
 pub use stop::Stop;
 pub use syntax::{Argument, Constant, Expr, Script, Statement};
 pub use tally::Tally;

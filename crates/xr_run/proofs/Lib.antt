@@ -1,10 +1,11 @@
 mod Ended
-mod Heads
+mod Forms
+mod Layers
+mod Lists
+mod Long
+mod OneEnd
+mod Parse
+mod Performed
 mod Pieces
 mod Puts
-mod ScriptLaws
-mod Scripts
-mod Sizes
-mod Spelled
-pub mod Stepped
-mod Sums
+mod Stepped

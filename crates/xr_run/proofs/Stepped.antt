@@ -1,28 +1,39 @@
--- One statement of a run.
-use Rattle.std.proofs.Common.{◌≡◌, ℕ, suc, ◌+◌, ◌<◌, ◌≤◌, List, [], ◌∷◌, ◌++◌, length, get_or, drop, Result, Ok, Err, refl, sym, ap, ◌∙◌, subst, arith, add-one, drop-cons, zero-add, append_assoc}
+-- The statements of a run, one after the other.
+use Rattle.std.proofs.Common.{◌≡◌, ℕ, suc, ◌+◌, ◌<◌, ◌≤◌, Bool, List, [], ◌∷◌, ◌++◌, length, map, get_or, drop, None, Result, Ok, Err, refl, sym, ap, ◌∙◌, subst, arith, add-one, drop-cons, zero-add, append_assoc}
+use Rattle.std.specs.Prelude.{IsTrue}
 use Rattle.std.proofs.lemmas.List.{append-nil, nil_from_length, length-drop}
 use Rattle.xr_types.specs.declared.fault.Fault.{Fault}
 use Rattle.xr_types.specs.declared.status.Status.TheVariants as statuses
-use Rattle.xr_defs.specs.declared.line.Line.{Line}
+use Rattle.xr_defs.specs.declared.syntax.Statement.{Statement}
+use Rattle.xr_defs.specs.Syntax as tree
+use Rattle.xr_defs.specs.Syntax.{Line, line_of}
 use Rattle.xr_defs.specs.Opening.{Files}
-use Rattle.xr_defs.specs.Runs.{State, step, run_from, start, Ended, ended}
-use Rattle.xr_run.specs.declared.effect.Effect.{Effect}
+use Rattle.xr_defs.specs.Evaluation.{Names}
+use Rattle.xr_defs.specs.Runs.{State, step, run_from, start, Ended, ended, IsPut, put_now, put_later}
 use Rattle.xr_run.specs.declared.stopped.Stopped.{Stopped}
 use Rattle.xr_run.specs.declared.stopped.Stopped.TheVariants.{Refused, Storage, NoMemory}
-use Rattle.xr_run.specs.Steps.{Steps, IsRun, Ends, StepIs, EffectIs, PerformIs, PerformTallied, BothTallied, StatusTallied, status_of, done}
+use Rattle.xr_run.specs.Steps.{at, StepIs, StepKeeps, PutsName, BothTallied}
+use Rattle.xr_run.specs.Ends.{IsEnd, Ends, StatusTallied, StatementsKeep, status_of}
 
--- the first so many statements lead from the files at the start to these, and the sink has gained the text
-pub record Leads (ls : List Line) (from : Files) (before : List ℕ) (i : ℕ) (files : Files) (taken : List ℕ) : Type 0 where
-  pub state : State
-  pub files_are : state.files ≡ files
-  pub text_is : taken ≡ before ++ state.text
-  pub rest : run_from 1 ls (start from) ≡ run_from (i + 1) (drop i ls) state
+abbrev pub lines : List Statement → List Line
+lines ss = map line_of ss
 
-pub leads_none : (ls : List Line) (from : Files) (before : List ℕ) → Leads ls from before 0 from before
-leads_none ls from before = record { state = start from; files_are = refl; text_is = sym (append-nil before); rest = rw zero-add refl }
+-- the first so many statements lead from the files at the start to these names and files, and a sink that tells has gained
+-- the text
+pub record Leads (ss : List Statement) (from : Files) (told : Bool) (before : List ℕ) (i : ℕ) (names : Names) (files : Files) (taken : List ℕ) : Type 0 where
+  pub text : List ℕ
+  pub text_is : IsTrue told → taken ≡ before ++ text
+  pub rest : run_from 1 (lines ss) (start from) ≡ run_from (i + 1) (lines (drop i ss)) (at names files text)
+  pub puts : (n : List ℕ) → IsPut (lines (drop i ss)) (at names files text) n → IsPut (lines ss) (start from) n
+  pub keeps : (n : List ℕ) → (IsPut (lines ss) (start from) n → ⊥) → files n ≡ from n
 
-here : (ls : List Line) (i : ℕ) (l : Line) → i < length ls → l ≡ get_or ls i l → drop i ls ≡ l ∷ drop (i + 1) ls
-here ls i l lt e = rw add-one (subst (λ (y : Line). drop i ls ≡ y ∷ drop (suc i) ls) (sym e) (drop-cons ls i l lt))
+pub leads_none : (ss : List Statement) (from : Files) (told : Bool) (before : List ℕ) (names : Names) → names ≡ (λ name. None) → Leads ss from told before 0 names from before
+leads_none ss from told before names none =
+    subst (λ (m : Names). Leads ss from told before 0 m from before) (sym none)
+    (record { text = []; text_is = λ t. sym (append-nil before); rest = rw zero-add refl; puts = λ n p. p; keeps = λ n p. refl })
+
+here : (ss : List Statement) (i : ℕ) (s : Statement) → i < length ss → s ≡ get_or ss i s → lines (drop i ss) ≡ line_of s ∷ lines (drop (i + 1) ss)
+here ss i s lt e = rw add-one (ap (map line_of) (subst (λ y. drop i ss ≡ y ∷ drop (suc i) ss) (sym e) (drop-cons ss i s lt)))
 
 goes_on : (n : ℕ) (l : Line) (ls : List Line) (s t : State) → step l s ≡ Ok t → run_from n (l ∷ ls) s ≡ run_from (n + 1) ls t
 unfolding run_from
@@ -36,63 +47,75 @@ ends : (n : ℕ) (s : State) → run_from n [] s ≡ ended statuses.Done s
 unfolding run_from
 ends n s = refl
 
-pub leads_more : (ls : List Line) (from : Files) (before : List ℕ) (i : ℕ) (files after : Files) (taken now more : List ℕ) (l : Line) → Leads ls from before i files taken → i < length ls → l ≡ get_or ls i l
-    → now ≡ taken ++ more → ((s : State) → s.files ≡ files → Steps l files after more s) → Leads ls from before (i + 1) after now
-leads_more ls from before i files after taken now more l so_far lt is gained st =
-    let t : Steps l files after more so_far.state = st so_far.state so_far.files_are in
+-- a name that the next statement puts
+puts_next : (l : Line) (ls : List Line) (names : Names) (files : Files) (text n : List ℕ) → PutsName l names files n → IsPut (l ∷ ls) (at names files text) n
+puts_next (tree.Assigned name e) ls names files text n h = absurd h
+puts_next (tree.Aligned ms e) ls names files text n h = absurd h
+puts_next (tree.Placed name v e) ls names files text n h = absurd h
+puts_next (tree.Printed e) ls names files text n h = absurd h
+puts_next (tree.Written e) ls names files text n h = put_now e ls (at names files text) n h.0 (h.1 text)
+
+-- the names that no put names hold what they held, behind the next statement too
+pub keeps_more : (ss : List Statement) (from : Files) (told : Bool) (before : List ℕ) (i : ℕ) (names : Names) (files after : Files) (taken : List ℕ) (s : Statement)
+    → Leads ss from told before i names files taken → i < length ss → s ≡ get_or ss i s → StepKeeps (line_of s) names files after → StatementsKeep (lines ss) from after
+keeps_more ss from told before i names files after taken s so_far lt is step_keeps n none =
+    let p : IsPut (line_of s ∷ lines (drop (i + 1) ss)) (at names files so_far.text) n → IsPut (lines ss) (start from) n =
+    λ q. so_far.puts n (subst (λ (xs : List Line). IsPut xs (at names files so_far.text) n) (sym (here ss i s lt is)) q) in
+    step_keeps n (λ h. none (p (puts_next (line_of s) (lines (drop (i + 1) ss)) names files so_far.text n h))) ∙ so_far.keeps n none
+
+pub leads_more : (ss : List Statement) (from : Files) (told now_told : Bool) (before : List ℕ) (i : ℕ) (names after : Names) (files files_after : Files) (taken now : List ℕ) (s : Statement)
+    → Leads ss from told before i names files taken → i < length ss → s ≡ get_or ss i s → now_told ≡ told → StepKeeps (line_of s) names files files_after
+    → StepIs (line_of s) names after files files_after now_told taken now (Ok tt) → Leads ss from told before (i + 1) after files_after now
+leads_more ss from told now_told before i names after files files_after taken now s so_far lt is same step_keeps st =
+    let l : Line = line_of s in
+    let rest : List Line = lines (drop (i + 1) ss) in
+    let old : State = at names files so_far.text in
+    let new : State = at after files_after (so_far.text ++ st.0) in
     record {
-      state = t.state;
-      files_are = t.files_are;
-      text_is = gained ∙ ap (λ (w : List ℕ). w ++ more) so_far.text_is ∙ append_assoc before so_far.state.text more ∙ ap (λ (w : List ℕ). before ++ w) (sym t.text_is);
-      rest = so_far.rest ∙ ap (λ (xs : List Line). run_from (i + 1) xs so_far.state) (here ls i l lt is) ∙ goes_on (i + 1) l (drop (i + 1) ls) so_far.state t.state t.step_is;
+      text = so_far.text ++ st.0;
+      text_is = λ t.
+          st.1 (subst (λ (b : Bool). IsTrue b) (sym same) t) ∙ ap (λ (w : List ℕ). w ++ st.0) (so_far.text_is t) ∙ append_assoc before so_far.text st.0;
+      rest = so_far.rest ∙ ap (λ (xs : List Line). run_from (i + 1) xs old) (here ss i s lt is) ∙ goes_on (i + 1) l rest old new (st.2 so_far.text);
+      puts = λ n p. so_far.puts n (subst (λ (xs : List Line). IsPut xs old n) (sym (here ss i s lt is)) (put_later l rest old new n (st.2 so_far.text) p));
+      keeps = keeps_more ss from told before i names files files_after taken s so_far lt is step_keeps;
     }
 
-pub leads_refused : (ls : List Line) (from : Files) (before : List ℕ) (i n : ℕ) (files after : Files) (taken now : List ℕ) (l : Line) (f : Fault) → Leads ls from before i files taken → i < length ls → l ≡ get_or ls i l → n ≡ i + 1
-    → (after ≡ files) × (now ≡ taken) × ((s : State) → s.files ≡ files → step l s ≡ Err f) → IsRun (run_from 1 ls (start from)) (statuses.Refused n f) after before now
-leads_refused ls from before i n files after taken now l f so_far lt is e st =
-    let end : run_from 1 ls (start from) ≡ ended (statuses.Refused (i + 1) f) so_far.state =
-    so_far.rest ∙ ap (λ (xs : List Line). run_from (i + 1) xs so_far.state) (here ls i l lt is) ∙ stops (i + 1) l (drop (i + 1) ls) so_far.state f (st.2 so_far.state so_far.files_are) in
+leads_refused : (ss : List Statement) (from : Files) (told now_told : Bool) (before : List ℕ) (i n : ℕ) (names after : Names) (files files_after : Files) (taken now : List ℕ) (s : Statement) (f : Fault)
+    → Leads ss from told before i names files taken → i < length ss → s ≡ get_or ss i s → n ≡ i + 1
+    → (after ≡ names) × (files_after ≡ files) × (now ≡ taken) × ((text : List ℕ) → step (line_of s) (at names files text) ≡ Err f) → IsEnd (run_from 1 (lines ss) (start from)) (statuses.Refused n f) files_after told before now
+leads_refused ss from told now_told before i n names after files files_after taken now s f so_far lt is e st =
+    let old : State = at names files so_far.text in
+    let end : run_from 1 (lines ss) (start from) ≡ ended (statuses.Refused (i + 1) f) old =
+    so_far.rest ∙ ap (λ (xs : List Line). run_from (i + 1) xs old) (here ss i s lt is) ∙ stops (i + 1) (line_of s) (lines (drop (i + 1) ss)) old f (st.3 so_far.text) in
     record {
       status_is = ap (λ (r : Ended). r.status) end ∙ ap (λ m. statuses.Refused m f) (sym e);
-      files_are = λ name. ap (λ (g : Files). g name) (st.0 ∙ sym so_far.files_are) ∙ ap (λ (r : Ended). r.files name) (sym end);
-      text_is = st.1 ∙ so_far.text_is ∙ ap (λ (r : Ended). before ++ r.text) (sym end);
+      files_are = st.1 ∙ ap (λ (r : Ended). r.files) (sym end);
+      text_is = λ t. st.2 ∙ so_far.text_is t ∙ ap (λ (r : Ended). before ++ r.text) (sym end);
     }
 
-pub leads_all : (ls : List Line) (from : Files) (before : List ℕ) (i : ℕ) (files : Files) (taken : List ℕ) → Leads ls from before i files taken → length ls ≤ i → IsRun (run_from 1 ls (start from)) statuses.Done files before taken
-leads_all ls from before i files taken so_far le =
-    let none : drop i ls ≡ [] = nil_from_length (drop i ls) (omega (arith, length-drop i ls)) in
-    let end : run_from 1 ls (start from) ≡ ended statuses.Done so_far.state =
-    so_far.rest ∙ ap (λ (xs : List Line). run_from (i + 1) xs so_far.state) none ∙ ends (i + 1) so_far.state in
+pub leads_all : (ss : List Statement) (from : Files) (told : Bool) (before : List ℕ) (i : ℕ) (names : Names) (files : Files) (taken : List ℕ) → Leads ss from told before i names files taken → length ss ≤ i
+    → IsEnd (run_from 1 (lines ss) (start from)) statuses.Done files told before taken
+leads_all ss from told before i names files taken so_far le =
+    let old : State = at names files so_far.text in
+    let none : drop i ss ≡ [] = nil_from_length (drop i ss) (omega (arith, length-drop i ss)) in
+    let end : run_from 1 (lines ss) (start from) ≡ ended statuses.Done old =
+    so_far.rest ∙ ap (λ (xs : List Statement). run_from (i + 1) (lines xs) old) none ∙ ends (i + 1) old in
     record {
       status_is = ap (λ (r : Ended). r.status) end;
-      files_are = λ name. ap (λ (g : Files). g name) (sym so_far.files_are) ∙ ap (λ (r : Ended). r.files name) (sym end);
-      text_is = so_far.text_is ∙ ap (λ (r : Ended). before ++ r.text) (sym end);
+      files_are = ap (λ (r : Ended). r.files) (sym end);
+      text_is = λ t. so_far.text_is t ∙ ap (λ (r : Ended). before ++ r.text) (sym end);
     }
 
-pub leads_stopped : (ls : List Line) (from : Files) (before : List ℕ) (i n : ℕ) (files after : Files) (taken now : List ℕ) (l : Line) (e : Stopped) → Leads ls from before i files taken → i < length ls → l ≡ get_or ls i l → n ≡ i + 1
-    → StepIs l files taken after now (Err e) → Ends (run_from 1 ls (start from)) after before now (status_of e n)
-leads_stopped ls from before i n files after taken now l (Refused f) so_far lt is number st = leads_refused ls from before i n files after taken now l f so_far lt is number st
-leads_stopped ls from before i n files after taken now l Storage so_far lt is number st = tt
-leads_stopped ls from before i n files after taken now l NoMemory so_far lt is number st = tt
+pub leads_stopped : (ss : List Statement) (from : Files) (told now_told : Bool) (before : List ℕ) (i n : ℕ) (names after : Names) (files files_after : Files) (taken now : List ℕ) (s : Statement) (e : Stopped)
+    → Leads ss from told before i names files taken → i < length ss → s ≡ get_or ss i s → n ≡ i + 1
+    → StepIs (line_of s) names after files files_after now_told taken now (Err e) → Ends (run_from 1 (lines ss) (start from)) files_after told before now (status_of e n)
+leads_stopped ss from told now_told before i n names after files files_after taken now s (Refused f) so_far lt is number st =
+    leads_refused ss from told now_told before i n names after files files_after taken now s f so_far lt is number st
+leads_stopped ss from told now_told before i n names after files files_after taken now s Storage so_far lt is number st = tt
+leads_stopped ss from told now_told before i n names after files files_after taken now s NoMemory so_far lt is number st = tt
 
 pub tallied_stopped : (a0 a b x0 x y n : ℕ) (e : Stopped) → a ≡ a0 → x ≡ x0 → BothTallied {T = Unit {0}} a b x y (Err e) → StatusTallied a0 b x0 y (status_of e n)
 tallied_stopped a0 a b x0 x y n (Refused f) p q h = (h.0 ∙ p, h.1 ∙ q)
 tallied_stopped a0 a b x0 x y n Storage p q h =
     (rw (sym p, sym q) h.0, rw (sym p) h.1, rw (sym q) h.2)
 tallied_stopped a0 a b x0 x y n NoMemory p q h = (h.0 ∙ p, h.1 ∙ q)
-
-pub step_done : (l : Line) (files found after : Files) (taken now : List ℕ) (e : Effect) (a b x y : ℕ) (r : Result (Unit {0}) Stopped) → found ≡ files → EffectIs l files (Ok e) → PerformIs e found taken after now r → PerformTallied a b x y r
-    → StepIs l files taken after now r
-step_done l files found after taken now e a b x y (Ok u) same is done_so tally = (
-  done_so.0,
-  done_so.1,
-  λ s at. record {
-    state = done e s;
-    step_is = is s at;
-    files_are = (done_so.2 s (at ∙ sym same)).0;
-    text_is = (done_so.2 s (at ∙ sym same)).1;
-  },
-)
-step_done l files found after taken now e a b x y (Err (Refused f)) same is done_so tally = absurd tally
-step_done l files found after taken now e a b x y (Err Storage) same is done_so tally = tt
-step_done l files found after taken now e a b x y (Err NoMemory) same is done_so tally = tt

@@ -1,9 +1,6 @@
--- What the parts of a run answer.
+-- What the parts of a statement answer.
 use Rattle.std.specs.Prelude.{◌≡◌, ◌≤◌, ℕ, Result, Ok, Err}
 use Rattle.xr_types.specs.declared.fault.Fault.{Fault}
-use Rattle.xr_types.specs.declared.status.ScriptFault.{ScriptFault}
-use Rattle.xr_run.specs.declared.unread.Unread.{Unread}
-use Rattle.xr_run.specs.declared.unread.Unread.TheVariants as unread
 use Rattle.xr_run.specs.Outside.{Rose}
 use Rattle.xr_run.specs.declared.stopped.Stopped.{Stopped}
 use Rattle.xr_run.specs.declared.stopped.Stopped.TheVariants.{Refused, Storage, NoMemory}
@@ -28,9 +25,3 @@ Tallied before now (Ok x) = now ≡ before
 Tallied before now (Err (Refused f)) = now ≡ before
 Tallied before now (Err Storage) = Rose before now × (before ≤ now)
 Tallied before now (Err NoMemory) = now ≡ before
-
--- the same of what a script is read as
-abbrev pub Reads : {A B : Type 0} → (A → B) → Result A Unread → Result B ScriptFault → Type 0
-Reads view (Ok a) told = told ≡ Ok (view a)
-Reads view (Err (unread.Bad f)) told = told ≡ Err f
-Reads view (Err unread.NoMemory) told = Unit {0}

@@ -1,20 +1,20 @@
 -- How the top call ends.
-use Rattle.std.specs.Prelude.{◌≡◌, ◌⊎◌, ◌++◌, ℕ, List}
+use Rattle.std.specs.Prelude.{◌≡◌, ◌⊎◌, ◌++◌, ℕ, List, Option, true}
 use Rattle.xr_types.specs.declared.status.Status.{Status}
 use Rattle.xr_types.specs.declared.status.Status.TheVariants.{Done, Refused, BadWords, NoScript, BadScript, Storage, NoMemory}
 use Rattle.xr_defs.specs.Opening.{Files}
 use Rattle.xr_defs.specs.Messages.{status_line}
-use Rattle.xr_defs.specs.Runs.{run_of}
+use Rattle.xr_defs.specs.Runs.{Ended, Run}
 use Rattle.xr_run.specs.Outside.{Rose}
-use Rattle.xr_run.specs.Steps.{IsRun}
+use Rattle.xr_run.specs.Ends.{IsEnd}
 
--- unless something failed or memory ran out: the status, the files after the run and what the output sink gained are
--- those of the definitions, and the error sink gained the status's line
-abbrev pub RunEnds : Files → List (List ℕ) → Files → List ℕ → List ℕ → List ℕ → List ℕ → Status → Type 0
-RunEnds files words after out_before out_after err_before err_after Storage = Unit {0}
-RunEnds files words after out_before out_after err_before err_after NoMemory = Unit {0}
-RunEnds files words after out_before out_after err_before err_after status =
-    IsRun (run_of words files) status after out_before out_after × (err_after ≡ err_before ++ status_line words status)
+-- unless something failed or memory ran out: the status, the files after the run and what the output sink gained are those of
+-- the one end that the run has by the definitions, and the error sink gained the status's line
+abbrev pub RunEnds : Files → Option (List ℕ) → Files → List ℕ → List ℕ → List ℕ → List ℕ → Status → Type 0
+RunEnds files script after out_before out_after err_before err_after Storage = Unit {0}
+RunEnds files script after out_before out_after err_before err_after NoMemory = Unit {0}
+RunEnds files script after out_before out_after err_before err_after status =
+    ((e : Ended) × Run files script e × IsEnd e status after true out_before out_after) × (err_after ≡ err_before ++ status_line script status)
 
 -- the counts of faults of the store, the output sink and the error sink: one of them rose where something failed; and
 -- unless something failed or memory ran out, all are as before
@@ -22,13 +22,6 @@ abbrev pub RunCounted : ℕ → ℕ → ℕ → ℕ → ℕ → ℕ → Status �
 RunCounted a b x y p q Storage = Rose a b ⊎ (Rose x y ⊎ Rose p q)
 RunCounted a b x y p q NoMemory = Unit {0}
 RunCounted a b x y p q status = (b ≡ a) × (y ≡ x) × (q ≡ p)
-
--- where no statement has begun, the output sink took nothing
-abbrev pub Untouched : List ℕ → List ℕ → Status → Type 0
-Untouched before after BadWords = after ≡ before
-Untouched before after NoScript = after ≡ before
-Untouched before after (BadScript f) = after ≡ before
-Untouched before after status = Unit {0}
 
 -- how a run ends whose line on the error sink failed
 abbrev pub unsaid : Status → Status

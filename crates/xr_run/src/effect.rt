@@ -1,9 +1,14 @@
 //! What a statement does once nothing refuses it.
-use xr_types::Name;
+use xr_types::TextBytes;
+use xr_values::Value;
 
 /// What a statement does once nothing refuses it.
 #[derive(Drop)]
 pub enum Effect {
-    /// Prints a text.
+    /// A name stands for a value from now on.
+    Bind(TextBytes, Value),
+    /// A text is printed.
     Print(Vec<u8>),
+    /// Bytes become those of the file of a name.
+    Write(TextBytes, Vec<u8>),
 }

@@ -2,25 +2,25 @@
 #![tactic(auto)]
 
 mod effect;
+mod eval;
+mod functions;
 mod laws;
 mod memory;
 mod message;
-mod opening;
+mod names;
 mod outside;
 mod printed_name;
 mod put_log;
+mod roomy_bytes;
 mod roomy_log;
-mod run_lines;
-mod script;
-mod spelling;
+mod run_statements;
 mod step;
 mod stopped;
-mod sum;
 mod top;
-mod unread;
+mod words;
 mod write_all;
 
-pub use laws::script_is_read;
+pub use laws::one_end_fits;
 pub use memory::{MemFile, MemSink, MemStore};
 pub use outside::{Gate, Got, NoGate, Sink, SinkFailed, Store, StoreFailed, StoreFault};
 pub use top::{exit_number, run};

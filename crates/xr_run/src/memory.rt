@@ -1,12 +1,13 @@
 //! A store and a sink in memory, for tests.
-ghost use Rattle.std.specs.Prelude.{◌≡◌, ◌+◌, ◌-◌, ◌^◌, ◌<◌, ◌≤◌, min, [], true, length, option_map, IsOk, IfOk, OnOk};
+ghost use Rattle.std.specs.Prelude.{◌≡◌, ◌≢◌, ◌+◌, ◌^◌, ◌<◌, ◌≤◌, [], true, false, length, option_map, Ok, Err, IsOk, IfOk, OnOk};
 ghost use Rattle.xr_defs.specs.Canonical.{are_distinct};
-ghost use Rattle.xr_run.specs.Outside.{PutIs, OthersSame, Counted};
+ghost use Rattle.xr_run.specs.Outside.{PutIs, OthersSame, Counted, GetCounted, GotIs, IsWithin, Takes, IsCount};
 ghost use Rattle.xr_run.specs.PutLog.{found_in};
-ghost use Rattle.xr_run.specs.Memory.{is_listed, files_of, put_all, file_names, nothing, bytes_of};
+ghost use Rattle.xr_run.specs.Memory.{is_listed, next_call, Fails, files_of, put_all, file_names, nothing, bytes_of};
 
 use crate::outside::{Got, Sink, SinkFailed, Store, StoreFailed, StoreFault};
 use crate::put_log::PutLog;
+use crate::roomy_bytes::RoomyBytes;
 use crate::roomy_log::RoomyLog;
 use std::alloc::Global;
 use xr_types::{ByteList, NoMemory, TextBytes};
@@ -79,7 +80,7 @@ fn log_of(alloc: Global, files: &[MemFile]) -> Result<PutLog, NoMemory>
 // Counts a call, and says whether it is to fail.
 fn is_failing(failing: &[u64], calls: &mut u64) -> bool
     ensures listed { result ≡ is_listed failing.now calls.new }
-    ensures counted { calls.new ≡ min (calls.old + 1) (2 ^ 64 - 1) }
+    ensures counted { calls.new ≡ next_call calls.old }
 {
     *calls = calls.saturating_add(1);
     failing.contains(calls)
@@ -92,7 +93,19 @@ impl Store for MemStore {
 
     ghost faults = { λ s. s.faults };
 
-    fn get(&mut self, alloc: Global, name: &TextBytes, limit: u64) -> Result<Got, StoreFault> {
+    // Beside the clauses of the trait: a call that is listed as failing fails, and no other one does.
+    fn get(&mut self, alloc: Global, name: &TextBytes, limit: u64) -> Result<Got, StoreFault>
+        ensures answer { IfOk result (λ got. GotIs (files_of self.old name.now) limit got) }
+        ensures within { IfOk result (λ got. IsWithin limit got) }
+        ensures keeps { files_of self.new ≡ files_of self.old }
+        ensures counted { GetCounted self.old.faults self.new.faults result }
+        ensures counts { self.new.faults < 2 ^ 64 }
+        ensures listed { is_listed self.old.failing.items (next_call self.old.calls) ≡ true → Fails self.old.faults self.new.faults result }
+        ensures unlisted { is_listed self.old.failing.items (next_call self.old.calls) ≡ false → result ≢ Err StoreFault.Failed }
+        ensures room { self.new.kept.room ≡ self.old.kept.room }
+        ensures failing { self.new.failing.items ≡ self.old.failing.items }
+        ensures calls { self.new.calls ≡ next_call self.old.calls }
+    {
         let faults = self.faults;
         if is_failing(&self.failing, &mut self.calls) {
             self.faults = faults.saturating_add(1);
@@ -112,15 +125,18 @@ impl Store for MemStore {
         }
     }
 
-    // Beside the clauses of the trait: with no call listed as failing and room enough it succeeds.
+    // Beside the clauses of the trait: a call that isn't listed as failing succeeds where there is room enough, and a listed
+    // one fails.
     fn put(&mut self, name: &TextBytes, bytes: &[u8]) -> Result<(), StoreFailed>
         ensures here { PutIs bytes.now (files_of self.old name.now) (files_of self.new name.now) result }
         ensures others { OthersSame name.now (files_of self.old) (files_of self.new) }
         ensures counted { Counted self.old.faults self.new.faults result }
         ensures counts { self.new.faults < 2 ^ 64 }
-        ensures succeeds { self.old.failing.items ≡ [] → length name.now + length bytes.now ≤ self.old.kept.room → IsOk result }
+        ensures succeeds { is_listed self.old.failing.items (next_call self.old.calls) ≡ false → length name.now + length bytes.now ≤ self.old.kept.room → IsOk result }
+        ensures listed { is_listed self.old.failing.items (next_call self.old.calls) ≡ true → Fails self.old.faults self.new.faults result }
         ensures room { OnOk result (self.new.kept.room + (length name.now + length bytes.now) ≡ self.old.kept.room) }
         ensures failing { self.new.failing.items ≡ self.old.failing.items }
+        ensures calls { self.new.calls ≡ next_call self.old.calls }
     {
         let faults = self.faults;
         if is_failing(&self.failing, &mut self.calls) {
@@ -140,8 +156,7 @@ impl Store for MemStore {
 /// Bytes in memory. The calls of `put` whose numbers are listed fail, counted from 1, and so does one past the room.
 #[derive(Drop)]
 pub struct MemSink {
-    bytes: Vec<u8>,
-    room: usize,
+    kept: RoomyBytes,
     failing: Vec<u64>,
     calls: u64,
     faults: u64,
@@ -152,12 +167,14 @@ impl MemSink {
     pub fn new(alloc: Global, room: u64, failing: &[u64]) -> Result<MemSink, NoMemory>
         ensures bytes { IfOk result (λ s. bytes_of s ≡ []) }
         ensures count { IfOk result (λ s. s.faults ≡ 0) }
+        ensures room { IfOk result (λ s. s.kept.room ≡ room) }
+        ensures failing { IfOk result (λ s. s.failing.items ≡ failing.now) }
+        ensures calls { IfOk result (λ s. s.calls ≡ 0) }
     {
-        let bytes = Vec::with_capacity(alloc, room as usize)?;
+        let kept = RoomyBytes::new(alloc, room)?;
         let failing = Vec::from_slice(alloc, failing)?;
         Ok(MemSink {
-            bytes,
-            room: room as usize,
+            kept,
             failing,
             calls: 0,
             faults: 0,
@@ -168,7 +185,7 @@ impl MemSink {
     pub fn taken(&self) -> &[u8]
         ensures { result.now ≡ bytes_of self.now }
     {
-        self.bytes.as_slice()
+        self.kept.bytes.as_slice()
     }
 }
 
@@ -179,17 +196,26 @@ impl Sink for MemSink {
 
     ghost faults = { λ s. s.faults };
 
-    fn put(&mut self, bytes: &[u8]) -> Result<usize, SinkFailed> {
+    // Beside the clauses of the trait: a call that isn't listed as failing takes the whole piece where there is room for it,
+    // and a listed one fails.
+    fn put(&mut self, bytes: &[u8]) -> Result<usize, SinkFailed>
+        ensures takes { Takes bytes.now (bytes_of self.old) (bytes_of self.new) result }
+        ensures count { IsCount bytes.now result }
+        ensures counted { Counted self.old.faults self.new.faults result }
+        ensures counts { self.new.faults < 2 ^ 64 }
+        ensures succeeds { is_listed self.old.failing.items (next_call self.old.calls) ≡ false → length bytes.now ≤ self.old.kept.room → result ≡ Ok (length bytes.now) }
+        ensures listed { is_listed self.old.failing.items (next_call self.old.calls) ≡ true → Fails self.old.faults self.new.faults result }
+        ensures room { IfOk result (λ n. self.new.kept.room + n ≡ self.old.kept.room) }
+        ensures failing { self.new.failing.items ≡ self.old.failing.items }
+        ensures calls { self.new.calls ≡ next_call self.old.calls }
+    {
         let faults = self.faults;
-        if is_failing(&self.failing, &mut self.calls) || bytes.len() > self.room {
+        if is_failing(&self.failing, &mut self.calls) {
             self.faults = faults.saturating_add(1);
             return Err(SinkFailed);
         }
-        match self.bytes.extend_from_slice(bytes) {
-            Ok(()) => {
-                self.room -= bytes.len();
-                Ok(bytes.len())
-            }
+        match self.kept.put(bytes) {
+            Ok(()) => Ok(bytes.len()),
             Err(_) => {
                 self.faults = faults.saturating_add(1);
                 Err(SinkFailed)

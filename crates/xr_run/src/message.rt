@@ -3,7 +3,7 @@ ghost use Rattle.std.specs.Prelude.{◌≡◌, ◌++◌, ◌∷◌, [], OnOk, If
 ghost use Rattle.std.specs.Fmt.{decimal};
 ghost use Rattle.xr_types.specs.Faults.{script_words};
 ghost use Rattle.xr_defs.specs.Text.{printed_name};
-ghost use Rattle.xr_defs.specs.Messages.{named_text, fault_text, second, status_line};
+ghost use Rattle.xr_defs.specs.Messages.{named_text, fault_text, script_name, status_line};
 
 use crate::printed_name::push_name;
 use itoa::Buffer;
@@ -56,15 +56,6 @@ fn push_fault(out: &mut Vec<u8>, fault: &Fault) -> Result<(), AllocError>
     push_named(out, fault)
 }
 
-fn second(words: &[TextBytes]) -> &[u8]
-    ensures { result.now ≡ second words.now }
-{
-    match words {
-        [_, script, ..] => script.as_bytes(),
-        _ => b"",
-    }
-}
-
 fn refused_line(alloc: Global, number: u32, fault: &Fault) -> Result<Vec<u8>, AllocError>
     ensures { IfOk result (λ v. v.items ≡ codes "xrs: statement " ++ (decimal number ++ (codes ": " ++ (fault_text fault.now ++ 10 ∷ [])))) }
 {
@@ -87,28 +78,38 @@ fn script_line(alloc: Global, fault: ScriptFault) -> Result<Vec<u8>, AllocError>
     Ok(out)
 }
 
-fn no_script_line(alloc: Global, words: &[TextBytes]) -> Result<Vec<u8>, AllocError>
-    ensures { IfOk result (λ v. v.items ≡ codes "xrs: no script " ++ (printed_name (second words.now) ++ 10 ∷ [])) }
+// The bytes of the script's name, where the words give one.
+fn script_name(script: &Option<TextBytes>) -> &[u8]
+    ensures { result.now ≡ script_name script.now }
+{
+    match script {
+        Some(name) => name.as_bytes(),
+        None => b"",
+    }
+}
+
+fn no_script_line(alloc: Global, script: &Option<TextBytes>) -> Result<Vec<u8>, AllocError>
+    ensures { IfOk result (λ v. v.items ≡ codes "xrs: no script " ++ (printed_name (script_name script.now) ++ 10 ∷ [])) }
 {
     let mut out = Vec::from_slice(alloc, b"xrs: no script ")?;
-    push_name(&mut out, second(words))?;
+    push_name(&mut out, script_name(script))?;
     out.push(b'\n')?;
     Ok(out)
 }
 
-/// The line for a status.
+/// The line for a status of the run of a script.
 pub(crate) fn status_line(
     alloc: Global,
-    words: &[TextBytes],
+    script: &Option<TextBytes>,
     status: &Status,
 ) -> Result<Vec<u8>, AllocError>
-    ensures { IfOk result (λ v. v.items ≡ status_line words.now status.now) }
+    ensures { IfOk result (λ v. v.items ≡ status_line script.now status.now) }
 {
     match status {
         Status::Done => Ok(Vec::new(alloc)),
         Status::Refused(number, fault) => refused_line(alloc, *number, fault),
         Status::BadWords => Vec::from_slice(alloc, USAGE),
-        Status::NoScript => no_script_line(alloc, words),
+        Status::NoScript => no_script_line(alloc, script),
         Status::BadScript(fault) => script_line(alloc, *fault),
         Status::Storage => Vec::from_slice(alloc, b"xrs: storage fault\n"),
         Status::NoMemory => Vec::from_slice(alloc, b"xrs: out of memory\n"),

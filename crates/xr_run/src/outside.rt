@@ -48,7 +48,7 @@ pub trait Store {
     fn get(&mut self, alloc: Global, name: &TextBytes, limit: u64) -> Result<Got, StoreFault>
         ensures answer { IsTrue (tells self.old) → IfOk result (λ got. GotIs (held self.old name.now) limit got) }
         ensures within { IfOk result (λ got. IsWithin limit got) }
-        ensures keeps { IsTrue (tells self.old) → (n : List ℕ) → held self.new n ≡ held self.old n }
+        ensures keeps { IsTrue (tells self.old) → held self.new ≡ held self.old }
         ensures tells { tells self.new ≡ tells self.old }
         ensures counted { GetCounted (faults self.old) (faults self.new) result }
         ensures counts { faults self.new < 2 ^ 64 };

@@ -1,9 +1,10 @@
 //! Why a statement was not carried out.
 ghost use Rattle.std.specs.Prelude.{◌≡◌};
 ghost use Rattle.xr_run.specs.declared.stopped.Stopped.TheVariants as stops;
+ghost use Rattle.xr_run.specs.Stops.{stopped_by};
 
 use std::alloc::{AllocError, AllocFailed};
-use xr_types::Fault;
+use xr_types::{CallFault, Fault};
 
 /// Why a statement was not carried out.
 #[derive(Drop)]
@@ -27,5 +28,17 @@ impl<T: Drop> From<AllocFailed<T>> for Stopped {
 
     fn from(_e: AllocFailed<T>) -> Stopped {
         Stopped::NoMemory
+    }
+}
+
+// No call of the definitions declines.
+impl From<CallFault> for Stopped {
+    ghost from_gives = { λ fault e. e ≡ stopped_by fault };
+
+    fn from(fault: CallFault) -> Stopped {
+        match fault {
+            CallFault::Refused(fault) => Stopped::Refused(fault),
+            CallFault::Declined(_) | CallFault::NoMemory => Stopped::NoMemory,
+        }
     }
 }

@@ -1,4 +1,5 @@
-use Rattle.std.proofs.Common.{arith, rules}
+use Rattle.std.proofs.Common.{arith, rules, subst, sym, length, ◌≤◌}
+use Rattle.xr_arrays.proofs.Few.{falling_few}
 use Rattle.std.proofs.lemmas.Grind.{common_steps}
 use Rattle.xr_arrays.proofs.Walks.{falling_begins, falling_ends, falling_goes, falling_on, zero_rest}
 use Rattle.xr_arrays.proofs.positions.walk_back.Goals as goal
@@ -21,3 +22,6 @@ walk-preserved c = record {
 
 pub returns-clause-positions : goal.returns-clause-positions
 returns-clause-positions c = falling_ends c.walk.out.items _ c.args.above c.args.low c.args.step c.walk.at c.walk-test.false c.walk.invariant.so_far
+
+pub returns-clause-few : goal.returns-clause-few
+returns-clause-few c = subst (λ xs. length xs ≤ c.args.n) (sym (returns-clause-positions c)) (falling_few c.args.n c.args.above c.args.low c.args.step)

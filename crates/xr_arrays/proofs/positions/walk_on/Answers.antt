@@ -1,4 +1,5 @@
-use Rattle.std.proofs.Common.{arith, rules}
+use Rattle.std.proofs.Common.{arith, rules, subst, sym, length, ◌≤◌}
+use Rattle.xr_arrays.proofs.Few.{rising_few}
 use Rattle.std.proofs.lemmas.Grind.{common_steps}
 use Rattle.xr_arrays.proofs.Walks.{rising_begins, rising_ends, rising_goes, rising_on, zero_rest}
 use Rattle.xr_arrays.proofs.positions.walk_on.Goals as goal
@@ -21,3 +22,6 @@ walk-preserved c = record {
 
 pub returns-clause-positions : goal.returns-clause-positions
 returns-clause-positions c = rising_ends c.walk.out.items _ c.args.n c.args.start c.args.stop c.args.step c.walk.at c.walk-test.false c.walk.invariant.so_far
+
+pub returns-clause-few : goal.returns-clause-few
+returns-clause-few c = subst (λ xs. length xs ≤ c.args.n) (sym (returns-clause-positions c)) (rising_few c.args.n c.args.start c.args.stop c.args.step)

@@ -1,8 +1,7 @@
 use Rattle.std.proofs.Common.{◌≡◌, ◌*◌, ap, ◌∙◌, length, length-drop}
 use Rattle.std.proofs.lemmas.List.{length-take-le}
 use Rattle.xr_arrays.specs.Takes.{parts}
-use Rattle.xr_arrays.proofs.Joined.{row_left}
-use Rattle.xr_arrays.proofs.Taken.{parts_inside, blocks_more, blocks_end}
+use Rattle.xr_arrays.proofs.Taken.{row_left, parts_inside, blocks_more, blocks_end}
 use Rattle.xr_arrays.proofs.take.push_copied.Goals as goal
 
 pub split_at-requires : goal.split_at-requires

@@ -1,0 +1,38 @@
+-- What the expressions of a script stand for.
+use Rattle.std.specs.Prelude.{ℕ, ℤ, Bool, List, Option}
+use Rattle.xr_defs.specs.declared.slice.Part.{Part}
+use Rattle.xr_defs.specs.declared.file.CdfFile.{CdfFile}
+use Rattle.xr_defs.specs.Values.{DataArray}
+
+mutual
+  -- a value of the script language
+  pub data Value : Type 0 where
+    -- `None`
+    Absent : Value
+    -- `NA`, a missing cell
+    Missing : Value
+    Truth : Bool → Value
+    Number : ℤ → Value
+    Text : List ℕ → Value
+    Sequence : Values → Value
+    Table : Entries → Value
+    -- start, stop and step; a step that isn't given is none
+    Slice : Part → Part → Option ℤ → Value
+    Array : DataArray → Value
+    -- the dataset of a file, of which a variable can be taken so far
+    Opened : CdfFile → Value
+
+  -- items of a list, the last one outermost
+  pub data Values : Type 0 where
+    NoValue : Values
+    With : Values → Value → Values
+
+  -- entries of a table by their keys, the last one outermost
+  pub data Entries : Type 0 where
+    NoEntry : Entries
+    Entry : Entries → List ℕ → Value → Entries
+
+-- what a call is given: plain arguments, and arguments by keyword, each in the order in which they are written
+pub record Given : Type 0 where
+  pub plain : List Value
+  pub keyed : List (List ℕ × Value)

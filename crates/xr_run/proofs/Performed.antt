@@ -1,0 +1,42 @@
+-- What statements do, done.
+use Rattle.std.proofs.Common.{◌≡◌, ◌≢◌, ℕ, Bool, true, false, cond, List, [], ◌++◌, Option, Some, Ok, refl, sym, ap, ap₂, ◌∙◌}
+use Rattle.std.specs.Prelude.{IsTrue, Vec}
+use Rattle.std.specs.Str.{bytes_eq}
+use Rattle.std.specs.declared.alloc.Global.{Global}
+use Rattle.std.proofs.Math.Path.{fun_ext}
+use Rattle.std.proofs.lemmas.Bool.{false≢true}
+use Rattle.std.proofs.lemmas.List.{append-nil}
+use Rattle.std.proofs.lemmas.Slice.Eq.{bytes_eq-Decides}
+use Rattle.xr_types.specs.declared.text.TextBytes.{TextBytes}
+use Rattle.xr_defs.specs.Opening.{Files}
+use Rattle.xr_defs.specs.Evaluation.{Names}
+use Rattle.xr_defs.specs.Runs.{put}
+use Rattle.xr_values.specs.declared.value.Value.{Value}
+use Rattle.xr_values.specs.Meaning.{meaning}
+use Rattle.xr_run.specs.declared.effect.Effect.TheVariants.{Bind, Print, Write}
+use Rattle.xr_run.specs.Outside.{OthersSame}
+use Rattle.xr_run.specs.Steps.{at, PerformIs}
+
+-- a map of which one name has a new entry
+pub put_is : {X : Type 0} (old new : List ℕ → Option X) (name : List ℕ) (x : X) → new name ≡ Some x → ((n : List ℕ) → n ≢ name → new n ≡ old n) → new ≡ put old name x
+put_is old new name x here others =
+    fun_ext (λ n.
+    let at_n : (b : Bool) → bytes_eq n name ≡ b → new n ≡ cond b (Some x) (old n) = λ b.
+    elim b as (λ v. bytes_eq n name ≡ v → new n ≡ cond v (Some x) (old n)) [
+      | true ↦ λ e. ap new ((bytes_eq-Decides n name).0 e) ∙ here
+      | false ↦ λ e. others n (λ q. false≢true (sym e ∙ (bytes_eq-Decides n name).1 q))
+    ] in
+    at_n (bytes_eq n name) refl)
+
+pub bound : (name : TextBytes) (value : Value) (names after : Names) (files : Files) (told : Bool) (taken : List ℕ) → after ≡ put names name (meaning value)
+    → PerformIs (Bind name value) names after files files told taken taken (Ok tt)
+bound name value names after files told taken e =
+    ([], λ t. sym (append-nil taken), λ text. ap₂ (λ (ns : Names) (w : List ℕ). at ns files w) (sym e) (sym (append-nil text)))
+
+pub printed : (text : Vec ℕ Global) (names : Names) (files : Files) (told : Bool) (taken now : List ℕ) → (IsTrue told → now ≡ taken ++ text.items) → PerformIs (Print text) names names files files told taken now (Ok tt)
+printed text names files told taken now gained = (text.items, gained, λ before. refl)
+
+pub wrote : (name : TextBytes) (bytes : Vec ℕ Global) (names : Names) (files after : Files) (told : Bool) (taken : List ℕ) → after name ≡ Some bytes.items → OthersSame name files after
+    → PerformIs (Write name bytes) names names files after told taken taken (Ok tt)
+wrote name bytes names files after told taken here others =
+    ([], λ t. sym (append-nil taken), λ text. ap₂ (λ (fs : Files) (w : List ℕ). at names fs w) (sym (put_is files after name bytes.items here others)) (sym (append-nil text)))

@@ -1,0 +1,52 @@
+//! Carries out the statements of a script in order.
+ghost use Rattle.std.specs.Prelude.{◌≡◌, map, IsTrue};
+ghost use Rattle.xr_defs.specs.Syntax.{line_of};
+ghost use Rattle.xr_defs.specs.Runs.{run_from, start};
+ghost use Rattle.xr_run.specs.Ends.{Ends, StatementsKeep, StatusTallied, Untouched, status_of};
+
+use crate::names::NameMap;
+use crate::outside::{Sink, Store};
+use crate::step::step;
+use crate::stopped::Stopped;
+use std::alloc::Global;
+use xr_defs::Statement;
+use xr_types::Status;
+
+// How a run ends that stops at the statement of this number.
+fn status_of(stopped: Stopped, number: u32) -> Status
+    ensures { result ≡ status_of stopped number }
+{
+    match stopped {
+        Stopped::Refused(fault) => Status::Refused(number, fault),
+        Stopped::Storage => Status::Storage,
+        Stopped::NoMemory => Status::NoMemory,
+    }
+}
+
+/// Carries out the statements in order, up to the first that is refused.
+pub(crate) fn run_statements<S: Store, O: Sink>(
+    alloc: Global,
+    statements: &[Statement],
+    store: &mut S,
+    out: &mut O,
+) -> Status
+    ensures ends { IsTrue (S.tells store.old) → Ends (run_from 1 (map line_of statements.now) (start (S.held store.old))) (S.held store.new) (O.tells out.old) (O.taken out.old) (O.taken out.new) result }
+    ensures keeps { IsTrue (S.tells store.old) → StatementsKeep (map line_of statements.now) (S.held store.old) (S.held store.new) }
+    ensures store_tells { S.tells store.new ≡ S.tells store.old }
+    ensures out_tells { O.tells out.new ≡ O.tells out.old }
+    ensures begun { Untouched (O.taken out.old) (O.taken out.new) result }
+    ensures tallied { StatusTallied (S.faults store.old) (S.faults store.new) (O.faults out.old) (O.faults out.new) result }
+{
+    let mut names = NameMap::new(alloc);
+    for (i, statement) in statements.iter().enumerate() {
+        // No script has more statements than such a number counts.
+        let Ok(number) = u32::try_from(i + 1) else {
+            return Status::NoMemory;
+        };
+        match step(alloc, statement, &mut names, store, out) {
+            Ok(()) => {}
+            Err(stopped) => return status_of(stopped, number),
+        }
+    }
+    Status::Done
+}

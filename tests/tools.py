@@ -1,0 +1,93 @@
+#!/usr/bin/env python3
+"""Files that the program writes, as the tools of others read them: each accepts every file, with the same contents.
+
+    tools.py PROGRAM
+
+The tools are `ncdump` and `ncvalidator` (Debian: netcdf-bin, pnetcdf-bin), and scipy, netCDF4 and xarray of Debian's
+Python. What is missing is skipped, and the output says so.
+The last line is 'N passed, M failed, K skipped'.
+"""
+import os
+import re
+import shutil
+import subprocess
+import sys
+import tempfile
+
+EXAMPLES = os.path.join(os.path.dirname(os.path.abspath(__file__)), "..", "examples")
+PYTHON = "/usr/bin/python3" if os.path.exists("/usr/bin/python3") else sys.executable
+
+SCRIPT = """o = open_dataset("a.nc")["v"]
+o.to_netcdf("whole.nc")
+o.isel(x=slice(1, 3)).to_netcdf("part.nc")
+o.sum().to_netcdf("sum.nc")
+p = open_dataset("labels.nc")["v"]
+p.isel(x=slice(None, None, -2)).to_netcdf("turned.nc")
+"""
+
+# The numbers of each variable of each file.
+WRITTEN = {
+    "whole.nc": {"v": [1, 2, 3]},
+    "part.nc": {"v": [2, 3]},
+    "sum.nc": {"v": [6]},
+    "turned.nc": {"x": [3, 1], "v": [30, 10]},
+}
+
+# How a library of Python gives a variable's numbers.
+LIBRARIES = {
+    "scipy": 'from scipy.io import netcdf_file\nf = netcdf_file(path, "r", mmap=False)\nget = lambda n: f.variables[n].data',
+    "netCDF4": "from netCDF4 import Dataset\nf = Dataset(path)\nget = lambda n: f[n][:]",
+    "xarray": "import xarray\nf = xarray.open_dataset(path)\nget = lambda n: f[n].values",
+}
+
+
+def by_ncdump(path, names):
+    ran = subprocess.run(["ncdump", path], capture_output=True, text=True)
+    if ran.returncode != 0:
+        return None
+    values = ran.stdout[ran.stdout.index("data:"):]
+    found = {name: re.search(rf"\b{name} = ([^;]*);", values) for name in names}
+    return {name: [int(n) for n in it.group(1).split(",")] for name, it in found.items() if it}
+
+
+def by_library(code, path, names):
+    script = f"import numpy\npath = {path!r}\n{code}\nprint({{n: [int(i) for i in numpy.ravel(get(n))] for n in {list(names)!r}}})"
+    ran = subprocess.run([PYTHON, "-c", script], capture_output=True, text=True)
+    return eval(ran.stdout) if ran.returncode == 0 else None
+
+
+def has_library(name):
+    return subprocess.run([PYTHON, "-c", f"import {name}"], capture_output=True).returncode == 0
+
+
+def main():
+    program = os.path.abspath(sys.argv[1])
+    passed = failed = skipped = 0
+    with tempfile.TemporaryDirectory() as folder:
+        for name in ("a.nc", "labels.nc"):
+            shutil.copy(os.path.join(EXAMPLES, name), folder)
+        with open(os.path.join(folder, "s.xrs"), "w") as f:
+            f.write(SCRIPT)
+        subprocess.run([program, "s.xrs"], cwd=folder, check=True)
+        checks = {
+            "ncdump": (bool(shutil.which("ncdump")), lambda path, values: by_ncdump(path, values) == values),
+            "ncvalidator": (bool(shutil.which("ncvalidator")), lambda path, values: subprocess.run(["ncvalidator", "-q", path], capture_output=True).returncode == 0),
+        }
+        for library, code in LIBRARIES.items():
+            checks[library] = (has_library(library), lambda path, values, code=code: by_library(code, path, values) == values)
+        for tool, (there, holds) in checks.items():
+            if not there:
+                print(f"skipped: {tool} isn't installed")
+                skipped += 1
+                continue
+            for name, values in WRITTEN.items():
+                if holds(os.path.join(folder, name), values):
+                    passed += 1
+                else:
+                    print(f"{tool} doesn't read {name} as it was written")
+                    failed += 1
+    print(f"{passed} passed, {failed} failed, {skipped} skipped")
+    return 1 if failed else 0
+
+
+sys.exit(main())
