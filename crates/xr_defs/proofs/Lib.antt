@@ -15,3 +15,6 @@ mod CanonicalExamples
 mod FoldExamples
 pub mod FoldRanges
 mod TimeRows
+mod DecodingExamples
+mod EncodingExamples
+mod DatasetExamples

@@ -25,3 +25,10 @@ pub mod Meanings
 pub mod Calls
 pub mod Evaluation
 pub mod Runs
+pub mod Decoding
+pub mod Printing
+pub mod Encoding
+pub mod Nodes
+pub mod Selecting
+pub mod Parts
+pub mod Building

@@ -3,6 +3,7 @@
 
 mod array;
 mod file;
+mod node;
 mod operation;
 mod scan;
 mod search;
@@ -13,9 +14,11 @@ mod tally;
 mod time;
 mod token;
 mod value;
+mod write_options;
 
 pub use array::{ArrayValue, Cells};
 pub use file::{CdfDim, CdfFile, CdfVar, VarHead};
+pub use node::{Feed, Node, Sources};
 pub use operation::{FoldKind, How, Near, OpKind};
 pub use scan::{Front, Scan, ScanEnd};
 pub use search::{Direction, Span};
@@ -26,6 +29,7 @@ pub use tally::Tally;
 pub use time::{Field, Freq, Period};
 pub use token::{Mark, Placed, Reserved, Token};
 pub use value::{Content, Coord};
+pub use write_options::WriteOptions;
 
 #[cfg(test)]
 mod tests;
