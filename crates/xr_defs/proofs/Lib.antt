@@ -18,3 +18,4 @@ mod TimeRows
 mod DecodingExamples
 mod EncodingExamples
 mod DatasetExamples
+mod CallExamples

@@ -32,3 +32,4 @@ pub mod Nodes
 pub mod Selecting
 pub mod Parts
 pub mod Building
+pub mod DatasetCalls

@@ -2,7 +2,7 @@
 use Rattle.std.specs.Prelude.{ℕ, ℤ, Bool, List, Option}
 use Rattle.xr_defs.specs.declared.slice.Part.{Part}
 use Rattle.xr_defs.specs.declared.file.CdfFile.{CdfFile}
-use Rattle.xr_defs.specs.Values.{DataArray}
+use Rattle.xr_defs.specs.Values.{DataArray, Dataset}
 
 mutual
   -- a value of the script language
@@ -19,7 +19,8 @@ mutual
     -- start, stop and step; a step that isn't given is none
     Slice : Part → Part → Option ℤ → Value
     Array : DataArray → Value
-    -- the dataset of a file, of which a variable can be taken so far
+    Set : Dataset → Value
+    -- a file, of which a variable can be taken, as long as files aren't opened as datasets
     Opened : CdfFile → Value
 
   -- items of a list, the last one outermost

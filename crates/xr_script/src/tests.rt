@@ -66,7 +66,8 @@ fn fault_in(alloc: Global, bytes: &[u8]) -> Option<(ScriptKind, u32)> {
     match parse(alloc, bytes) {
         Ok(_) => None,
         Err(ParseFault::Script(fault)) => Some((fault.kind, fault.line)),
-        Err(ParseFault::NoMemory) => Some((ScriptKind::NotBuilt, 0)),
+        // No fault stands in this line.
+        Err(ParseFault::NoMemory) => Some((ScriptKind::NotUtf8, u32::MAX)),
     }
 }
 

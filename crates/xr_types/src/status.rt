@@ -9,8 +9,6 @@ pub enum ScriptKind {
     TooDeep,
     TooMany,
     NotUtf8,
-    /// A script of a form that this program doesn't read yet.
-    NotBuilt,
 }
 
 /// Why a text is no script, and in which line, counted from 1.
@@ -34,7 +32,6 @@ impl ScriptKind {
             ScriptKind::TooDeep => "too deep",
             ScriptKind::TooMany => "too many",
             ScriptKind::NotUtf8 => "not UTF-8",
-            ScriptKind::NotBuilt => "not built",
         }
     }
 }

@@ -1,0 +1,160 @@
+-- The functions and methods of scripts over arrays and datasets, as they are once files are opened as datasets. Every call is
+-- checked in one order: it exists, its receiver is of a kind that has it, its arguments fit its signature, each argument has its
+-- kind and then its value, the dimensions that it names exist, and then come its own checks.
+use Rattle.std.specs.Prelude.{◌==◌, ℕ, ℤ, Bool, true, false, not, List, [], ◌∷◌, ◌++◌, Option, Some, None, Result, Ok, Err, if◌then◌else◌, codes}
+use Rattle.std.specs.Str.{bytes_eq}
+use Rattle.std.specs.Fmt.{signed_decimal}
+use Rattle.xr_types.specs.declared.fault.Fault.{Fault}
+use Rattle.xr_types.specs.declared.fault.Fault.TheVariants.{UnknownName, WrongKind, DuplicateName, WouldPromote, NoFile, BadFile}
+use Rattle.xr_types.specs.declared.kind.DType.{DType}
+use Rattle.xr_types.specs.declared.kind.DType.TheVariants as kinds
+use Rattle.xr_defs.specs.declared.write_options.WriteOptions.{WriteOptions}
+use Rattle.xr_defs.specs.Results.{◌>>=◌, unless}
+use Rattle.xr_defs.specs.Classic.{among}
+use Rattle.xr_defs.specs.Files.{file_in}
+use Rattle.xr_defs.specs.Canonical.{canonical}
+use Rattle.xr_defs.specs.Opening.{Files}
+use Rattle.xr_defs.specs.Values.{DataArray, Dataset, total}
+use Rattle.xr_defs.specs.Decoding.{set_of}
+use Rattle.xr_defs.specs.Encoding.{file_of}
+use Rattle.xr_defs.specs.Printing.{array_text, set_text}
+use Rattle.xr_defs.specs.Selecting.{isel_array, isel_set}
+use Rattle.xr_defs.specs.Parts.{picked_of_set, picked_of_array, renamed, to_dataset, own_name, is_taken, set_of_array, attrs_assigned, transposed, dropped_of_array, dropped_of_set}
+use Rattle.xr_defs.specs.Building.{bound, argument, option, required, assigned_to_array, assigned_to_set, data_array}
+use Rattle.xr_defs.specs.Meanings.{Value, Truth, Number, Text, Array, Set, Given}
+use Rattle.xr_defs.specs.Calls.{wrong, unfit, as_text, slice_given, nothing_given, promoting, truth_line}
+
+-- ---- functions
+
+-- whether missing cells are asked for
+unfoldable pub mask_given : Option Value → Result Bool Fault
+mask_given None = Ok false
+mask_given (Some (Truth b)) = Ok b
+mask_given (Some v) = wrong
+
+unfoldable pub set_in : List ℕ → Bool → Result Dataset Fault
+set_in bytes mask = elim (file_in bytes) [ Err x ↦ Err (BadFile x.0 x.1) | Ok f ↦ set_of f mask ]
+
+unfoldable pub opened_set : Files → List ℕ → Bool → Result Dataset Fault
+opened_set files name mask = elim (files name) [ None ↦ Err (NoFile name) | Some bytes ↦ set_in bytes mask ]
+
+-- open_dataset(name, mask=False)
+unfoldable pub open_dataset : Files → Given → Result Dataset Fault
+open_dataset files g =
+    bound (codes "name" ∷ codes "mask" ∷ []) g >>= λ vs. required (argument vs 0) >>= λ v. as_text v >>= λ name.
+    mask_given (option vs 1) >>= λ mask. opened_set files name mask
+
+-- a function that takes no file
+unfoldable pub function_over_values : List ℕ → Given → Result Value Fault
+function_over_values name g =
+    if bytes_eq name (codes "DataArray") then (data_array g >>= λ a. Ok (Array a))
+    else if bytes_eq name (codes "slice") then slice_given g
+    else Err (UnknownName name)
+
+unfoldable pub function_called : Files → List ℕ → Given → Result Value Fault
+function_called files name g =
+    if bytes_eq name (codes "open_dataset") then (open_dataset files g >>= λ s. Ok (Set s)) else function_over_values name g
+
+-- ---- x["v"]
+
+unfoldable pub part_picked : Value → List ℕ → Result Value Fault
+part_picked (Array a) name = picked_of_array a name >>= λ b. Ok (Array b)
+part_picked (Set s) name = picked_of_set s name >>= λ b. Ok (Array b)
+part_picked v name = wrong
+
+-- ---- methods
+
+-- a method of arrays alone
+unfoldable pub of_array : (DataArray → Result Value Fault) → Value → Result Value Fault
+of_array call (Array a) = call a
+of_array call v = wrong
+
+-- a method of arrays and datasets
+unfoldable pub of_both : (DataArray → Result DataArray Fault) → (Dataset → Result Dataset Fault) → Value → Result Value Fault
+of_both array_call set_call (Array a) = array_call a >>= λ b. Ok (Array b)
+of_both array_call set_call (Set s) = set_call s >>= λ t. Ok (Set t)
+of_both array_call set_call v = wrong
+
+abbrev pub is_chars : DType → Bool
+is_chars kinds.Char = true
+is_chars kind = false
+
+-- chars have no sum
+unfoldable pub sum_called : Given → DataArray → Result Value Fault
+sum_called g a = unless (not (is_chars a.kind)) WrongKind >>= λ u. nothing_given g >>= λ v. Ok (Array (total a))
+
+unfoldable pub array_with_attrs : Given → DataArray → Result DataArray Fault
+array_with_attrs g a = attrs_assigned a.attrs g >>= λ attrs. Ok (record a { attrs = attrs })
+
+unfoldable pub set_with_attrs : Given → Dataset → Result Dataset Fault
+set_with_attrs g s = attrs_assigned s.attrs g >>= λ attrs. Ok (record s { attrs = attrs })
+
+abbrev pub is_labelled_data : Value → Bool
+is_labelled_data (Array a) = true
+is_labelled_data (Set s) = true
+is_labelled_data v = false
+
+-- methods whose answers aren't whole numbers, and those that there aren't
+unfoldable pub other_method : Value → List ℕ → Result Value Fault
+other_method v name = if among promoting name then Err (if is_labelled_data v then WouldPromote else WrongKind) else Err (UnknownName name)
+
+unfoldable pub method_called : Value → List ℕ → Given → Result Value Fault
+method_called v name g =
+    if bytes_eq name (codes "isel") then of_both (λ a. isel_array a g) (λ s. isel_set s g) v
+    else if bytes_eq name (codes "transpose") then of_array (λ a. transposed a g >>= λ b. Ok (Array b)) v
+    else if bytes_eq name (codes "drop_vars") then of_both (λ a. dropped_of_array a g) (λ s. dropped_of_set s g) v
+    else if bytes_eq name (codes "assign_coords") then of_both (λ a. assigned_to_array a g) (λ s. assigned_to_set s g) v
+    else if bytes_eq name (codes "assign_attrs") then of_both (array_with_attrs g) (set_with_attrs g) v
+    else if bytes_eq name (codes "rename") then of_array (λ a. renamed a g >>= λ b. Ok (Array b)) v
+    else if bytes_eq name (codes "to_dataset") then of_array (λ a. to_dataset a g >>= λ s. Ok (Set s)) v
+    else if bytes_eq name (codes "sum") then of_array (sum_called g) v
+    else other_method v name
+
+-- ---- to_netcdf(name, format="NETCDF3_CLASSIC", fill_value?, unlimited_dims?)
+
+-- the version of the format
+unfoldable pub format_named : List ℕ → Result ℕ Fault
+format_named t = if bytes_eq t (codes "NETCDF3_CLASSIC") then Ok 1 else if bytes_eq t (codes "NETCDF3_64BIT") then Ok 2 else unfit
+
+unfoldable pub format_given : Option Value → Result ℕ Fault
+format_given None = Ok 1
+format_given (Some v) = as_text v >>= λ t. format_named t
+
+unfoldable pub fill_given : Option Value → Result (Option ℤ) Fault
+fill_given None = Ok None
+fill_given (Some (Number n)) = Ok (Some n)
+fill_given (Some v) = wrong
+
+unfoldable pub unlimited_given : Option Value → Result (Option (List ℕ)) Fault
+unlimited_given None = Ok None
+unlimited_given (Some v) = as_text v >>= λ t. Ok (Some t)
+
+abbrev pub writing_parameters : List (List ℕ)
+writing_parameters = codes "name" ∷ codes "format" ∷ codes "fill_value" ∷ codes "unlimited_dims" ∷ []
+
+unfoldable pub options_given : List (Option Value) → Result WriteOptions Fault
+options_given vs =
+    format_given (option vs 1) >>= λ version. fill_given (option vs 2) >>= λ fill. unlimited_given (option vs 3) >>= λ unlimited.
+    Ok (record { version = version; fill = fill; unlimited = unlimited })
+
+-- an array is written as the dataset of it
+unfoldable pub as_dataset : Value → Result Dataset Fault
+as_dataset (Array a) = own_name a >>= λ name. unless (not (is_taken a name)) DuplicateName >>= λ u. Ok (set_of_array name a)
+as_dataset (Set s) = Ok s
+as_dataset v = wrong
+
+-- the name of the file that is put, and its bytes
+unfoldable pub set_written : Value → Given → Result (List ℕ × List ℕ) Fault
+set_written v g =
+    unless (is_labelled_data v) WrongKind >>= λ a. bound writing_parameters g >>= λ vs. required (argument vs 0) >>= λ n. as_text n >>= λ name.
+    options_given vs >>= λ options. as_dataset v >>= λ s. file_of s options >>= λ f. Ok (name, canonical f)
+
+-- ---- print
+
+unfoldable pub text_printed : Value → Result (List ℕ) Fault
+text_printed (Array a) = Ok (array_text a)
+text_printed (Set s) = Ok (set_text s)
+text_printed (Number n) = Ok (signed_decimal n ++ 10 ∷ [])
+text_printed (Text t) = Ok (t ++ 10 ∷ [])
+text_printed (Truth b) = Ok (truth_line b)
+text_printed v = wrong
