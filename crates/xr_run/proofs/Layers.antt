@@ -12,14 +12,14 @@ use Rattle.xr_defs.specs.Syntax as tree
 use Rattle.xr_defs.specs.Syntax.{tree_of, layer_tree, all_arguments, all_trees, all_entries}
 use Rattle.xr_defs.proofs.Trees.{tree_out}
 use Rattle.xr_defs.specs.Meanings as of
-use Rattle.xr_values.specs.declared.value.Value.{Value}
-use Rattle.xr_values.specs.declared.value.Value.TheVariants as value
-use Rattle.xr_values.specs.declared.value.Value.TheOpen as open-value
-use Rattle.xr_values.specs.declared.value.Value.TheOpen.{Value-F}
-use Rattle.xr_values.specs.declared.value.Value.TheViews.{roll-Value, out-roll-Value}
-use Rattle.xr_values.specs.Meaning.{meaning, layer, all_values}
-use Rattle.xr_values.specs.Meaning.{all_entries as entries_meant}
-use Rattle.xr_values.proofs.Meaning.{meaning_out}
+use Rattle.interim_values.specs.declared.value.Value.{Value}
+use Rattle.interim_values.specs.declared.value.Value.TheVariants as value
+use Rattle.interim_values.specs.declared.value.Value.TheOpen as open-value
+use Rattle.interim_values.specs.declared.value.Value.TheOpen.{Value-F}
+use Rattle.interim_values.specs.declared.value.Value.TheViews.{roll-Value, out-roll-Value}
+use Rattle.interim_values.specs.Meaning.{meaning, layer, all_values}
+use Rattle.interim_values.specs.Meaning.{all_entries as entries_meant}
+use Rattle.interim_values.proofs.Meaning.{meaning_out}
 
 -- the tree of an expression of this layer
 layer_is : (e : Expr) (layer : Expr-F Expr) → e ≡ roll-Expr layer → tree_of e ≡ layer_tree layer

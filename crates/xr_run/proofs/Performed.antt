@@ -11,8 +11,8 @@ use Rattle.xr_types.specs.declared.text.TextBytes.{TextBytes}
 use Rattle.xr_defs.specs.Opening.{Files}
 use Rattle.xr_defs.specs.Evaluation.{Names}
 use Rattle.xr_defs.specs.Runs.{put}
-use Rattle.xr_values.specs.declared.value.Value.{Value}
-use Rattle.xr_values.specs.Meaning.{meaning}
+use Rattle.interim_values.specs.declared.value.Value.{Value}
+use Rattle.interim_values.specs.Meaning.{meaning}
 use Rattle.xr_run.specs.declared.effect.Effect.TheVariants.{Bind, Print, Write}
 use Rattle.xr_run.specs.Outside.{OthersSame}
 use Rattle.xr_run.specs.Steps.{at, PerformIs}

@@ -3,8 +3,8 @@ use Rattle.std.specs.Prelude.{Option, option_map, String}
 use Rattle.std.specs.BTreeMap.{BTreeMap, get_by_text}
 use Rattle.std.specs.declared.alloc.Global.{Global}
 use Rattle.xr_defs.specs.Evaluation.{Names}
-use Rattle.xr_values.specs.declared.value.Value.{Value}
-use Rattle.xr_values.specs.Meaning.{meaning}
+use Rattle.interim_values.specs.declared.value.Value.{Value}
+use Rattle.interim_values.specs.Meaning.{meaning}
 use Rattle.xr_run.specs.declared.names.NameMap.{NameMap}
 
 abbrev pub names_in : BTreeMap (String Global) Value → Names

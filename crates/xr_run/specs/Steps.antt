@@ -5,7 +5,7 @@ use Rattle.xr_defs.specs.Syntax as tree
 use Rattle.xr_defs.specs.Syntax.{Line}
 use Rattle.xr_defs.specs.Evaluation.{Names}
 use Rattle.xr_defs.specs.Runs.{State, step, with_name, with_text, with_file}
-use Rattle.xr_values.specs.Meaning.{meaning}
+use Rattle.interim_values.specs.Meaning.{meaning}
 use Rattle.xr_run.specs.declared.effect.Effect.{Effect}
 use Rattle.xr_run.specs.declared.effect.Effect.TheVariants.{Bind, Print, Write}
 use Rattle.xr_run.specs.declared.stopped.Stopped.{Stopped}

@@ -4,7 +4,7 @@ ghost use Rattle.xr_types.specs.declared.fault.Fault.TheVariants.{WrongKind as w
 ghost use Rattle.xr_defs.specs.Syntax.{tree_of, all_arguments, all_trees, all_entries};
 ghost use Rattle.xr_defs.specs.Evaluation.{value_of, values_of, entries_of, given_of, constant_value as value_of_constant, named};
 ghost use Rattle.xr_defs.specs.Calls.{method, picked};
-ghost use Rattle.xr_values.specs.Meaning.{meaning, given, all_values as values_meant, all_entries as entries_meant};
+ghost use Rattle.interim_values.specs.Meaning.{meaning, given, all_values as values_meant, all_entries as entries_meant};
 ghost use Rattle.xr_defs.specs.Meanings.{Sequence, Table, With, Entry};
 ghost use Rattle.xr_run.specs.Arguments.{and_argument};
 ghost use Rattle.xr_run.specs.Named.{names_of};
@@ -15,11 +15,11 @@ use crate::functions::call_function;
 use crate::names::NameMap;
 use crate::outside::Store;
 use crate::stopped::Stopped;
-use dataset_core::{call_method, pick};
+use interim_calls::{call_method, pick};
+use interim_values::{Args, Value};
 use std::alloc::{AllocError, Global};
 use xr_defs::{Argument, Constant, Expr};
 use xr_types::{DeepCopy, Fault, TextBytes};
-use xr_values::{Args, Value};
 
 fn constant_value(c: Constant) -> Value
     ensures { meaning result ≡ value_of_constant c }
@@ -104,7 +104,7 @@ fn push_argument(
     }
 }
 
-#[tactic(auto, using(xr_values::proofs::Meaning::all_entered))]
+#[tactic(auto, using(interim_values::proofs::Meaning::all_entered))]
 fn push_entry(
     alloc: Global,
     entries: &mut Vec<(TextBytes, Value)>,
@@ -117,7 +117,7 @@ fn push_entry(
     Ok(entries.push((key, value))?)
 }
 
-#[tactic(auto, using(xr_values::proofs::Meaning::all_more))]
+#[tactic(auto, using(interim_values::proofs::Meaning::all_more))]
 fn push_item(items: &mut Vec<Value>, value: Value) -> Result<(), AllocError>
     ensures { OnOk result (values_meant items.new.items ≡ With (values_meant items.old.items) (meaning value)) }
 {

@@ -2,21 +2,21 @@
 ghost use Rattle.std.specs.Prelude.{◌≡◌, IsTrue};
 ghost use Rattle.xr_defs.specs.Opening.{opened, opened_bytes};
 ghost use Rattle.xr_defs.specs.Calls.{function};
-ghost use Rattle.xr_values.specs.Meaning.{meaning, given};
+ghost use Rattle.interim_values.specs.Meaning.{meaning, given};
 ghost use Rattle.xr_run.specs.Answers.{Gives, GivesOrFails, Tallied};
 ghost use Rattle.xr_run.specs.Functions.{file_value, open_call};
 
 use crate::outside::{Got, Store, StoreFault};
 use crate::stopped::Stopped;
-use dataset_core::text_given;
+use interim_calls::text_given;
+use interim_values::{Args, Value};
 use std::alloc::Global;
 use std::rc::Rc;
 use xr_arrays::OpenFile;
 use xr_types::{CdfKind, DeepCopy, Fault, MOST_FILE_BYTES, TextBytes};
-use xr_values::{Args, Value};
 
 // The dataset of a file's bytes.
-#[tactic(auto, using(xr_values::proofs::Meaning::meaning_out))]
+#[tactic(auto, using(interim_values::proofs::Meaning::meaning_out))]
 fn opened_value(alloc: Global, bytes: Vec<u8>) -> Result<Value, Stopped>
     ensures { Gives meaning result (file_value (opened_bytes bytes.items)) }
 {
@@ -72,6 +72,6 @@ pub(crate) fn call_function<S: Store>(
     if name.as_str() == "open_dataset" {
         open_dataset(alloc, args, store)
     } else {
-        Ok(dataset_core::call_function(alloc, name, args)?)
+        Ok(interim_calls::call_function(alloc, name, args)?)
     }
 }

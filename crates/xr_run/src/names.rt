@@ -1,13 +1,13 @@
 //! The values of names.
 ghost use Rattle.std.specs.Prelude.{◌≡◌, None, option_map, OnOk, OnErr};
 ghost use Rattle.xr_defs.specs.Runs.{put};
-ghost use Rattle.xr_values.specs.Meaning.{meaning};
+ghost use Rattle.interim_values.specs.Meaning.{meaning};
 ghost use Rattle.xr_run.specs.Named.{names_of};
 
+use interim_values::Value;
 use std::alloc::{AllocError, Global};
 use std::collections::BTreeMap;
 use xr_types::TextBytes;
-use xr_values::Value;
 
 /// The value that each name stands for.
 #[derive(Drop)]

@@ -11,7 +11,7 @@ use crate::names::NameMap;
 use crate::outside::{Sink, Store};
 use crate::stopped::Stopped;
 use crate::write_all::write_all;
-use dataset_core::{file_written, printed};
+use interim_calls::{file_written, printed};
 use std::alloc::Global;
 use xr_defs::{Argument, Expr, Statement};
 use xr_types::{DeepCopy, Fault, TextBytes};

@@ -2,14 +2,14 @@ use Rattle.std.proofs.Common.{Bool, ap, sym, refl, subst, ◌∙◌, Err}
 use Rattle.std.specs.Prelude.{IsTrue, Vec}
 use Rattle.std.specs.declared.alloc.Global.{Global}
 use Rattle.xr_types.specs.declared.text.TextBytes.{TextBytes}
-use Rattle.xr_values.specs.declared.value.Value.{Value}
+use Rattle.interim_values.specs.declared.value.Value.{Value}
 use Rattle.xr_defs.specs.Meanings.{Values, Entries}
 use Rattle.xr_defs.specs.Syntax.{tree_of, all_arguments, all_trees, all_entries}
 use Rattle.xr_defs.specs.Evaluation.{value_of, given_of, values_of, entries_of}
-use Rattle.xr_values.proofs.Meaning.{no_values, no_entries}
-use Rattle.xr_values.specs.Meaning.{meaning, given}
-use Rattle.xr_values.specs.Meaning.{all_values as values_meant}
-use Rattle.xr_values.specs.Meaning.{all_entries as entries_meant}
+use Rattle.interim_values.proofs.Meaning.{no_values, no_entries}
+use Rattle.interim_values.specs.Meaning.{meaning, given}
+use Rattle.interim_values.specs.Meaning.{all_values as values_meant}
+use Rattle.interim_values.specs.Meaning.{all_entries as entries_meant}
 use Rattle.xr_run.specs.Named.{names_of}
 use Rattle.xr_run.specs.Answers.{GivesOrFails}
 use Rattle.xr_run.specs.Arguments.{given_rest, values_rest, entries_rest}

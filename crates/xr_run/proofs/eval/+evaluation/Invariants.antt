@@ -2,9 +2,9 @@ use Rattle.std.proofs.Common.{◌≡◌, drop}
 use Rattle.std.specs.Prelude.{IsTrue}
 use Rattle.xr_defs.specs.Syntax.{all_arguments, all_trees, all_entries}
 use Rattle.xr_defs.specs.Evaluation.{given_of, values_of, entries_of}
-use Rattle.xr_values.specs.Meaning.{given}
-use Rattle.xr_values.specs.Meaning.{all_values as values_meant}
-use Rattle.xr_values.specs.Meaning.{all_entries as entries_meant}
+use Rattle.interim_values.specs.Meaning.{given}
+use Rattle.interim_values.specs.Meaning.{all_values as values_meant}
+use Rattle.interim_values.specs.Meaning.{all_entries as entries_meant}
 use Rattle.xr_run.specs.Arguments.{given_rest, values_rest, entries_rest}
 use Rattle.xr_run.specs.Named.{names_of}
 use Rattle.xr_run.proofs.eval.+evaluation.Given as goal

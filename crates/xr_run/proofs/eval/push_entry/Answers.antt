@@ -1,7 +1,7 @@
 use Rattle.std.proofs.Common.{ap, ◌∙◌}
 use Rattle.xr_defs.specs.Meanings.{Entry}
-use Rattle.xr_values.specs.Meaning.{meaning, all_entries}
-use Rattle.xr_values.proofs.Meaning.{all_entered}
+use Rattle.interim_values.specs.Meaning.{meaning, all_entries}
+use Rattle.interim_values.proofs.Meaning.{all_entered}
 use Rattle.xr_run.proofs.eval.push_entry.Goals as goal
 
 pub returns : goal.returns

@@ -1,6 +1,6 @@
 use Rattle.std.proofs.Common.{◌≡◌, ◌≢◌, ℕ, List, Some, arith}
 use Rattle.std.proofs.lemmas.Map.Text.{text_keys}
-use Rattle.xr_values.specs.Meaning.{meaning}
+use Rattle.interim_values.specs.Meaning.{meaning}
 use Rattle.xr_run.specs.Named.{names_in}
 use Rattle.xr_run.proofs.Performed.{put_is}
 use Rattle.xr_run.proofs.names.NameMap.set.Goals as goal

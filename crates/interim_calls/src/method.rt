@@ -4,14 +4,14 @@ ghost use Rattle.xr_defs.specs.Classic.{among};
 ghost use Rattle.xr_defs.specs.Results.{Answers};
 ghost use Rattle.xr_defs.specs.Calls as calls;
 ghost use Rattle.xr_defs.specs.Calls.{method, promoting};
-ghost use Rattle.xr_values.specs.Meaning.{meaning, given};
+ghost use Rattle.interim_values.specs.Meaning.{meaning, given};
 
 use crate::arguments::{as_array, nothing_given};
 use crate::isel::isel;
+use interim_values::{Args, Value};
 use std::alloc::Global;
 use std::rc::Rc;
 use xr_types::{CallFault, DeepCopy, Fault, TextBytes};
-use xr_values::{Args, Value};
 
 // Whether a method's answers aren't whole numbers.
 fn is_promoting(name: &TextBytes) -> bool
@@ -27,7 +27,7 @@ fn is_promoting(name: &TextBytes) -> bool
 }
 
 // Whether a value holds cells.
-#[tactic(auto, using(xr_values::proofs::Meaning::meaning_out))]
+#[tactic(auto, using(interim_values::proofs::Meaning::meaning_out))]
 fn is_held(value: &Value) -> bool
     ensures { result ≡ calls.is_held (meaning value.now) }
 {
@@ -44,7 +44,7 @@ fn is_held(value: &Value) -> bool
 /// # Errors
 /// `UnknownName` for any other method, but `WouldPromote` for those whose answers aren't whole numbers, `mean` and its
 /// like. `WrongKind` for a receiver that is no array; then those of the arguments.
-#[tactic(auto, using(xr_values::proofs::Meaning::meaning_out), unfolding(xr_defs::specs::Calls::method))]
+#[tactic(auto, using(interim_values::proofs::Meaning::meaning_out), unfolding(xr_defs::specs::Calls::method))]
 pub fn call_method(
     alloc: Global,
     on: &Value,

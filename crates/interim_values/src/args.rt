@@ -1,7 +1,7 @@
 //! What a call is given.
 ghost use Rattle.std.specs.Prelude.{◌≡◌, OnOk, OnErr};
 ghost use Rattle.xr_defs.specs.Evaluation.{no_arguments, and_plain, and_keyed};
-ghost use Rattle.xr_values.specs.Meaning.{meaning, given};
+ghost use Rattle.interim_values.specs.Meaning.{meaning, given};
 
 use crate::value::Value;
 use std::alloc::{AllocError, Global};

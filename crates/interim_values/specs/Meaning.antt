@@ -3,11 +3,11 @@ use Rattle.std.specs.Prelude.{List, [], ◌∷◌, map}
 use Rattle.xr_types.specs.declared.text.TextBytes.{TextBytes}
 use Rattle.xr_defs.specs.Meanings as of
 use Rattle.xr_defs.specs.Meanings.{Values, NoValue, With, Entries, NoEntry, Entry, Given}
-use Rattle.xr_values.specs.declared.value.Value.{Value}
-use Rattle.xr_values.specs.declared.value.Value.TheOpen as held
-use Rattle.xr_values.specs.declared.value.Value.TheOpen.{Value-F}
-use Rattle.xr_values.specs.declared.value.Value.TheFolds.{fold-Value}
-use Rattle.xr_values.specs.declared.args.Args.{Args}
+use Rattle.interim_values.specs.declared.value.Value.{Value}
+use Rattle.interim_values.specs.declared.value.Value.TheOpen as held
+use Rattle.interim_values.specs.declared.value.Value.TheOpen.{Value-F}
+use Rattle.interim_values.specs.declared.value.Value.TheFolds.{fold-Value}
+use Rattle.interim_values.specs.declared.args.Args.{Args}
 
 abbrev pub values : Values → List of.Value → Values
 values vs [] = vs

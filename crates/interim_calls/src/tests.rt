@@ -1,12 +1,12 @@
 //! Calls over numbers, texts, slices and the arrays of one file.
 use crate::{call_function, call_method, file_written, pick, printed, text_given};
+use interim_values::{Args, Value};
 use std::alloc::Global;
 use std::rc::Rc;
 use std::test::Fail;
 use xr_arrays::OpenFile;
 use xr_defs::Part;
 use xr_types::{CallFault, TextBytes};
-use xr_values::{Args, Value};
 
 // The file of the dimensions y: 2 and x: 3, the labels 10, 20 and 30 of x, and v over y and x that holds 1 to 6.
 const FILE: [u8; 168] = [

@@ -3,14 +3,14 @@ ghost use Rattle.std.specs.Prelude.{map};
 ghost use Rattle.xr_defs.specs.Results.{Answers};
 ghost use Rattle.xr_defs.specs.Calls as calls;
 ghost use Rattle.xr_defs.specs.Calls.{function_of_values};
-ghost use Rattle.xr_values.specs.Meaning.{meaning, given};
+ghost use Rattle.interim_values.specs.Meaning.{meaning, given};
 
+use interim_values::{Args, Value};
 use std::alloc::Global;
 use xr_defs::Part;
 use xr_types::{CallFault, DeepCopy, Fault, TextBytes};
-use xr_values::{Args, Value};
 
-#[tactic(auto, using(xr_values::proofs::Meaning::meaning_out), unfolding(xr_defs::specs::Calls::as_part))]
+#[tactic(auto, using(interim_values::proofs::Meaning::meaning_out), unfolding(xr_defs::specs::Calls::as_part))]
 fn as_part(alloc: Global, value: &Value) -> Result<Part, CallFault>
     ensures { Answers (λ p. p) result (calls.as_part (meaning value.now)) }
 {
@@ -22,7 +22,7 @@ fn as_part(alloc: Global, value: &Value) -> Result<Part, CallFault>
     }
 }
 
-#[tactic(auto, using(xr_values::proofs::Meaning::meaning_out), unfolding(xr_defs::specs::Calls::as_step))]
+#[tactic(auto, using(interim_values::proofs::Meaning::meaning_out), unfolding(xr_defs::specs::Calls::as_step))]
 fn as_step(value: &Value) -> Result<Option<i128>, CallFault>
     ensures { Answers (λ n. n) result (calls.as_step (meaning value.now)) }
 {
@@ -33,7 +33,7 @@ fn as_step(value: &Value) -> Result<Option<i128>, CallFault>
     }
 }
 
-#[tactic(auto, using(xr_values::proofs::Meaning::meaning_out), unfolding(xr_defs::specs::Calls::slice_of))]
+#[tactic(auto, using(interim_values::proofs::Meaning::meaning_out), unfolding(xr_defs::specs::Calls::slice_of))]
 fn slice_of(alloc: Global, plain: &[Value]) -> Result<Value, CallFault>
     ensures { Answers meaning result (calls.slice_of (map meaning plain.now)) }
 {
@@ -57,7 +57,7 @@ fn slice_of(alloc: Global, plain: &[Value]) -> Result<Value, CallFault>
     }
 }
 
-#[tactic(auto, unfolding(xr_defs::specs::Calls::slice_given, xr_defs::specs::Results::unless, xr_values::specs::Meaning::given))]
+#[tactic(auto, unfolding(xr_defs::specs::Calls::slice_given, xr_defs::specs::Results::unless, interim_values::specs::Meaning::given))]
 fn slice_given(alloc: Global, args: &Args) -> Result<Value, CallFault>
     ensures { Answers meaning result (calls.slice_given (given args.now)) }
 {

@@ -1,8 +1,8 @@
 use Rattle.std.proofs.Common.{◌≡◌, map, drop}
 use Rattle.xr_defs.specs.Results.{all_of}
 use Rattle.xr_defs.specs.Calls.{check_dimension}
-use Rattle.xr_values.specs.Meaning.{with_key}
-use Rattle.dataset_core.proofs.isel.check_each_dimension.Given as goal
+use Rattle.interim_values.specs.Meaning.{with_key}
+use Rattle.interim_calls.proofs.isel.check_each_dimension.Given as goal
 
 abbrev pub invariant-loop-argument : goal.invariant-loop-argument
 invariant-loop-argument l =

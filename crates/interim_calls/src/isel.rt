@@ -2,15 +2,15 @@
 ghost use Rattle.std.specs.Prelude.{◌≡◌, map};
 ghost use Rattle.xr_defs.specs.Results.{Answers, all_of};
 ghost use Rattle.xr_defs.specs.Calls as calls;
-ghost use Rattle.xr_values.specs.Meaning.{meaning, with_key, given};
+ghost use Rattle.interim_values.specs.Meaning.{meaning, with_key, given};
 
+use interim_values::{Args, Value};
 use std::alloc::Global;
 use std::marker::Model;
 use std::rc::Rc;
 use xr_arrays::HeldArray;
 use xr_defs::Part;
 use xr_types::{CallFault, DeepCopy, Fault, TextBytes};
-use xr_values::{Args, Value};
 
 // The numbers of a slice of positions.
 #[derive(Drop)]
@@ -48,7 +48,7 @@ fn is_zero(step: Option<i128>) -> bool
     }
 }
 
-#[tactic(auto, using(xr_values::proofs::Meaning::meaning_out), unfolding(xr_defs::specs::Calls::as_positions, xr_defs::specs::Results::unless))]
+#[tactic(auto, using(interim_values::proofs::Meaning::meaning_out), unfolding(xr_defs::specs::Calls::as_positions, xr_defs::specs::Results::unless))]
 fn as_positions(value: &Value) -> Result<Positions, CallFault>
     ensures { Answers (λ p. p) result (calls.as_positions (meaning value.now)) }
 {
@@ -150,7 +150,7 @@ fn select_each(
 /// # Errors
 /// `BadArgument` for a plain argument; then, for each argument, `WrongKind` unless it is a slice of positions and
 /// `BadArgument` for a step of 0; then `NoDimension` for the first name that is no dimension.
-#[tactic(auto, unfolding(xr_defs::specs::Calls::isel_of, xr_defs::specs::Results::unless, xr_values::specs::Meaning::given))]
+#[tactic(auto, unfolding(xr_defs::specs::Calls::isel_of, xr_defs::specs::Results::unless, interim_values::specs::Meaning::given))]
 pub(crate) fn isel(
     alloc: Global,
     array: &Rc<HeldArray>,

@@ -1,7 +1,7 @@
 use Rattle.std.proofs.Common.{◌≡◌, map, drop}
 use Rattle.xr_defs.specs.Calls.{each_selected}
-use Rattle.xr_values.specs.Meaning.{with_key}
-use Rattle.dataset_core.proofs.isel.select_each.Given as goal
+use Rattle.interim_values.specs.Meaning.{with_key}
+use Rattle.interim_calls.proofs.isel.select_each.Given as goal
 
 abbrev pub invariant-loop-argument : goal.invariant-loop-argument
 invariant-loop-argument l =

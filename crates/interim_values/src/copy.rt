@@ -1,6 +1,6 @@
 //! Equal values in new memory.
 ghost use Rattle.std.specs.Prelude.{◌≡◌, IfOk};
-ghost use Rattle.xr_values.specs.Meaning.{meaning};
+ghost use Rattle.interim_values.specs.Meaning.{meaning};
 
 use crate::value::Value;
 use std::alloc::{AllocError, Global};

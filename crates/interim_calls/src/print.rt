@@ -1,19 +1,19 @@
 //! What `print` prints.
 ghost use Rattle.xr_defs.specs.Results.{Answers};
 ghost use Rattle.xr_defs.specs.Calls as calls;
-ghost use Rattle.xr_values.specs.Meaning.{meaning};
+ghost use Rattle.interim_values.specs.Meaning.{meaning};
 
+use interim_values::Value;
 use itoa::Buffer;
 use std::alloc::Global;
 use xr_types::{CallFault, Fault};
-use xr_values::Value;
 
 /// The bytes that `print` prints of a value: an array in its printed form; a number, a text as it is, `True` or
 /// `False` on a line.
 ///
 /// # Errors
 /// `WrongKind` for any other value.
-#[tactic(auto, using(xr_values::proofs::Meaning::meaning_out), unfolding(xr_defs::specs::Calls::printed))]
+#[tactic(auto, using(interim_values::proofs::Meaning::meaning_out), unfolding(xr_defs::specs::Calls::printed))]
 pub fn printed(alloc: Global, on: &Value) -> Result<Vec<u8>, CallFault>
     ensures { Answers (λ v. v.items) result (calls.printed (meaning on.now)) }
 {

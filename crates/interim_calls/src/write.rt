@@ -1,12 +1,12 @@
 //! `x.to_netcdf(name)`: the file of an array.
 ghost use Rattle.xr_defs.specs.Results.{Answers};
 ghost use Rattle.xr_defs.specs.Calls as calls;
-ghost use Rattle.xr_values.specs.Meaning.{meaning, given};
+ghost use Rattle.interim_values.specs.Meaning.{meaning, given};
 
 use crate::arguments::{as_array, text_given};
+use interim_values::{Args, Value};
 use std::alloc::Global;
 use xr_types::{CallFault, DeepCopy, TextBytes};
-use xr_values::{Args, Value};
 
 /// The name of the file that `to_netcdf` writes for a receiver, and its bytes.
 ///

@@ -4,12 +4,12 @@ use Rattle.std.proofs.lemmas.List.{map-append}
 use Rattle.xr_types.specs.declared.text.TextBytes.{TextBytes}
 use Rattle.xr_defs.specs.Meanings as of
 use Rattle.xr_defs.specs.Meanings.{Values, NoValue, With, Entries, NoEntry, Entry}
-use Rattle.xr_values.specs.declared.value.Value.{Value}
-use Rattle.xr_values.specs.declared.value.Value.TheOpen as held
-use Rattle.xr_values.specs.declared.value.Value.TheOpen.{Value-F}
-use Rattle.xr_values.specs.declared.value.Value.TheViews.{out-Value}
-use Rattle.xr_values.specs.declared.value.Value.TheFolds.{map-Value, fold_out-Value}
-use Rattle.xr_values.specs.Meaning.{meaning, meaning_step, layer, values, entries, all_values, all_entries, with_key}
+use Rattle.interim_values.specs.declared.value.Value.{Value}
+use Rattle.interim_values.specs.declared.value.Value.TheOpen as held
+use Rattle.interim_values.specs.declared.value.Value.TheOpen.{Value-F}
+use Rattle.interim_values.specs.declared.value.Value.TheViews.{out-Value}
+use Rattle.interim_values.specs.declared.value.Value.TheFolds.{map-Value, fold_out-Value}
+use Rattle.interim_values.specs.Meaning.{meaning, meaning_step, layer, values, entries, all_values, all_entries, with_key}
 
 by_parts : (x : Value-F Value) → meaning_step (map-Value Value of.Value meaning x) ≡ layer x
 unfolding all_values all_entries

@@ -1,6 +1,6 @@
 use Rattle.std.proofs.Common.{◌≡◌, map, take}
-use Rattle.xr_values.specs.Meaning.{meaning, with_key}
-use Rattle.xr_values.proofs.value.Value.+copy.Given as goal
+use Rattle.interim_values.specs.Meaning.{meaning, with_key}
+use Rattle.interim_values.proofs.value.Value.+copy.Given as goal
 
 abbrev pub invariant-loop-item : goal.invariant-loop-item
 invariant-loop-item l = map meaning l.copies.items ≡ map meaning (take l.item-index l.item-items)

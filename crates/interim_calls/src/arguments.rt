@@ -1,15 +1,15 @@
 //! What a call takes from its arguments.
 ghost use Rattle.xr_defs.specs.Results.{Answers};
 ghost use Rattle.xr_defs.specs.Calls as calls;
-ghost use Rattle.xr_values.specs.Meaning.{meaning, given};
+ghost use Rattle.interim_values.specs.Meaning.{meaning, given};
 
+use interim_values::{Args, Value};
 use std::rc::Rc;
 use xr_arrays::HeldArray;
 use xr_types::{CallFault, Fault, TextBytes};
-use xr_values::{Args, Value};
 
 /// The one argument, plain or by this keyword.
-#[tactic(auto, unfolding(xr_defs::specs::Calls::only_of, xr_values::specs::Meaning::given))]
+#[tactic(auto, unfolding(xr_defs::specs::Calls::only_of, interim_values::specs::Meaning::given))]
 fn only<'a>(args: &'a Args, name: &str) -> Result<&'a Value, CallFault>
     ensures { Answers (λ v. meaning v.now) result (calls.only name.now (given args.now)) }
 {
@@ -33,7 +33,7 @@ fn only<'a>(args: &'a Args, name: &str) -> Result<&'a Value, CallFault>
     }
 }
 
-#[tactic(auto, using(xr_values::proofs::Meaning::meaning_out), unfolding(xr_defs::specs::Calls::as_text))]
+#[tactic(auto, using(interim_values::proofs::Meaning::meaning_out), unfolding(xr_defs::specs::Calls::as_text))]
 fn as_text(value: &Value) -> Result<&TextBytes, CallFault>
     ensures { Answers (λ t. t.now) result (calls.as_text (meaning value.now)) }
 {
@@ -56,7 +56,7 @@ pub fn text_given<'a>(args: &'a Args, name: &str) -> Result<&'a TextBytes, CallF
 }
 
 /// The array that a value is.
-#[tactic(auto, using(xr_values::proofs::Meaning::meaning_out), unfolding(xr_defs::specs::Calls::as_array))]
+#[tactic(auto, using(interim_values::proofs::Meaning::meaning_out), unfolding(xr_defs::specs::Calls::as_array))]
 pub(crate) fn as_array(value: &Value) -> Result<&Rc<HeldArray>, CallFault>
     ensures { Answers (λ a. a.now.value) result (calls.as_array (meaning value.now)) }
 {
@@ -67,7 +67,7 @@ pub(crate) fn as_array(value: &Value) -> Result<&Rc<HeldArray>, CallFault>
 }
 
 /// Refuses every argument.
-#[tactic(auto, unfolding(xr_defs::specs::Calls::nothing_given, xr_defs::specs::Results::unless, xr_values::specs::Meaning::given))]
+#[tactic(auto, unfolding(xr_defs::specs::Calls::nothing_given, xr_defs::specs::Results::unless, interim_values::specs::Meaning::given))]
 pub(crate) fn nothing_given(args: &Args) -> Result<(), CallFault>
     ensures { Answers (λ u. u) result (calls.nothing_given (given args.now)) }
 {
