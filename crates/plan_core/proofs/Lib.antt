@@ -1,0 +1,12 @@
+pub mod Plans
+pub mod Tabs
+pub mod Products
+pub mod Arrangements
+pub mod Takes
+pub mod Widens
+pub mod Strides
+pub mod Boxes
+pub mod Moves
+pub mod Joins
+pub mod Concats
+pub mod TakenValues
