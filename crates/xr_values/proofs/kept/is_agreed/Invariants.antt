@@ -1,0 +1,6 @@
+use Rattle.std.proofs.Common.{◌≡◌, drop, map}
+use Rattle.xr_values.specs.Carrying.{is_agreed}
+use Rattle.xr_values.proofs.kept.is_agreed.Given as goal
+
+abbrev pub invariant-loop-other : goal.invariant-loop-other
+invariant-loop-other l = is_agreed (map (λ c. c.now) (drop l.other-index l.others)) l.coord ≡ is_agreed (map (λ c. c.now) l.others) l.coord

@@ -1,0 +1,66 @@
+//! Equal values in new memory.
+ghost use Rattle.std.specs.Prelude.{◌≡◌, List, IfOk};
+ghost use Rattle.xr_defs.specs.declared.node.Node.{Node};
+ghost use Rattle.xr_values.specs.Meaning.{meaning, IsValueIn};
+ghost use Rattle.xr_values.specs.Trees.{tree};
+
+use crate::value::Value;
+use std::alloc::{AllocError, Global};
+use xr_defs::Part;
+use xr_types::{DeepCopy, TextBytes};
+
+/// An end of a slice again.
+pub fn copy_part(alloc: Global, part: &Part) -> Result<Part, AllocError>
+    ensures { IfOk result (λ p. p ≡ part.now) }
+{
+    Ok(match part {
+        Part::Open => Part::Open,
+        Part::At(n) => Part::At(*n),
+        Part::Label(text) => Part::Label(text.deep_copy(alloc)?),
+    })
+}
+
+impl Value {
+    #[tactic(auto, using(crate::proofs::Trees::tree_out))]
+    fn again(&self, alloc: Global) -> Result<Value, AllocError>
+        ensures { IfOk result (λ v. tree v ≡ tree self.now) }
+    {
+        match self {
+            Value::Absent => Ok(Value::Absent),
+            Value::Missing => Ok(Value::Missing),
+            Value::Truth(b) => Ok(Value::Truth(*b)),
+            Value::Number(n) => Ok(Value::Number(*n)),
+            Value::Text(text) => Ok(Value::Text(text.deep_copy(alloc)?)),
+            Value::List(items) => {
+                let mut copies = Vec::new(alloc);
+                for item in items {
+                    copies.push(item.again(alloc)?)?;
+                }
+                Ok(Value::List(copies))
+            }
+            Value::Table(entries) => {
+                let mut copies = Vec::new(alloc);
+                for entry in entries {
+                    copies.push((entry.0.deep_copy(alloc)?, entry.1.again(alloc)?))?;
+                }
+                Ok(Value::Table(copies))
+            }
+            Value::Slice(start, stop, step) => {
+                let start = copy_part(alloc, start)?;
+                let stop = copy_part(alloc, stop)?;
+                Ok(Value::Slice(start, stop, *step))
+            }
+            Value::Array(array) => Ok(Value::Array(array.clone()?)),
+            Value::Set(set) => Ok(Value::Set(set.clone()?)),
+        }
+    }
+
+    /// An equal value in new memory. Arrays and datasets are shared with it.
+    #[tactic(auto, using(crate::proofs::Meaning::copied_inside))]
+    pub fn copy(&self, alloc: Global) -> Result<Value, AllocError>
+        ensures means { IfOk result (λ v. (nodes : List Node) → meaning nodes v ≡ meaning nodes self.now) }
+        ensures inside { IfOk result (λ v. (nodes : List Node) → IsValueIn nodes self.now → IsValueIn nodes v) }
+    {
+        self.again(alloc)
+    }
+}

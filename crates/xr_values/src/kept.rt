@@ -1,0 +1,131 @@
+//! The coordinates that a result keeps.
+ghost use Rattle.std.specs.Prelude.{◌≡◌, ◌&&◌, ◌++◌, map, IfOk, OnOk};
+ghost use Rattle.std.specs.List.{list_all};
+ghost use Rattle.xr_defs.specs.Classic.{among};
+ghost use Rattle.xr_defs.specs.Values.{axis_names};
+ghost use Rattle.xr_values.specs.Carrying.{coords_among, has_place, is_agreed, is_new, kept_here, the_coords};
+
+use crate::copies::copy_coord;
+use crate::data_array::DataArray;
+use crate::same::same_coord;
+use std::alloc::{AllocError, Global};
+use xr_defs::Coord;
+use xr_types::{Axis, Items, Name};
+
+fn push_coords<'a>(all: &mut Vec<&'a Coord>, coords: &'a [Coord]) -> Result<(), AllocError>
+    ensures { OnOk result (map (λ c. c.now) all.new.items ≡ map (λ c. c.now) all.old.items ++ coords.now) }
+{
+    for coord in coords {
+        all.push(coord)?;
+    }
+    Ok(())
+}
+
+fn all_coords<'a>(alloc: Global, operands: &'a [DataArray]) -> Result<Vec<&'a Coord>, AllocError>
+    ensures { IfOk result (λ all. map (λ c. c.now) all.items ≡ the_coords operands.now) }
+{
+    let mut all = Vec::new(alloc);
+    for operand in operands {
+        push_coords(&mut all, operand.coords.as_slice())?;
+    }
+    Ok(all)
+}
+
+fn has_axis(axes: &[Axis], name: &Name) -> bool
+    ensures { result ≡ among (axis_names axes.now) name.now }
+{
+    for axis in axes {
+        if name.is(&axis.name) {
+            return true;
+        }
+    }
+    false
+}
+
+fn have_axes(axes: &[Axis], some: &[Axis]) -> bool
+    ensures { result ≡ list_all (among (axis_names axes.now)) (axis_names some.now) }
+{
+    for axis in some {
+        if !has_axis(axes, &axis.name) {
+            return false;
+        }
+    }
+    true
+}
+
+#[tactic(auto, unfolding(crate::specs::Carrying::has_place))]
+fn has_place(axes: &[Axis], coord: &Coord) -> bool
+    ensures { result ≡ has_place axes.now coord.now }
+{
+    !has_axis(axes, &coord.name) && have_axes(axes, coord.axes.as_slice())
+}
+
+fn is_new(before: &[&Coord], coord: &Coord) -> bool
+    ensures { result ≡ is_new (map (λ c. c.now) before.now) coord.now }
+{
+    for other in before {
+        if other.name.is(&coord.name) {
+            return false;
+        }
+    }
+    true
+}
+
+// Whether those of its name are equal to it.
+#[tactic(auto, unfolding(crate::specs::Carrying::is_agreed))]
+fn is_agreed(others: &[&Coord], coord: &Coord) -> bool
+    ensures { result ≡ is_agreed (map (λ c. c.now) others.now) coord.now }
+{
+    for other in others {
+        if other.name.is(&coord.name) && !same_coord(coord, other) {
+            return false;
+        }
+    }
+    true
+}
+
+fn is_kept(axes: &[Axis], before: &[&Coord], coord: &Coord, behind: &[&Coord]) -> bool
+    ensures { result ≡ (is_new (map (λ c. c.now) before.now) coord.now && (has_place axes.now coord.now && is_agreed (map (λ c. c.now) behind.now) coord.now)) }
+{
+    is_new(before, coord) && has_place(axes, coord) && is_agreed(behind, coord)
+}
+
+fn push_kept(
+    alloc: Global,
+    kept: &mut Items<Coord>,
+    axes: &[Axis],
+    before: &[&Coord],
+    coord: &Coord,
+    behind: &[&Coord],
+) -> Result<(), AllocError>
+    ensures { OnOk result (kept.new ≡ kept.old ++ kept_here axes.now (map (λ c. c.now) before.now) coord.now (map (λ c. c.now) behind.now)) }
+{
+    if is_kept(axes, before, coord, behind) {
+        kept.push(copy_coord(alloc, coord)?)?;
+    }
+    Ok(())
+}
+
+fn kept_coords(alloc: Global, axes: &[Axis], all: &[&Coord]) -> Result<Items<Coord>, AllocError>
+    ensures { IfOk result (λ kept. kept ≡ coords_among axes.now (map (λ c. c.now) all.now)) }
+{
+    let mut kept = Items::new(alloc);
+    for i in 0..all.len() {
+        let (before, rest) = all.split_at(i);
+        let (_, behind) = rest.split_at(1);
+        push_kept(alloc, &mut kept, axes, before, all[i], behind)?;
+    }
+    Ok(kept)
+}
+
+/// The coordinates of a result over these axes.
+pub(crate) fn coords_among(
+    alloc: Global,
+    axes: &[Axis],
+    operands: &[DataArray],
+) -> Result<Items<Coord>, AllocError>
+    ensures { IfOk result (λ coords. coords ≡ coords_among axes.now (the_coords operands.now)) }
+{
+    let all = all_coords(alloc, operands)?;
+    kept_coords(alloc, axes, &all)
+}

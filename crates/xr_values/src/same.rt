@@ -1,0 +1,132 @@
+//! Whether two coordinates are equal.
+ghost use Rattle.std.specs.Prelude.{◌≡◌, ◌<◌, ◌&&◌, ⊤, map, length, nat_eq, option_map, get_or, None, MatchOption};
+ghost use Rattle.std.specs.Str.{bytes_eq};
+ghost use Rattle.std.specs.Cmp.Lexicographic.{pointwise};
+ghost use Rattle.xr_defs.specs.Arrays.{hidden, wide};
+ghost use Rattle.xr_defs.specs.Values.{axis_names};
+ghost use Rattle.xr_values.specs.Carrying.{same_cell, same_content, same_coord};
+
+use xr_defs::{ArrayValue, Cells, Content, Coord};
+use xr_types::{Axis, Elem, Items};
+
+/// Whether the axes have the same names in the same order.
+fn same_dimensions(a: &[Axis], b: &[Axis]) -> bool
+    ensures { result ≡ pointwise bytes_eq (axis_names a.now) (axis_names b.now) }
+{
+    match (a, b) {
+        ([], []) => true,
+        ([x, xs @ ..], [y, ys @ ..]) => x.name.is(&y.name) && same_dimensions(xs, ys),
+        _ => false,
+    }
+}
+
+fn same_cell(a: Option<i128>, b: Option<i128>) -> bool
+    ensures { result ≡ same_cell a b }
+{
+    match (a, b) {
+        (None, None) => true,
+        (Some(m), Some(n)) => m == n,
+        _ => false,
+    }
+}
+
+fn cell_at<T: Elem>(cells: &[T], mask: Option<&Items<u8>>, at: usize) -> Option<i128>
+    requires at { at < length cells.now }
+    requires mask { MatchOption mask ⊤ (λ m. length m.now ≡ length cells.now) }
+    ensures { result ≡ get_or (hidden (map T.number cells.now) (option_map (λ m. m.now) mask.entry)) at None }
+{
+    match mask {
+        Some(bytes) => {
+            if bytes.as_slice()[at] == 0 {
+                Some(cells[at].widen())
+            } else {
+                None
+            }
+        }
+        None => Some(cells[at].widen()),
+    }
+}
+
+fn same_typed<A: Elem, B: Elem>(
+    a: &[A],
+    a_mask: Option<&Items<u8>>,
+    b: &[B],
+    b_mask: Option<&Items<u8>>,
+) -> bool
+    requires a_mask { MatchOption a_mask ⊤ (λ m. length m.now ≡ length a.now) }
+    requires b_mask { MatchOption b_mask ⊤ (λ m. length m.now ≡ length b.now) }
+    ensures { result ≡ pointwise same_cell (hidden (map A.number a.now) (option_map (λ m. m.now) a_mask.entry)) (hidden (map B.number b.now) (option_map (λ m. m.now) b_mask.entry)) }
+{
+    if a.len() != b.len() {
+        return false;
+    }
+    for i in 0..a.len() {
+        if !same_cell(cell_at(a, a_mask, i), cell_at(b, b_mask, i)) {
+            return false;
+        }
+    }
+    true
+}
+
+fn same_as_typed<T: Elem>(
+    a: &[T],
+    a_mask: Option<&Items<u8>>,
+    b: &Cells,
+    b_mask: Option<&Items<u8>>,
+) -> bool
+    requires a_mask { MatchOption a_mask ⊤ (λ m. length m.now ≡ length a.now) }
+    requires b_mask { MatchOption b_mask ⊤ (λ m. length m.now ≡ length (wide b.now)) }
+    ensures { result ≡ pointwise same_cell (hidden (map T.number a.now) (option_map (λ m. m.now) a_mask.entry)) (hidden (wide b.now) (option_map (λ m. m.now) b_mask.entry)) }
+{
+    match b {
+        Cells::Bool(v) => same_typed(a, a_mask, v.as_slice(), b_mask),
+        Cells::Char(v) => same_typed(a, a_mask, v.as_slice(), b_mask),
+        Cells::Int8(v) => same_typed(a, a_mask, v.as_slice(), b_mask),
+        Cells::Int16(v) => same_typed(a, a_mask, v.as_slice(), b_mask),
+        Cells::Int32(v) => same_typed(a, a_mask, v.as_slice(), b_mask),
+        Cells::Int64(v) => same_typed(a, a_mask, v.as_slice(), b_mask),
+    }
+}
+
+fn same_cells(a: &Cells, a_mask: Option<&Items<u8>>, b: &Cells, b_mask: Option<&Items<u8>>) -> bool
+    requires a_mask { MatchOption a_mask ⊤ (λ m. length m.now ≡ length (wide a.now)) }
+    requires b_mask { MatchOption b_mask ⊤ (λ m. length m.now ≡ length (wide b.now)) }
+    ensures { result ≡ pointwise same_cell (hidden (wide a.now) (option_map (λ m. m.now) a_mask.entry)) (hidden (wide b.now) (option_map (λ m. m.now) b_mask.entry)) }
+{
+    match a {
+        Cells::Bool(v) => same_as_typed(v.as_slice(), a_mask, b, b_mask),
+        Cells::Char(v) => same_as_typed(v.as_slice(), a_mask, b, b_mask),
+        Cells::Int8(v) => same_as_typed(v.as_slice(), a_mask, b, b_mask),
+        Cells::Int16(v) => same_as_typed(v.as_slice(), a_mask, b, b_mask),
+        Cells::Int32(v) => same_as_typed(v.as_slice(), a_mask, b, b_mask),
+        Cells::Int64(v) => same_as_typed(v.as_slice(), a_mask, b, b_mask),
+    }
+}
+
+fn same_arrays(a: &ArrayValue, b: &ArrayValue) -> bool
+    ensures { result ≡ (pointwise nat_eq a.now.shape b.now.shape && pointwise same_cell a.now.cells b.now.cells) }
+{
+    let (cells, mask) = a.parts();
+    let (others, hides) = b.parts();
+    a.shape() == b.shape() && same_cells(cells, mask, others, hides)
+}
+
+#[tactic(auto, unfolding(crate::specs::Carrying::same_content))]
+fn same_content(a: &Content, b: &Content) -> bool
+    ensures { result ≡ same_content a.now b.now }
+{
+    match (a, b) {
+        (Content::Cells(cells, _), Content::Cells(others, _)) => same_arrays(cells, others),
+        (Content::Text(text), Content::Text(other)) => text.is(other),
+        (Content::Time(_, time), Content::Time(_, other)) => time == other,
+        _ => false,
+    }
+}
+
+/// Whether two coordinates have the same dimensions and equal cells. Numbers are compared whatever their kind.
+#[tactic(auto, unfolding(crate::specs::Carrying::same_coord))]
+pub fn same_coord(a: &Coord, b: &Coord) -> bool
+    ensures { result ≡ same_coord a.now b.now }
+{
+    same_dimensions(a.axes.as_slice(), b.axes.as_slice()) && same_content(&a.content, &b.content)
+}
