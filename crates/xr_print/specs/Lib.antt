@@ -1,0 +1,4 @@
+pub mod Pieces
+pub mod Conditions
+pub mod ByName
+pub mod Printed
