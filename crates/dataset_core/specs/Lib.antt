@@ -1,0 +1,4 @@
+pub mod Choices
+pub mod Unbounded
+pub mod Labels
+pub mod Selections
