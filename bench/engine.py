@@ -14,6 +14,7 @@ from setting import PYTHON, begin
 CELLS = "a = ((np.arange(n, dtype='i8') * 31) % 1009 - 504).astype('i4')"
 MASKED = CELLS + "\na = np.ma.MaskedArray(a, mask=np.arange(n) % 7 == 0)"
 ASCENDING = "x = np.arange(n, dtype='i8')"
+HOURS = "i = pd.DatetimeIndex(np.datetime64('2000-01-01', 'ns') + np.arange(n) * np.timedelta64(1, 'h')); s = pd.Series(0, index=i)"
 SCATTERED = "x = (np.arange(n, dtype='u4') * np.uint32(2654435761)).astype('i8')"
 
 # the job's name, the packages of the peer, what it prepares, and what is timed
@@ -29,9 +30,15 @@ JOBS = [
     ("index scattered", "numpy, pandas", SCATTERED, "i = pd.Index(x); i.is_unique; i.is_monotonic_increasing"),
     ("find ascending", "numpy, pandas", ASCENDING + "\ni = pd.Index(x); q = x[::-1].copy(); i.get_indexer(q[:1])", "i.get_indexer(q)"),
     ("find scattered", "numpy, pandas", SCATTERED + "\ni = pd.Index(x); q = x[::-1].copy(); i.get_indexer(q[:1])", "i.get_indexer(q)"),
+    ("month", "numpy, pandas", HOURS, "i.month"),
+    ("day of year", "numpy, pandas", HOURS, "i.day_of_year"),
+    ("hour", "numpy, pandas", HOURS, "i.hour"),
+    # the starts of the bins, and for each label the place of its bin
+    ("bins of 6h", "numpy, pandas", HOURS, "g = s.resample('6H').grouper; g.binlabels; g.group_info[0]"),
+    ("bins of months", "numpy, pandas", HOURS, "g = s.resample('MS').grouper; g.binlabels; g.group_info[0]"),
 ]
 
-SIZES = {"index ascending": [1_000_000], "index scattered": [1_000_000], "find ascending": [1_000_000], "find scattered": [1_000_000]}
+SIZES = {job: [1_000_000] for job, packages, _, _ in JOBS if "pandas" in packages}
 
 TIMED = """
 import time

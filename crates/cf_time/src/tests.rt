@@ -7,7 +7,7 @@ use std::alloc::Global;
 use std::process::Abort;
 use std::test::Fail;
 use xr_defs::{Field, Freq};
-use xr_types::{TimeUnit, Units};
+use xr_types::{CallFault, TimeUnit, Units};
 
 // The times and what they show are those of Python:
 // for y in (1, 1582, 1600, 1900, 2000, 2100, 9999):
@@ -59,7 +59,9 @@ fn dates(rt: HostRuntime) {
     read(&rt, "2100-02", 4_105_123_200, 4_107_542_399);
     read(&rt, "9999", 253_370_764_800, 253_402_300_799);
     read(&rt, "1900-02", -2_206_310_400, -2_203_891_201);
+    read(&rt, "2000-01", 946_684_800, 949_363_199);
     read(&rt, "2000-02", 949_363_200, 951_868_799);
+    read(&rt, "2000-01-11", 947_548_800, 947_635_199);
     read(&rt, "2000-01-11T00:00:00", 947_548_800, 947_548_800);
     read(&rt, "2000-02-29 12:30:15", 951_827_415, 951_827_415);
     read(&rt, "1900-02-29", 1, 0);
@@ -275,6 +277,41 @@ fn bins_of_the_calendar(rt: HostRuntime) {
     );
     let years = [946_684_800, 978_307_200];
     binned(&rt, rt.alloc(), &labels, Freq::Years, &years, &[0, 0, 0, 1]);
+}
+
+/// The number of the fault of a call that was refused, or 0.
+fn number_of(fault: CallFault) -> u32 {
+    match fault {
+        CallFault::Refused(fault) => fault.number(),
+        CallFault::Declined(_) => 0,
+        CallFault::NoMemory => 0,
+    }
+}
+
+fn unbinned(rt: &impl Abort, alloc: Global, labels: &[i64], freq: Freq, number: u32)
+    requires times { All IsTime labels.now }
+    requires freq { IsFreq freq }
+{
+    match bins(alloc, labels, freq) {
+        Ok(_) => assert!(rt; false),
+        Err(fault) => assert!(rt; number_of(fault) == number),
+    }
+}
+
+// Labels that descend; and 2^25 seconds from the first label to the last, one second more than the bins allow.
+#[test]
+fn no_bins(rt: HostRuntime) {
+    let falling = [947_548_800, 946_684_800];
+    unbinned(&rt, rt.alloc(), &falling, Freq::Months, 9);
+    let far = [946_684_800, 980_239_232];
+    unbinned(&rt, rt.alloc(), &far, Freq::Seconds(1), 22);
+    unbinned(
+        &rt,
+        rt.alloc(),
+        &[980_239_232, 946_684_800],
+        Freq::Seconds(1),
+        9,
+    );
 }
 
 // Counts as Python has them: (datetime(2000, 1, 1, 18) - datetime(2000, 1, 2)) // timedelta(hours=1)

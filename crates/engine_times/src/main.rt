@@ -4,12 +4,14 @@
 
 mod folds;
 mod labels;
+mod times;
 
 use anyhow::{Context, Result};
 use std::alloc::Global;
 use std::env;
 use std::rt::Clock;
 use std::time::Instant;
+use xr_defs::{Field, Freq};
 
 /// What is timed.
 pub trait Job {
@@ -75,6 +77,11 @@ fn timed<C: Clock>(
             )?;
             Ok((found, number))
         }
+        "month" => times::field_timed(clock, alloc, Field::Month, cells, times),
+        "day of year" => times::field_timed(clock, alloc, Field::DayOfYear, cells, times),
+        "hour" => times::field_timed(clock, alloc, Field::Hour, cells, times),
+        "bins of 6h" => times::bins_timed(clock, alloc, Freq::Seconds(21_600), cells, times),
+        "bins of months" => times::bins_timed(clock, alloc, Freq::Months, cells, times),
         _ => Ok((0, 0)),
     }
 }

@@ -8,6 +8,7 @@ use Rattle.std.proofs.lemmas.Bool.Decides.{nat_tests}
 use Rattle.xr_types.specs.declared.axis.Label.{Label}
 use Rattle.xr_defs.specs.Labels.{label_at, at_most, below, is_from, is_to, is_neither, direction_of, between, ordered_slice}
 use Rattle.xr_defs.specs.declared.search.Direction.{Direction}
+use Rattle.xr_defs.specs.declared.search.Direction.TheVariants.{Neither}
 use Rattle.xr_defs.proofs.LabelPlaces.{positions_run, positions_none}
 use Rattle.label_index.specs.declared.rank.Ranks.{Ranks}
 use Rattle.label_index.specs.declared.rank.Ranks.TheVariants.{Rising, Falling}
@@ -94,3 +95,22 @@ ordered_ok xs from to way e h = ap (λ b. if b then Err NotMonotonic else Ok (be
 pub some_copied : (o : Option (Bor Label)) → is_some (option_copied o) ≡ is_some o
 some_copied None = refl
 some_copied (Some x) = refl
+
+-- where labels neither ascend nor descend
+pub whole_err : (xs : List Label) (from to : Option (Bor Label)) → direction_of xs ≡ Neither → (is_some from || is_some to) ≡ true → ordered_slice xs (option_copied from) (option_copied to) ≡ Err NotMonotonic
+whole_err xs from to e h =
+    let test : (is_neither (direction_of xs) && (is_some (option_copied from) || is_some (option_copied to))) ≡ true = rw (e, some_copied from, some_copied to) h in
+    ap (λ b. if b then Err NotMonotonic else Ok (between xs (option_copied from) (option_copied to))) test
+
+whole_between : (xs : List Label) (from to : Option (Bor Label)) → direction_of xs ≡ Neither → (is_some from || is_some to) ≡ false → between xs (option_copied from) (option_copied to) ≡ range_with_len 0 (length xs)
+whole_between xs None None e h =
+    let rest : length xs - 0 ≡ length xs = omega arith in
+    between_cuts xs None None Neither 0 (length xs) (sym e) (omega arith) (λ p s. is_le_true 0 p (omega arith)) (λ p s. is_lt_true p (length xs) s) ∙ ap (range_with_len 0) rest
+whole_between xs None (Some x) e h = absurd (cc)
+whole_between xs (Some x) to e h = absurd (cc)
+
+pub whole_ok : (xs : List Label) (from to : Option (Bor Label)) (first count : ℕ) → direction_of xs ≡ Neither → (is_some from || is_some to) ≡ false → range_with_len first count ≡ range_with_len 0 (length xs) → ordered_slice xs (option_copied from) (option_copied to) ≡ Ok (range_with_len first count)
+whole_ok xs from to first count e h run =
+    let test : (is_neither Neither && (is_some (option_copied from) || is_some (option_copied to))) ≡ false = rw (some_copied from, some_copied to) h in
+    ordered_ok xs (option_copied from) (option_copied to) Neither (sym e) test
+    ∙ ap Ok (whole_between xs from to e h ∙ sym run)

@@ -6,3 +6,4 @@ pub mod Finding
 pub mod Cutting
 pub mod Nearing
 pub mod Guessing
+pub mod Hashing

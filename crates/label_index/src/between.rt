@@ -2,7 +2,7 @@
 ghost use Rattle.std.specs.Prelude.{◌≡◌, ◌≢◌, ◌<◌, ◌≤◌, ◌-◌, ◌&&◌, ◌||◌, nat_le, nat_lt, ℕ, length, true, false, is_some, Some, Ok, Err, MatchResult, IfOk};
 ghost use Rattle.std.specs.List.{range_with_len};
 ghost use Rattle.std.specs.Option.{option_copied};
-ghost use Rattle.xr_defs.specs.Labels.{labels_of, label_at, is_from, is_to, is_neither, is_kin_end, ordered_slice};
+ghost use Rattle.xr_defs.specs.Labels.{labels_of, label_at, is_from, is_to, is_neither, is_kin_end, direction_of, ordered_slice};
 ghost use Rattle.xr_defs.specs.declared.search.Direction.TheVariants.{Neither};
 ghost use Rattle.label_index.specs.Ranks.{direction, IsRanked};
 
@@ -118,4 +118,23 @@ pub fn slice(
     let low = start_of(list, ranks, from);
     let high = end_of(list, ranks, to);
     Ok(span(low, high))
+}
+
+/// Whether there is an end.
+fn has_end(from: Option<&Label>, to: Option<&Label>) -> bool
+    ensures { result ≡ (is_some from.entry || is_some to.entry) }
+{
+    from.is_some() || to.is_some()
+}
+
+/// The positions between two ends where the labels neither ascend nor descend: all, or a fault where an end is given.
+pub fn whole(list: &LabelList, from: Option<&Label>, to: Option<&Label>) -> Result<Span, Fault>
+    requires { direction_of (labels_of list.now) ≡ Neither }
+    ensures positions { MatchResult result (λ s. ordered_slice (labels_of list.now) (option_copied from.entry) (option_copied to.entry) ≡ Ok (range_with_len s.first s.length)) (λ f. ordered_slice (labels_of list.now) (option_copied from.entry) (option_copied to.entry) ≡ Err f) }
+    ensures empty { IfOk result (λ s. s.length ≡ 0 → s.first ≡ 0) }
+{
+    if has_end(from, to) {
+        return Err(Fault::NotMonotonic);
+    }
+    Ok(span(0, label::count(list)))
 }

@@ -3,6 +3,8 @@
 ghost use Rattle.std.specs.Prelude.{◌≡◌, ◌<◌, pos, length, false, true, slice_index_or, IfSome, Ok};
 ghost use Rattle.xr_defs.specs.Labels.{labels_of, label_at, same, repeats, place};
 
+use crate::label;
+use crate::place::Places;
 use crate::rank::Ranks;
 use xr_types::{Label, LabelList};
 
@@ -15,14 +17,10 @@ fn mean_step(numbers: &[i64]) -> u64 {
 }
 
 /// The mean step of labels that ascend, or 0: texts have none.
-pub fn step_of(list: &LabelList, ranks: &Ranks) -> u64 {
-    match ranks {
-        Ranks::Rising => match list {
-            LabelList::Numbers(_, numbers) => mean_step(numbers.as_slice()),
-            LabelList::Times(_, times) => mean_step(times.as_slice()),
-            LabelList::Texts(_) => 0,
-        },
-        Ranks::Falling | Ranks::Sorted(_) => 0,
+pub fn step_of(list: &LabelList, places: &Places) -> u64 {
+    match places {
+        Places::Ranked(Ranks::Rising) => mean_step(label::numbers(list)),
+        _ => 0,
     }
 }
 

@@ -3,21 +3,21 @@ ghost use Rattle.std.specs.Prelude.{◌≡◌, ◌<◌, ◌≤◌, ◌^◌, IfOk
 ghost use Rattle.std.specs.List.{range_with_len};
 ghost use Rattle.std.specs.Option.{option_copied};
 ghost use Rattle.xr_defs.specs.Labels.{labels_of, repeats, direction_of, find_of, find_near_of, slice_of, IsLabelled, list_of};
-ghost use Rattle.label_index.specs.Ranks.{IsRanked};
+ghost use Rattle.label_index.specs.Places.{IsPlaced};
 
-use crate::rank::Ranks;
-use crate::{between, guess, label, near, rank, scan, search};
+use crate::place::Places;
+use crate::{between, guess, hash, label, near, place, search};
 use std::alloc::Global;
 use std::marker::Model;
 use xr_defs::{Direction, Near, Span};
 use xr_types::{Axis, Fault, Label, LabelList, NoMemory};
 
-/// An axis's labels, ready for look-ups. It holds the axis and, where the labels neither ascend nor descend,
-/// the positions in the order of their labels, four bytes each.
+/// An axis's labels, ready for look-ups. It holds the axis and, where the labels neither ascend nor descend, six
+/// bytes a label: a hash table of numbers of which none stands twice, else the positions in the order of their labels.
 #[derive(Drop)]
 pub struct Index<'a> {
     list: &'a LabelList,
-    ranks: Ranks,
+    places: Places,
     is_unique: bool,
     // the mean step of labels that ascend and of which none stands twice, or 0
     step: u64,
@@ -27,17 +27,18 @@ impl<'a> Model for Index<'a> {
     ghost use Rattle.std.specs.Prelude.{◌≡◌, ◌<◌, false, not};
     ghost use Rattle.xr_types.specs.declared.axis.LabelList.{LabelList};
     ghost use Rattle.xr_defs.specs.Labels.{labels_of, repeats};
-    ghost use Rattle.label_index.specs.Ranks.{IsRanked};
+    ghost use Rattle.label_index.specs.Places.{IsPlaced};
 
     ghost Value = { LabelList };
 
     ghost view = { λ i. i.list.now };
 
-    ghost invariant = { λ i. IsRanked (labels_of i.list.now) i.ranks × (i.is_unique ≡ not (repeats (labels_of i.list.now))) × (0 < i.step → repeats (labels_of i.list.now) ≡ false) };
+    ghost invariant = { λ i. IsPlaced i.list.now i.places × (i.is_unique ≡ not (repeats (labels_of i.list.now))) × (0 < i.step → repeats (labels_of i.list.now) ≡ false) };
 }
 
 impl<'a> Index<'a> {
-    /// The index of an axis with labels. It is made in one pass where they ascend or descend, and by a sort else.
+    /// The index of an axis with labels. It is made in few passes where they ascend or descend or are
+    /// numbers of which none stands twice, and by a sort else.
     pub fn of(alloc: Global, axis: &'a Axis) -> Result<Index<'a>, NoMemory>
         requires labelled { IsLabelled axis.now }
         requires most { axis.now.size ≤ 33554432 }
@@ -47,16 +48,16 @@ impl<'a> Index<'a> {
             Some(labels) => &labels.list,
             None => return Err(NoMemory),
         };
-        let ranks = scan::rank_all(alloc, list)?;
-        let is_unique = search::is_distinct(list, &ranks);
+        let places = place::place_all(alloc, list)?;
+        let is_unique = place::is_distinct(list, &places);
         let step = if is_unique {
-            guess::step_of(list, &ranks)
+            guess::step_of(list, &places)
         } else {
             0
         };
         Ok(Index {
             list,
-            ranks,
+            places,
             is_unique,
             step,
         })
@@ -73,7 +74,10 @@ impl<'a> Index<'a> {
         if let Some(at) = guess::find(self.list, self.step, label) {
             return Ok(at);
         }
-        search::find(self.list, &self.ranks, label)
+        match &self.places {
+            Places::Ranked(ranks) => search::find(self.list, ranks, label),
+            Places::Hashed(slots) => hash::find(self.list, slots.as_slice(), label),
+        }
     }
 
     /// The position of the greatest label not above one, the least not below it, or the nearest, of two as near
@@ -94,10 +98,13 @@ impl<'a> Index<'a> {
         if !self.is_unique {
             return Err(Fault::NotUnique);
         }
-        if !near::suits(near, &self.ranks) {
+        let Places::Ranked(ranks) = &self.places else {
+            return Err(Fault::NotMonotonic);
+        };
+        if !near::suits(near, ranks) {
             return Err(Fault::NotMonotonic);
         }
-        near::find(self.list, &self.ranks, label, near, tolerance)
+        near::find(self.list, ranks, label, near, tolerance)
     }
 
     /// The positions whose labels lie between two ends, both included; a missing end bounds nothing. On a
@@ -110,7 +117,10 @@ impl<'a> Index<'a> {
         if !between::is_kin_end(self.list, from) || !between::is_kin_end(self.list, to) {
             return Err(Fault::LabelKind);
         }
-        between::slice(self.list, &self.ranks, from, to)
+        match &self.places {
+            Places::Ranked(ranks) => between::slice(self.list, ranks, from, to),
+            Places::Hashed(_) => between::whole(self.list, from, to),
+        }
     }
 
     /// Whether no label stands twice.
@@ -124,6 +134,6 @@ impl<'a> Index<'a> {
     pub fn direction(&self) -> Direction
         ensures { result ≡ direction_of (labels_of self.now) }
     {
-        rank::direction(&self.ranks)
+        place::direction(self.list, &self.places)
     }
 }

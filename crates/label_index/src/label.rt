@@ -1,6 +1,7 @@
 //! The labels of a list, one at a time.
 ghost use Rattle.std.specs.Prelude.{◌≡◌, ◌<◌, length};
 ghost use Rattle.xr_defs.specs.Labels.{labels_of, label_at, order, distance, is_kin, is_text};
+ghost use Rattle.label_index.specs.Slots.{numbers_of, number_of};
 
 use std::cmp::Ordering;
 use xr_types::{Label, LabelList};
@@ -86,5 +87,27 @@ pub fn is_kin(list: &LabelList, label: &Label) -> bool
         LabelList::Numbers(_, _) => matches!(label, Label::Int(_)),
         LabelList::Times(_, _) => matches!(label, Label::Time(_)),
         LabelList::Texts(_) => matches!(label, Label::Text(_)),
+    }
+}
+
+/// The numbers of a list, times by their seconds; texts have none.
+pub fn numbers(list: &LabelList) -> &[i64]
+    ensures { result.now ≡ numbers_of list.now }
+{
+    match list {
+        LabelList::Numbers(_, numbers) => numbers.as_slice(),
+        LabelList::Times(_, times) => times.as_slice(),
+        LabelList::Texts(_) => &[],
+    }
+}
+
+/// The number of a label, a time by its seconds, or 0.
+pub fn number(label: &Label) -> i128
+    ensures { result ≡ number_of label.now }
+{
+    match label {
+        Label::Int(number) => *number,
+        Label::Time(time) => i128::from(*time),
+        Label::Text(_) => 0,
     }
 }

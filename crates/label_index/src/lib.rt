@@ -3,9 +3,11 @@
 
 mod between;
 mod guess;
+mod hash;
 mod index;
 mod label;
 mod near;
+mod place;
 mod rank;
 mod scan;
 mod search;

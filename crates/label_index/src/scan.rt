@@ -1,10 +1,10 @@
 //! How the labels of an axis are ranked: as they stand where they ascend or descend, else by a sort.
-ghost use Rattle.std.specs.Prelude.{◌≡◌, ◌<◌, ◌≤◌, ◌^◌, ◌-◌, ℕ, ℤ, pos, [], length, slice_index_or, IfOk, true, false};
+ghost use Rattle.std.specs.Prelude.{◌≡◌, ◌<◌, ◌≤◌, ◌^◌, ◌-◌, ℕ, ℤ, pos, [], length, slice_index_or, IfOk, IfSome, None, true, false};
 ghost use Rattle.std.specs.List.{range_with_len};
 ghost use Rattle.std.specs.List.Sorted.{IsPermutation, IsSortedBy};
 ghost use Rattle.std.specs.Ordering.{is_lt, int_cmp, nat_cmp};
 ghost use Rattle.std.specs.Cmp.Lexicographic.{slice_cmp};
-ghost use Rattle.xr_defs.specs.Labels.{labels_of, label_at, each_next};
+ghost use Rattle.xr_defs.specs.Labels.{labels_of, label_at, each_next, is_ascending, is_descending};
 ghost use Rattle.label_index.specs.Ranks.{next_way, IsRanked};
 
 use crate::label;
@@ -88,17 +88,28 @@ fn sort_texts(order: &mut Vec<u32>, texts: &[TextBytes])
     order.sort_unstable_by(|a: &u32, b: &u32| text_at(texts, *a).cmp(text_at(texts, *b)));
 }
 
-/// The ranks of the positions of a list.
-pub fn rank_all(alloc: Global, list: &LabelList) -> Result<Ranks, AllocError>
-    requires { length (labels_of list.now) < 2 ^ 32 }
-    ensures { IfOk result (IsRanked (labels_of list.now)) }
+/// The ranks where the labels ascend or descend.
+pub fn in_order(list: &LabelList) -> Option<Ranks>
+    ensures ranked { IfSome result (IsRanked (labels_of list.now)) }
+    ensures up { result ≡ None → is_ascending (labels_of list.now) ≡ false }
+    ensures down { result ≡ None → is_descending (labels_of list.now) ≡ false }
 {
     if is_chain(list, false) {
-        return Ok(Ranks::Rising);
+        return Some(Ranks::Rising);
     }
     if is_chain(list, true) {
-        return Ok(Ranks::Falling);
+        return Some(Ranks::Falling);
     }
+    None
+}
+
+/// The ranks where the labels neither ascend nor descend, by a sort.
+pub fn sorted(alloc: Global, list: &LabelList) -> Result<Ranks, AllocError>
+    requires most { length (labels_of list.now) < 2 ^ 32 }
+    requires up { is_ascending (labels_of list.now) ≡ false }
+    requires down { is_descending (labels_of list.now) ≡ false }
+    ensures { IfOk result (IsRanked (labels_of list.now)) }
+{
     let mut order = places(alloc, label::count(list))?;
     match list {
         LabelList::Numbers(_, numbers) => sort_numbers(&mut order, numbers.as_slice()),

@@ -11,9 +11,9 @@ use xr_types::{
 
 /// An axis `x` with these numbers.
 fn axis(alloc: Global, numbers: &[i64]) -> Result<Axis, AllocError>
-    requires { length numbers.now ≤ 10 }
+    requires { length numbers.now ≤ 1000 }
     ensures labelled { IfOk result IsLabelled }
-    ensures size { IfOk result (λ a. a.size ≤ 10) }
+    ensures size { IfOk result (λ a. a.size ≤ 1000) }
 {
     let labels = Labels {
         list: LabelList::Numbers(DType::Int64, Items::from_slice(alloc, numbers)?),
@@ -103,6 +103,58 @@ fn unordered(rt: HostRuntime) -> Result<(), Fail> {
 }
 
 #[test]
+fn unordered_without_repeats(rt: HostRuntime) -> Result<(), Fail> {
+    let axis = axis(rt.alloc(), &[1, 3, 2])?;
+    let index = Index::of(rt.alloc(), &axis).ok().ok_or("memory")?;
+    assert!(rt; index.direction() == Direction::Neither && index.is_unique());
+    assert_eq!(rt; run(index.slice(Some(&Label::Int(1)), None)), Err(9));
+    assert_eq!(rt; run(index.slice(None, Some(&Label::Int(2)))), Err(9));
+    assert_eq!(rt; run(index.slice(None, None)), Ok((0, 3)));
+    assert_eq!(rt; said(index.find(&Label::Int(2))), Ok(2));
+    assert_eq!(rt; said(index.find(&Label::Int(4))), Err(6));
+    Ok(())
+}
+
+#[test]
+fn scattered(rt: HostRuntime) -> Result<(), Fail> {
+    let numbers = [7, -7, i64::MIN, 0, i64::MAX, 1 << 32];
+    let axis = axis(rt.alloc(), &numbers)?;
+    let index = Index::of(rt.alloc(), &axis).ok().ok_or("memory")?;
+    assert!(rt; index.direction() == Direction::Neither && index.is_unique());
+    for at in 0..numbers.len() {
+        let label = Label::Int(i128::from(numbers[at]));
+        assert_eq!(rt; said(index.find(&label)), Ok(at as u64));
+    }
+    assert_eq!(rt; said(index.find(&Label::Int(8))), Err(6));
+    assert_eq!(rt; said(index.find(&Label::Int((1 << 64) + 7))), Err(6));
+    assert_eq!(rt; said(index.find(&Label::Time(7))), Err(10));
+    assert_eq!(rt;
+        said(index.find_near(&Label::Int(7), Near::Nearest, None)),
+        Err(9)
+    );
+    Ok(())
+}
+
+// Multiples of 389 modulo 1009, a prime, so none stands twice.
+#[test]
+fn many_scattered(rt: HostRuntime) -> Result<(), Fail> {
+    let mut numbers = Vec::new(rt.alloc());
+    for at in 0..1000_u32 {
+        numbers.push(i64::from(at * 389 % 1009))?;
+    }
+    numbers.truncate(1000);
+    let axis = axis(rt.alloc(), numbers.as_slice())?;
+    let index = Index::of(rt.alloc(), &axis).ok().ok_or("memory")?;
+    assert!(rt; index.direction() == Direction::Neither && index.is_unique());
+    for at in 0..1000_u32 {
+        let label = Label::Int(i128::from(at * 389 % 1009));
+        assert_eq!(rt; said(index.find(&label)), Ok(u64::from(at)));
+    }
+    assert_eq!(rt; said(index.find(&Label::Int(1009))), Err(6));
+    Ok(())
+}
+
+#[test]
 fn ascending(rt: HostRuntime) -> Result<(), Fail> {
     let axis = axis(rt.alloc(), &[10, 20])?;
     let index = Index::of(rt.alloc(), &axis).ok().ok_or("memory")?;
@@ -130,8 +182,8 @@ fn ascending(rt: HostRuntime) -> Result<(), Fail> {
     Ok(())
 }
 
-// The days 0, 10, 31 and 366 since 2000-01-01, and ends of periods, by Python's datetime:
-// (datetime(2000, 2, 29, 23, 59, 59) - datetime(1970, 1, 1)).total_seconds()
+// The days 0, 10, 31 and 366 since 2000-01-01, and the first second of 2000-01 and the last of 2000-02, by Python's
+// datetime and calendar: (datetime(2000, 2, calendar.monthrange(2000, 2)[1], 23, 59, 59) - datetime(1970, 1, 1)).total_seconds()
 #[test]
 fn dates(rt: HostRuntime) -> Result<(), Fail> {
     let axis = times(
