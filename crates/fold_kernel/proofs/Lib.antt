@@ -6,3 +6,4 @@ pub mod Choices
 pub mod Kept
 pub mod Ones
 pub mod Scans
+pub mod Lines

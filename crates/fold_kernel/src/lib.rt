@@ -4,12 +4,14 @@
 mod find;
 mod found;
 mod gather;
+mod line;
 mod partial;
 mod row;
 mod run;
-mod scan;
+mod running;
 #[cfg(test)]
 mod tests;
 
+pub use line::scan;
 pub use partial::Partial;
-pub use scan::{scan_masked, scan_run};
+pub use running::{scan_masked, scan_run};

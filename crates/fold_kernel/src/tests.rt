@@ -2,7 +2,7 @@
 ghost use Rattle.std.specs.Prelude.{◌≡◌, ◌≤◌, ◌^◌, length};
 
 use crate::partial::Partial;
-use crate::scan::{scan_masked, scan_run};
+use crate::running::{scan_masked, scan_run};
 use std::process::Abort;
 use xr_defs::FoldKind;
 use xr_types::{DType, Elem};

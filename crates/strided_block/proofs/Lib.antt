@@ -1,9 +1,11 @@
 pub mod Boxes
 pub mod CellLaws
 pub mod Leads
+pub mod Lines
 pub mod Places
 pub mod Puts
 pub mod Rows
 pub mod Sights
 pub mod Splits
+pub mod Wholes
 pub mod Zipped

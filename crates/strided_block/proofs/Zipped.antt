@@ -53,7 +53,7 @@ module _ {A B C D T : Type 0} (R : A → B → C → D → T → Type 0) where
 
 -- ---- a run more
 
-same_cell : {T : Type 0} (old new : List T) (i : ℕ) → i < length old → length new ≡ length old → ((z : T) → get_or new i z ≡ get_or old i z) → get_or (map Some old) i None ≡ get_or (map Some new) i None
+pub same_cell : {T : Type 0} (old new : List T) (i : ℕ) → i < length old → length new ≡ length old → ((z : T) → get_or new i z ≡ get_or old i z) → get_or (map Some old) i None ≡ get_or (map Some new) i None
 same_cell old new i lt long same =
     let f = found old i lt in let now : i < length new = omega arith in
     get_or-map Some old i f.x None lt ∙ ap Some (sym (same f.x)) ∙ sym (get_or-map Some new i f.x None now)

@@ -1,5 +1,6 @@
 pub mod Boxes
 pub mod Cells
+pub mod Lines
 pub mod Typed
 pub mod Views
 pub mod Zips

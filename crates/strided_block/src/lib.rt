@@ -3,8 +3,11 @@
 
 mod block;
 mod cells;
+mod line;
 mod place;
 mod row;
+#[cfg(test)]
+mod tests;
 mod typed;
 mod view;
 mod win;
@@ -12,6 +15,7 @@ mod zip;
 
 pub use block::Block;
 pub use cells::{CellBlock, CellView, CellWin};
+pub use line::scan_line;
 pub use typed::{TypedBlock, TypedView, TypedWin};
 pub use view::View;
 pub use win::Win;

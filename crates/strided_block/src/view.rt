@@ -1,10 +1,12 @@
 //! Views of cells.
-ghost use Rattle.std.specs.Prelude.{◌≡◌, ◌-◌, ◌+◌, ◌<◌, ◌≤◌, ◌++◌, ◌||◌, ℕ, List, Some, true, leb, bytes_eq, length, get_or, take, drop, slice_set};
+ghost use Rattle.std.specs.Prelude.{◌≡◌, ◌-◌, ◌+◌, ◌*◌, ◌<◌, ◌≤◌, ◌++◌, ◌||◌, ℕ, List, Some, true, leb, bytes_eq, length, get_or, take, drop, slice_set};
 ghost use Rattle.xr_defs.specs.Points.{size, place, IsPoint};
-ghost use Rattle.strided_block.specs.Boxes.{moved};
+ghost use Rattle.strided_block.specs.Boxes.{moved, plus, zeros};
+ghost use Rattle.strided_block.specs.Lines.{IsLine};
 ghost use Rattle.strided_block.specs.Views.{shown, together};
 
-use crate::place::{place_of, points};
+use crate::line::Places;
+use crate::place::{origin, place_of, points};
 use std::marker::Model;
 use xr_types::{Elem, Shape};
 
@@ -92,6 +94,18 @@ impl<'a, T: Elem> View<'a, T> {
         }
         let at = place_of(&self.whole, &self.low, lead);
         part(self.cells, at, count as usize)
+    }
+
+    /// Where the cells of a view of one line lie.
+    pub(crate) fn places(&self, axis: usize) -> Places
+        requires some { 0 < get_or self.now.shape axis 0 }
+        requires line { IsLine self.now.shape axis (get_or self.now.shape axis 0) }
+        ensures within { (j : ℕ) → j < get_or self.now.shape axis 0 → result.first + j * result.step < length self.now.slots }
+        ensures cells { (j : ℕ) → j < get_or self.now.shape axis 0 → place self.now.whole (plus self.now.low (slice_set (zeros self.now.shape) axis j)) ≡ result.first + j * result.step }
+    {
+        let first = place_of(&self.whole, &self.low, &origin(&self.shape));
+        let step = points(self.whole.as_slice().split_at(axis + 1).1) as usize;
+        Places { first, step }
     }
 
     /// The part from `from` up to `to` along an axis.

@@ -1,12 +1,13 @@
 //! Windows: owned cells of a block, to be written.
-ghost use Rattle.std.specs.Prelude.{◌≡◌, ◌+◌, ◌<◌, ◌≤◌, ◌++◌, ◌⊎◌, ℕ, List, Option, Some, None, length, get_or, map, take, drop, slice_set};
-ghost use Rattle.xr_defs.specs.Points.{IsPoint};
+ghost use Rattle.std.specs.Prelude.{◌≡◌, ◌+◌, ◌*◌, ◌<◌, ◌≤◌, ◌++◌, ◌⊎◌, ℕ, List, Option, Some, None, length, get_or, map, take, drop, slice_set};
+ghost use Rattle.xr_defs.specs.Points.{place, IsPoint};
 ghost use Rattle.strided_block.specs.Boxes.{plus, along, IsRow};
 ghost use Rattle.strided_block.specs.Typed.{number_or_zero, mask_byte};
 ghost use Rattle.strided_block.specs.Views.{Cut, KeptOutside, IsWhole, shown, held, cell_at};
 
 use crate::block::Block;
-use crate::place::{origin, place_at, twin};
+use crate::line::Places;
+use crate::place::{origin, place_at, points, twin};
 use crate::row::{put_bytes, put_numbers};
 use crate::view::View;
 use std::marker::Model;
@@ -165,6 +166,21 @@ impl<T: Elem + Drop> Win<T> {
     {
         let at = place_at(&self.shape, point);
         put_run(&mut self.cells, at, cells);
+    }
+
+    /// Where the cells of the line along an axis through a point lie.
+    pub(crate) fn places(&self, axis: usize, at: &Shape) -> Places
+        requires axis { axis < length self.now.shape }
+        requires at { IsPoint self.now.shape at.now }
+        ensures apart { 0 < result.step }
+        ensures within { (j : ℕ) → j < get_or self.now.shape axis 0 → result.first + j * result.step < length self.now.slots }
+        ensures cells { (j : ℕ) → j < get_or self.now.shape axis 0 → place self.now.whole (plus self.now.low (slice_set at.now axis j)) ≡ result.first + j * result.step }
+    {
+        let mut begin = twin(at);
+        begin.set(axis, 0);
+        let first = place_at(&self.shape, &begin);
+        let step = points(self.shape.as_slice().split_at(axis + 1).1) as usize;
+        Places { first, step }
     }
 
     /// Writes one cell everywhere.

@@ -53,7 +53,7 @@ fn scan_row<T: Elem, R: Row<T>>(start: i64, row: R, out: &mut [i64]) -> i64
 
 /// The sum with one more cell.
 #[tactic(auto, using(std::proofs::lemmas::Int::wraps))]
-fn more<T: Elem>(total: i64, cell: Option<T>) -> i64
+pub(crate) fn more<T: Elem>(total: i64, cell: Option<T>) -> i64
     ensures { result ≡ with_cell T.number total cell }
 {
     match cell {

@@ -5,7 +5,7 @@ use Rattle.xr_defs.specs.declared.operation.FoldKind.TheVariants.{Sum}
 use Rattle.xr_defs.specs.Folds.{fold_of}
 use Rattle.fold_kernel.proofs.Rows.{whole_run}
 use Rattle.fold_kernel.proofs.Scans.{scan_stands, scan_sum, whole_part}
-use Rattle.fold_kernel.proofs.scan.scan_run.Goals as goal
+use Rattle.fold_kernel.proofs.running.scan_run.Goals as goal
 
 pub returns-clause-stands : goal.returns-clause-stands
 returns-clause-stands g c b first h =

@@ -3,7 +3,7 @@ use Rattle.std.specs.Int.{w64}
 use Rattle.std.proofs.lemmas.Int.{to_z-of_z}
 use Rattle.fold_kernel.specs.Rows.{with_cell}
 use Rattle.fold_kernel.proofs.Scans.{scanned_total, scanned_sums}
-use Rattle.fold_kernel.proofs.scan.scan_row.Goals as goal
+use Rattle.fold_kernel.proofs.running.scan_row.Goals as goal
 
 pub loop-i-preserved : goal.loop-i-preserved
 loop-i-preserved g c =

@@ -1,7 +1,7 @@
 use Rattle.std.proofs.Common.{◌≡◌, ◌<◌, ◌+◌, ℕ, pos, take, get_or}
 use Rattle.std.specs.List.{fold}
 use Rattle.fold_kernel.specs.Rows.{with_cell}
-use Rattle.fold_kernel.proofs.scan.scan_row.Given as goal
+use Rattle.fold_kernel.proofs.running.scan_row.Given as goal
 
 abbrev pub invariant-loop-i : goal.invariant-loop-i
 invariant-loop-i g l = record {

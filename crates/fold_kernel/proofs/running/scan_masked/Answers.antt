@@ -6,7 +6,7 @@ use Rattle.xr_defs.specs.declared.operation.FoldKind.TheVariants.{Sum}
 use Rattle.xr_defs.specs.Folds.{fold_of}
 use Rattle.fold_kernel.proofs.Rows.{masked_run, length_shown}
 use Rattle.fold_kernel.proofs.Scans.{scan_stands, scan_sum, masked_part}
-use Rattle.fold_kernel.proofs.scan.scan_masked.Goals as goal
+use Rattle.fold_kernel.proofs.running.scan_masked.Goals as goal
 
 pub scan_row-total-requires : goal.scan_row-total-requires
 scan_row-total-requires g c = omega (arith, length_shown c.args.cells.now c.args.mask.now)
