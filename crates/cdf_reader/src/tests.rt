@@ -87,25 +87,57 @@ fn damaged_files(rt: HostRuntime) {
 #[test]
 fn changed_bytes(rt: HostRuntime) {
     let alloc = rt.alloc();
-    let mut long = ONE;
-    long[24] = 127;
-    assert_eq!(rt; answer(alloc, &long), ("CutData", 92));
-    let mut other = ONE;
-    other[59] = 1;
-    assert_eq!(rt; answer(alloc, &other), ("BadDimension", 56));
-    let mut large = ONE;
-    large[74] = 255;
-    assert_eq!(rt; answer(alloc, &large), ("", 0), "vsize is ignored");
+    // The file of 92 bytes with one byte changed: which, to what, and the answer.
+    let table: [(usize, u8, &str, u64); 17] = [
+        (3, 3, "BadMagic", 0),
+        (11, 11, "BadTag", 8),
+        (15, 2, "BadName", 28),
+        (20, 255, "BadName", 16),
+        (24, 127, "CutData", 92),
+        (31, 10, "BadTag", 28),
+        (35, 1, "BadTag", 32),
+        (43, 2, "CutHeader", 92),
+        (47, 0, "BadName", 44),
+        (55, 2, "BadTag", 68),
+        (55, 0, "BadType", 64),
+        (59, 1, "BadDimension", 56),
+        (63, 11, "BadTag", 60),
+        (71, 0, "BadType", 68),
+        (71, 7, "BadType", 68),
+        (76, 255, "CutData", 92),
+        // vsize is ignored
+        (74, 255, "", 0),
+    ];
+    for (place, byte, word, offset) in table {
+        let mut changed = ONE;
+        changed[place] = byte;
+        assert_eq!(rt;
+            answer(alloc, &changed),
+            (word, offset),
+            "byte {place} is {byte}"
+        );
+    }
+}
+
+#[test]
+fn changed_records(rt: HostRuntime) {
+    let alloc = rt.alloc();
     let mut streamed = RECORDS;
-    streamed[4] = 255;
-    streamed[5] = 255;
-    streamed[6] = 255;
-    streamed[7] = 255;
+    streamed[4..8].copy_from_slice(&[255, 255, 255, 255]);
     assert_eq!(rt;
         answer(alloc, &streamed[..133]),
         ("", 2),
         "the fewest records"
     );
+    let mut counted = RECORDS;
+    counted[7] = 4;
+    assert_eq!(rt; answer(alloc, &counted), ("CutData", 140));
+    let mut twice = RECORDS;
+    twice[84] = 98;
+    assert_eq!(rt; answer(alloc, &twice), ("Repeated", 80));
+    let mut lone = LONE;
+    lone[7] = 4;
+    assert_eq!(rt; answer(alloc, &lone), ("CutData", 86));
 }
 
 #[test]
