@@ -1,3 +1,4 @@
 pub mod Terminals
 pub mod States
 pub mod Progress
+pub mod Parsing

@@ -8,7 +8,7 @@ use Rattle.xr_defs.specs.Grammar as grammar
 use Rattle.xr_defs.specs.Grammar.{unary, term, sum, bitand, bitxor, bitor}
 use Rattle.xr_grammar.specs.Machine as machine
 use Rattle.xr_script.specs.declared.state.Levels.{Levels}
-use Rattle.xr_script.specs.declared.state.Wait.{Wait}
+use Rattle.xr_script.specs.declared.state.Waiting.{Waiting}
 use Rattle.xr_script.specs.declared.state.Head.{Head}
 use Rattle.xr_script.specs.declared.state.Head.TheVariants as head
 use Rattle.xr_script.specs.declared.state.Bracket.{Bracket}
@@ -35,13 +35,17 @@ slot_of (Some p) = Some (p.0, tree_of p.1.value)
 abbrev pub levels_of : Levels → machine.Slots bitor
 levels_of l = machine.Waiting bitxor (slot_of l.bit_or) (machine.Waiting bitand (slot_of l.bit_xor) (machine.Waiting sum (slot_of l.bit_and) (machine.Waiting term (slot_of l.sum) (machine.Waiting unary (slot_of l.product) machine.Free))))
 
-abbrev pub wait_of : Wait → machine.Wait
-wait_of w = machine.Waits (slot_of w.compare) (levels_of w.levels) (reverse w.signs.items)
+abbrev pub waiting_of : Waiting → machine.Wait
+waiting_of w = machine.Waits (slot_of w.compare) (levels_of w.levels) (reverse w.signs.items)
+
+abbrev pub wait_of : Option (Box Waiting Global) → machine.Wait
+wait_of None = machine.fresh
+wait_of (Some b) = waiting_of b.value
 
 abbrev pub head_of : Head → grammar.Head
 head_of (head.Func n) = grammar.Func n
-head_of (head.Of e n) = grammar.Of (tree_of e) n
-head_of (head.Write e) = grammar.Of (tree_of e) (codes "to_netcdf")
+head_of (head.Of e n) = grammar.Of (tree_of e.value) n
+head_of (head.Write e) = grammar.Of (tree_of e.value) (codes "to_netcdf")
 head_of (head.Align ns) = grammar.Func (codes "align")
 
 abbrev pub bracket_of : Bracket → machine.Bracket
@@ -85,7 +89,7 @@ around_from u [] = u
 around_from u (f ∷ fs) = around_from (machine.Inside (bracket_of f.bracket) (machine.In (wait_of f.wait)) u) fs
 
 abbrev pub around_of : Around → machine.Around
-around_of u = around_from (base_of u.base) u.stack.items
+around_of u = around_from (base_of u.base.value) u.stack.items
 
 abbrev pub pend_of : Seat → machine.Pend
 pend_of (seat.In w u) = machine.In (wait_of w)
@@ -161,7 +165,7 @@ state_of (state.Need w u) = machine.Need (wait_of w) (around_of u)
 state_of (state.Signed w u) = machine.Signed (wait_of w) (around_of u)
 state_of (state.Fresh n w u) = machine.Fresh n (wait_of w) (around_of u)
 state_of (state.At x s) = machine.At (place_of x) (pend_at x s) (around_at x s)
-state_of (state.Wrote e gs) = wrote_at (machine.Have (Method (tree_of e) (codes "to_netcdf") (all_arguments gs.items)))
+state_of (state.Wrote e gs) = wrote_at (machine.Have (Method (tree_of e.value) (codes "to_netcdf") (all_arguments gs.items)))
 state_of (state.WroteDotted e) = wrote_at (machine.Dotted (tree_of e))
 state_of (state.WroteAsked e n) = wrote_at (machine.Asked (tree_of e) n)
 state_of (state.WroteIndexed e) = wrote_at (machine.Indexed (tree_of e))

@@ -114,17 +114,17 @@ pub fn after_name_inside(
     ensures { Follows result (after_operand_of fresh (inside bracket seat) (Variable name) (terminal token)) }
 {
     let around = enter(alloc, seat, bracket)?;
-    after_operand(alloc, nothing(alloc), around, variable(name), token)
+    after_operand(alloc, nothing(), around, variable(name), token)
 }
 
 /// Behind a call of `to_netcdf` in a statement that is no expression.
 pub fn after_write(
     alloc: Global,
-    receiver: Expr,
+    receiver: Box<Expr>,
     args: Vec<Argument>,
     token: Terminal,
 ) -> Result<Next, Stop>
-    ensures { Follows result (after_of (Alone true) (On Writing) (a_method (tree_of receiver) (codes "to_netcdf") (all_arguments args.items)) (terminal token)) }
+    ensures { Follows result (after_of (Alone true) (On Writing) (a_method (tree_of receiver.value) (codes "to_netcdf") (all_arguments args.items)) (terminal token)) }
 {
     match token {
         Terminal::Dot => {
@@ -135,7 +135,7 @@ pub fn after_write(
             let e = write_call(alloc, receiver, args)?;
             Ok(Next::Go(State::WroteIndexed(e)))
         }
-        Terminal::End => Ok(Next::Done(Statement::Write(receiver, args))),
+        Terminal::End => Ok(Next::Done(Statement::Write(Box::into_inner(receiver), args))),
         _ => Err(Stop::Syntax),
     }
 }

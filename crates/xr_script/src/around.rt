@@ -17,21 +17,19 @@ pub fn enter(alloc: Global, seat: Seat, bracket: Bracket) -> Result<Around, Allo
             stack.push(Frame { bracket, wait })?;
             Ok(Around { base, stack })
         }
-        Seat::Alone => Ok(Around {
-            base: Base::Inside(bracket),
-            stack: Vec::new(alloc),
-        }),
+        Seat::Alone => outermost(alloc, Base::Inside(bracket)),
     }
 }
 
 /// Around the expression that a statement begins with.
-pub fn outermost(alloc: Global, base: Base) -> Around
-    ensures { around_of result ≡ base_of base }
+pub fn outermost(alloc: Global, base: Base) -> Result<Around, AllocError>
+    ensures { IfOk result (λ u. around_of u ≡ base_of base) }
 {
-    Around {
+    let base = Box::new(alloc, base)?;
+    Ok(Around {
         base,
         stack: Vec::new(alloc),
-    }
+    })
 }
 
 /// No script goes on here.

@@ -13,11 +13,15 @@ use xr_tree::{call, method};
 use xr_types::TextBytes;
 
 /// The call of `to_netcdf`.
-pub fn write_call(alloc: Global, receiver: Expr, args: Vec<Argument>) -> Result<Expr, AllocError>
-    ensures { IfOk result (λ e. tree_of e ≡ a_method (tree_of receiver) (codes "to_netcdf") (all_arguments args.items)) }
+pub fn write_call(
+    alloc: Global,
+    receiver: Box<Expr>,
+    args: Vec<Argument>,
+) -> Result<Expr, AllocError>
+    ensures { IfOk result (λ e. tree_of e ≡ a_method (tree_of receiver.value) (codes "to_netcdf") (all_arguments args.items)) }
 {
     let name = TextBytes::from_str(alloc, "to_netcdf")?;
-    method(alloc, receiver, name, args)
+    Ok(method(receiver, name, args))
 }
 
 /// The call of a head with its arguments.
@@ -26,7 +30,7 @@ fn finish_call(alloc: Global, head: Head, args: Vec<Argument>) -> Result<Expr, A
 {
     match head {
         Head::Func(name) => Ok(call(name, args)),
-        Head::Of(a, name) => method(alloc, a, name, args),
+        Head::Of(a, name) => Ok(method(a, name, args)),
         Head::Write(a) => write_call(alloc, a, args),
         Head::Align(_) => Ok(call(TextBytes::from_str(alloc, "align")?, args)),
     }

@@ -236,6 +236,6 @@ pub fn close(alloc: Global, around: Around, e: Expr, token: Terminal) -> Result<
             let outer = Seat::In(wait, Around { base, stack });
             close_bracket(alloc, bracket, outer, e, token)
         }
-        None => close_base(alloc, base, e, token),
+        None => close_base(alloc, Box::into_inner(base), e, token),
     }
 }

@@ -23,7 +23,7 @@ pub fn atom(alloc: Global, seat: Seat, token: Terminal) -> Result<Next, Stop>
         Terminal::Literal(c) => Ok(Next::Go(State::At(Place::Have(constant(c)), seat))),
         Terminal::Open => {
             let around = enter(alloc, seat, Bracket::Round)?;
-            Ok(Next::Go(State::Need(nothing(alloc), around)))
+            Ok(Next::Go(State::Need(nothing(), around)))
         }
         Terminal::Left => Ok(Next::Go(State::At(Place::AtItem(Vec::new(alloc)), seat))),
         Terminal::LeftBrace => Ok(Next::Go(State::At(Place::AtEntry(Vec::new(alloc)), seat))),
@@ -38,7 +38,7 @@ pub fn operand(alloc: Global, wait: Wait, around: Around, token: Terminal) -> Re
     match token {
         Terminal::Name(name) => Ok(Next::Go(State::Fresh(name, wait, around))),
         Terminal::Minus => Ok(Next::Go(State::Signed(wait, around))),
-        Terminal::Tilde => match with_sign(wait, OpKind::Invert) {
+        Terminal::Tilde => match with_sign(alloc, wait, OpKind::Invert) {
             Ok(wait) => Ok(Next::Go(State::Need(wait, around))),
             Err(_) => {
                 drop(around);
@@ -59,7 +59,7 @@ pub fn operand_inside(
     ensures { Follows result (operand_of fresh (inside bracket seat) (terminal token)) }
 {
     let around = enter(alloc, seat, bracket)?;
-    operand(alloc, nothing(alloc), around, token)
+    operand(alloc, nothing(), around, token)
 }
 
 /// The first token of a statement.

@@ -16,7 +16,7 @@ use crate::terminal::Terminal;
 use crate::wait::nothing;
 use std::alloc::Global;
 use xr_defs::{Argument, Expr};
-use xr_tree::{has_key, has_name, index, list, plain_only, table};
+use xr_tree::{boxed, has_key, has_name, index, list, plain_only, table};
 use xr_types::{Name, TextBytes};
 
 fn dotted(e: Expr, seat: Seat, token: Terminal) -> Result<Next, Stop>
@@ -29,8 +29,8 @@ fn dotted(e: Expr, seat: Seat, token: Terminal) -> Result<Next, Stop>
 }
 
 /// The head of a call of a method; `to_netcdf` is one that may end a statement.
-pub fn asked_head(e: Expr, name: Name, seat: &Seat) -> Head
-    ensures head { head_of result ≡ Of (tree_of e) name }
+pub fn asked_head(e: Box<Expr>, name: Name, seat: &Seat) -> Head
+    ensures head { head_of result ≡ Of (tree_of e.value) name }
     ensures pend { pend_for result seat.now ≡ asks name (pend_of seat.now) }
     ensures around { around_for result seat.now ≡ seat_around seat.now }
 {
@@ -52,7 +52,7 @@ fn asked(alloc: Global, e: Expr, name: Name, seat: Seat, token: Terminal) -> Res
 {
     match token {
         Terminal::Open => {
-            let head = asked_head(e, name, &seat);
+            let head = asked_head(boxed(alloc, e)?, name, &seat);
             Ok(Next::Go(State::At(Place::AtArg(head, Vec::new(alloc)), seat)))
         }
         _ => refused(seat),
@@ -129,7 +129,7 @@ fn at_key(
     match token {
         Terminal::Colon => {
             let around = enter(alloc, seat, Bracket::Entry(entries, key))?;
-            Ok(Next::Go(State::Need(nothing(alloc), around)))
+            Ok(Next::Go(State::Need(nothing(), around)))
         }
         _ => refused(seat),
     }
@@ -196,7 +196,7 @@ fn name_value(
         refused(seat)
     } else {
         let around = enter(alloc, seat, Bracket::Named(head, args, name))?;
-        Ok(Next::Go(State::Need(nothing(alloc), around)))
+        Ok(Next::Go(State::Need(nothing(), around)))
     }
 }
 
@@ -214,7 +214,7 @@ fn name_call(
     if plain_only(&args) {
         let around = enter(alloc, seat, Bracket::Plain(head, args))?;
         let call = Place::AtArg(Head::Func(name), Vec::new(alloc));
-        Ok(Next::Go(State::At(call, Seat::In(nothing(alloc), around))))
+        Ok(Next::Go(State::At(call, Seat::In(nothing(), around))))
     } else {
         drop(head);
         refused(seat)

@@ -16,21 +16,24 @@ pub struct Levels {
     pub product: Slot,
 }
 
-/// What waits for an operand: a comparison, operators, and signs, the innermost last.
+/// A comparison, operators and signs, the innermost last, that wait for an operand.
 #[derive(Drop)]
-pub struct Wait {
+pub struct Waiting {
     pub compare: Slot,
     pub levels: Levels,
     pub signs: Vec<OpKind>,
 }
+
+/// What waits for an operand. Most operands are all that a bracket holds, so nothing is kept where nothing waits.
+pub type Wait = Option<Box<Waiting>>;
 
 /// What is called: a function, a method of a receiver, `to_netcdf` of a receiver as a statement, or `align` for
 /// several names.
 #[derive(Drop)]
 pub enum Head {
     Func(Name),
-    Of(Expr, Name),
-    Write(Expr),
+    Of(Box<Expr>, Name),
+    Write(Box<Expr>),
     Align(Items<Name>),
 }
 
@@ -64,7 +67,7 @@ pub enum Base {
 /// What stands around an expression, the innermost bracket last.
 #[derive(Drop)]
 pub struct Around {
-    pub base: Base,
+    pub base: Box<Base>,
     pub stack: Vec<Frame>,
 }
 
@@ -109,7 +112,7 @@ pub enum State {
     Fresh(Name, Wait, Around),
     At(Place, Seat),
     /// Behind a call of `to_netcdf` that may end the statement.
-    Wrote(Expr, Vec<Argument>),
+    Wrote(Box<Expr>, Vec<Argument>),
     /// Behind such a call and a dot, the name of a method, `[` or the text of an index.
     WroteDotted(Expr),
     WroteAsked(Expr, Name),

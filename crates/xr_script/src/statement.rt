@@ -27,8 +27,8 @@ pub fn named(alloc: Global, name: Name, token: Terminal) -> Result<Next, Stop>
 {
     match token {
         Terminal::Is => {
-            let around = outermost(alloc, Base::Assigning(name));
-            Ok(Next::Go(State::Need(nothing(alloc), around)))
+            let around = outermost(alloc, Base::Assigning(name))?;
+            Ok(Next::Go(State::Need(nothing(), around)))
         }
         Terminal::Comma => {
             let mut names = Items::new(alloc);
@@ -80,8 +80,8 @@ pub fn named_index(alloc: Global, name: Name, key: TextBytes, token: Terminal) -
 {
     match token {
         Terminal::Is => {
-            let around = outermost(alloc, Base::Placing(name, key));
-            Ok(Next::Go(State::Need(nothing(alloc), around)))
+            let around = outermost(alloc, Base::Placing(name, key))?;
+            Ok(Next::Go(State::Need(nothing(), around)))
         }
         token => indexed(alloc, name, key, token),
     }
@@ -150,8 +150,8 @@ pub fn prints(alloc: Global, token: Terminal) -> Result<Next, Stop>
 {
     match token {
         Terminal::Open => {
-            let around = outermost(alloc, Base::Printing);
-            Ok(Next::Go(State::Need(nothing(alloc), around)))
+            let around = outermost(alloc, Base::Printing)?;
+            Ok(Next::Go(State::Need(nothing(), around)))
         }
         _ => Err(Stop::Syntax),
     }
@@ -181,7 +181,7 @@ fn below(n: i128, wait: Wait, around: Around) -> Result<Next, Stop>
 fn negated(alloc: Global, wait: Wait, around: Around, token: Terminal) -> Result<Next, Stop>
     ensures { Follows result (operand_of (one_more Negate (wait_of wait)) (around_of around) (terminal token)) }
 {
-    match with_sign(wait, OpKind::Negate) {
+    match with_sign(alloc, wait, OpKind::Negate) {
         Ok(wait) => operand(alloc, wait, around, token),
         Err(_) => {
             drop(around);

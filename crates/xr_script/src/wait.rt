@@ -4,9 +4,9 @@ ghost use Rattle.xr_defs.specs.Syntax.{tree_of};
 ghost use Rattle.xr_grammar.specs.Machine.{fresh, empty, joined, signed, folded, put, whole as whole_of, with_sign as one_more, join as join_of, compare as compare_of, Need, go, Around as m_around};
 ghost use Rattle.xr_defs.specs.Grammar.{unary, term, sum as a_sum, bitand, bitxor, bitor};
 ghost use Rattle.xr_script.specs.Terminals.{rank_of};
-ghost use Rattle.xr_script.specs.States.{slot_of, levels_of, wait_of};
+ghost use Rattle.xr_script.specs.States.{slot_of, levels_of, waiting_of, wait_of};
 
-use crate::state::{Levels, Slot, Stop, Wait};
+use crate::state::{Levels, Slot, Stop, Wait, Waiting};
 use crate::terminal::Level;
 use std::alloc::{AllocError, Global};
 use xr_defs::{Expr, OpKind};
@@ -25,23 +25,41 @@ fn no_levels() -> Levels
 }
 
 /// Nothing waits.
-pub fn nothing(alloc: Global) -> Wait
+pub fn nothing() -> Wait
     ensures { wait_of result ≡ fresh }
 {
-    Wait {
-        compare: None,
-        levels: no_levels(),
-        signs: Vec::new(alloc),
+    None
+}
+
+/// What waits, to be changed.
+fn opened(alloc: Global, wait: Wait) -> Waiting
+    ensures { waiting_of result ≡ wait_of wait }
+{
+    match wait {
+        Some(waiting) => Box::into_inner(waiting),
+        None => Waiting {
+            compare: None,
+            levels: no_levels(),
+            signs: Vec::new(alloc),
+        },
     }
+}
+
+/// What waits, with what was changed.
+fn kept(alloc: Global, waiting: Waiting) -> Result<Wait, AllocError>
+    ensures { IfOk result (λ w. wait_of w ≡ waiting_of waiting) }
+{
+    Ok(Some(Box::new(alloc, waiting)?))
 }
 
 /// One sign more.
 #[tactic(auto, using(crate::proofs::Steps::reverse_more))]
-pub fn with_sign(mut wait: Wait, op: OpKind) -> Result<Wait, AllocError>
+pub fn with_sign(alloc: Global, wait: Wait, op: OpKind) -> Result<Wait, AllocError>
     ensures { IfOk result (λ w. wait_of w ≡ one_more op (wait_of wait)) }
 {
-    wait.signs.push(op)?;
-    Ok(wait)
+    let mut waiting = opened(alloc, wait);
+    waiting.signs.push(op)?;
+    kept(alloc, waiting)
 }
 
 /// An operand with the signs before it.
@@ -91,19 +109,30 @@ fn with_levels(alloc: Global, levels: Levels, e: Expr) -> Result<Expr, AllocErro
     joined_to(alloc, bit_or, e)
 }
 
+/// An operand with all that waits for it.
+#[tactic(auto, unfolding(xr_grammar::specs::Machine::whole))]
+fn with_waiting(alloc: Global, waiting: Waiting, e: Expr) -> Result<Expr, AllocError>
+    ensures { IfOk result (λ r. tree_of r ≡ whole_of (waiting_of waiting) (tree_of e)) }
+{
+    let Waiting {
+        compare,
+        levels,
+        signs,
+    } = waiting;
+    let e = with_signs(alloc, signs, e)?;
+    let e = with_levels(alloc, levels, e)?;
+    joined_to(alloc, compare, e)
+}
+
 /// The expression that ends with an operand.
 #[tactic(auto, unfolding(xr_grammar::specs::Machine::whole))]
 pub fn finish(alloc: Global, wait: Wait, e: Expr) -> Result<Expr, AllocError>
     ensures { IfOk result (λ r. tree_of r ≡ whole_of (wait_of wait) (tree_of e)) }
 {
-    let Wait {
-        compare,
-        levels,
-        signs,
-    } = wait;
-    let e = with_signs(alloc, signs, e)?;
-    let e = with_levels(alloc, levels, e)?;
-    joined_to(alloc, compare, e)
+    match wait {
+        Some(waiting) => with_waiting(alloc, Box::into_inner(waiting), e),
+        None => Ok(e),
+    }
 }
 
 fn put_product(alloc: Global, levels: Levels, e: Expr, op: OpKind) -> Result<Levels, AllocError>
@@ -246,18 +275,19 @@ pub fn join(
 ) -> Result<Wait, AllocError>
     ensures { IfOk result (λ w. (u : m_around) → join_of (wait_of wait) u (tree_of e) (rank_of level) op ≡ go (Need (wait_of w) u)) }
 {
-    let Wait {
+    let Waiting {
         compare,
         levels,
         signs,
-    } = wait;
+    } = opened(alloc, wait);
     let e = with_signs(alloc, signs, e)?;
     let levels = put_at(alloc, levels, e, level, op)?;
-    Ok(Wait {
+    let waiting = Waiting {
         compare,
         levels,
         signs: Vec::new(alloc),
-    })
+    };
+    kept(alloc, waiting)
 }
 
 /// An operand as the left side of a comparison, of which an expression has one at most.
@@ -266,21 +296,22 @@ pub fn compare(alloc: Global, wait: Wait, e: Expr, op: OpKind) -> Result<Wait, S
     ensures ok { IfOk result (λ w. (u : m_around) → compare_of (wait_of wait) u (tree_of e) op ≡ go (Need (wait_of w) u)) }
     ensures err { result ≡ Err Stop.Syntax → (u : m_around) → compare_of (wait_of wait) u (tree_of e) op ≡ None }
 {
-    let Wait {
+    let Waiting {
         compare,
         levels,
         signs,
-    } = wait;
+    } = opened(alloc, wait);
     match compare {
         Some(_) => Err(Stop::Syntax),
         None => {
             let e = with_signs(alloc, signs, e)?;
             let e = with_levels(alloc, levels, e)?;
-            Ok(Wait {
+            let waiting = Waiting {
                 compare: left_side(alloc, op, e)?,
                 levels: no_levels(),
                 signs: Vec::new(alloc),
-            })
+            };
+            Ok(kept(alloc, waiting)?)
         }
     }
 }

@@ -10,7 +10,7 @@ use crate::state::{Next, Place, Seat, State, Stop};
 use crate::terminal::Terminal;
 use std::alloc::Global;
 use xr_defs::Expr;
-use xr_tree::index;
+use xr_tree::{boxed, index};
 use xr_types::{Name, TextBytes};
 
 pub fn wrote_dotted(e: Expr, token: Terminal) -> Result<Next, Stop>
@@ -29,7 +29,7 @@ pub fn wrote_asked(alloc: Global, e: Expr, name: Name, token: Terminal) -> Resul
     match token {
         Terminal::Open => {
             let seat = Seat::Alone;
-            let head = asked_head(e, name, &seat);
+            let head = asked_head(boxed(alloc, e)?, name, &seat);
             Ok(Next::Go(State::At(Place::AtArg(head, Vec::new(alloc)), seat)))
         }
         _ => Err(Stop::Syntax),

@@ -35,6 +35,13 @@ pub fn constant(c: Constant) -> Expr
     Expr::Constant(c)
 }
 
+/// An expression where a tree holds it.
+pub fn boxed(alloc: Global, e: Expr) -> Result<Box<Expr>, AllocError>
+    ensures { IfOk result (λ b. b.value ≡ e) }
+{
+    Ok(Box::new(alloc, e)?)
+}
+
 #[tactic(auto, using(xr_defs::proofs::Trees::tree_out))]
 pub fn unary(alloc: Global, op: OpKind, a: Expr) -> Result<Expr, AllocError>
     ensures { IfOk result (λ e. tree_of e ≡ a_unary op (tree_of a)) }
@@ -57,10 +64,10 @@ pub fn call(name: Name, args: Vec<Argument>) -> Expr
 }
 
 #[tactic(auto, using(xr_defs::proofs::Trees::tree_out), unfolding(xr_defs::specs::Syntax::all_arguments))]
-pub fn method(alloc: Global, a: Expr, name: Name, args: Vec<Argument>) -> Result<Expr, AllocError>
-    ensures { IfOk result (λ e. tree_of e ≡ a_method (tree_of a) name (all_arguments args.items)) }
+pub fn method(a: Box<Expr>, name: Name, args: Vec<Argument>) -> Expr
+    ensures { tree_of result ≡ a_method (tree_of a.value) name (all_arguments args.items) }
 {
-    Ok(Expr::Method(Box::new(alloc, a)?, name, args))
+    Expr::Method(a, name, args)
 }
 
 #[tactic(auto, using(xr_defs::proofs::Trees::tree_out))]

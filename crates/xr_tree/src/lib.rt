@@ -5,7 +5,7 @@ mod build;
 mod keys;
 
 pub use build::{
-    binary, call, constant, index, list, method, push_entry, push_item, push_named, push_plain,
-    table, text, unary, variable, whole,
+    binary, boxed, call, constant, index, list, method, push_entry, push_item, push_named,
+    push_plain, table, text, unary, variable, whole,
 };
 pub use keys::{has_key, has_name, plain_only};
