@@ -1,14 +1,15 @@
 #!/usr/bin/env python3
-"""Measures the proved program beside numpy and xarray, in one run, and prints ratios.
+"""Measures the proved program beside numpy, xarray and NCO, in one run, and prints ratios.
 
     bench/run.py [PROGRAM] [--times N]
 
 Each job is timed N times (five by default), ours and the peers' in turn, and the least of each counts. `in process` is
 measured inside Python, after its imports; `whole` is the whole process. A ratio above 1 says that the program is that
 many times faster than the peer. Peers that aren't installed are left out, and the output says so.
-Debian has them as python3-numpy and python3-xarray.
+Debian has them as python3-numpy, python3-xarray and nco.
 """
 import os
+import shutil
 import subprocess
 import sys
 import tempfile
@@ -26,18 +27,34 @@ def word(n):
     return n.to_bytes(4, "big")
 
 
-def write_ints(path, count):
-    """A classic file with one variable `v` of `count` ints over `x`, made without any library."""
-    head = b"CDF\x01" + word(0) + word(10) + word(1) + padded_name("x") + word(count) + word(0) * 2
-    head += word(11) + word(1) + padded_name("v") + word(1) + word(0) + word(0) * 2 + word(4) + word(4 * count)
+def write_file(path, sizes, attrs, kind, width):
+    """A classic file with one variable `v` over dimensions of these sizes, made without any library. Its values repeat."""
+    head = b"CDF\x01" + word(0) + word(10) + word(len(sizes))
+    head += b"".join(padded_name(name) + word(size) for name, size in sizes.items())
+    head += word(0) * 2 + word(11) + word(1) + padded_name("v") + word(len(sizes)) + b"".join(map(word, range(len(sizes))))
+    head += (word(12) + word(len(attrs)) + b"".join(attrs) if attrs else word(0) * 2) + word(kind)
+    count = 1
+    for size in sizes.values():
+        count *= size
+    left = width * count
+    head += word(left)
     head += word(len(head) + 4)
-    block = b"".join(((i * 31) % 1009 - 504).to_bytes(4, "big", signed=True) for i in range(1009 * 64))
+    block = b"".join(((i * 31) % 1009 - 504).to_bytes(width, "big", signed=True) for i in range(1009 * 64))
     with open(path, "wb") as f:
         f.write(head)
-        left = 4 * count
         while left > 0:
             f.write(block[:left])
             left -= min(left, len(block))
+
+
+def ints(count):
+    return lambda path: write_file(path, {"x": count}, [], 4, 4)
+
+
+def cube(path):
+    """2^25 shorts over time, y and x, of which -504 stands for a missing cell."""
+    fill = padded_name("_FillValue") + word(3) + word(1) + (-504).to_bytes(2, "big", signed=True) + bytes(2)
+    write_file(path, {"time": 512, "y": 256, "x": 256}, [fill], 3, 2)
 
 
 def timed(command, folder):
@@ -64,10 +81,24 @@ def has(module):
 
 TIMED = "import time\n{before}\nstart = time.perf_counter()\n{code}\nprint(time.perf_counter() - start)\n"
 
+
+def sliced(name, masked, unmasked):
+    """A cube that is opened, sliced along its first dimension and written; with these words behind the name, ours and xarray's."""
+    peer = f'import xarray\nxarray.open_dataset("v.nc"{unmasked}).isel(time=slice(128, 384)).to_netcdf("x.nc", format="NETCDF3_CLASSIC")'
+    return {
+        "name": name,
+        "file": cube,
+        "script": f'ds = open_dataset("v.nc"{masked})\nds.isel(time=slice(128, 384)).to_netcdf("w.nc")\n',
+        "peers": [],
+        "whole": [("xarray, whole", "xarray", peer)],
+        "tools": [("NCO, whole", ["ncks", "-O", "-d", "time,128,383", "v.nc", "n.nc"])],
+    }
+
+
 JOBS = [
     {
         "name": "open and sum 2^25 ints",
-        "cells": 1 << 25,
+        "file": ints(1 << 25),
         "script": 'print(open_dataset("v.nc")["v"].sum())\n',
         "peers": [
             ("numpy, in process", "numpy", TIMED.format(
@@ -78,7 +109,7 @@ JOBS = [
     },
     {
         "name": "open and write 2^25 ints",
-        "cells": 1 << 25,
+        "file": ints(1 << 25),
         "script": 'o = open_dataset("v.nc")["v"]\no.to_netcdf("w.nc")\n',
         "peers": [
             ("xarray with scipy, in process", "xarray, scipy", TIMED.format(
@@ -89,7 +120,7 @@ JOBS = [
     },
     {
         "name": "print 10 million cells",
-        "cells": 10_000_000,
+        "file": ints(10_000_000),
         "script": 'o = open_dataset("v.nc")["v"]\nprint(o)\n',
         "peers": [
             ("python, ' '.join, in process", "numpy", TIMED.format(
@@ -98,12 +129,14 @@ JOBS = [
         ],
         "whole": [],
     },
+    sliced("open, slice and write a cube of 2^25 shorts", "", ", mask_and_scale=False"),
+    sliced("the same with missing cells", ", mask=True", ""),
 ]
 
 
 def measure(job, program, times):
     with tempfile.TemporaryDirectory() as folder:
-        write_ints(os.path.join(folder, "v.nc"), job["cells"])
+        job["file"](os.path.join(folder, "v.nc"))
         with open(os.path.join(folder, "s.xrs"), "w") as f:
             f.write(job["script"])
         ours, memory, peers = [], 0.0, {}
@@ -117,12 +150,16 @@ def measure(job, program, times):
             for name, needs, code in job["whole"]:
                 if has(needs):
                     peers.setdefault(name, []).append(timed([PYTHON, "-c", code], folder)[0])
+            for name, command in job.get("tools", []):
+                if shutil.which(command[0]):
+                    peers.setdefault(name, []).append(timed(command, folder)[0])
         size = os.path.getsize(os.path.join(folder, "v.nc")) / (1 << 20)
     least = min(ours)
     print(f"{job['name']}: {least:.3f} s, peak {memory:.0f} MiB over a file of {size:.0f} MiB")
     for name, seconds in peers.items():
         print(f"    {name}: {min(seconds):.3f} s, ratio {min(seconds) / least:.2f}")
-    for name, needs, _ in job["peers"] + job["whole"]:
+    wanted = [(name, needs) for name, needs, _ in job["peers"] + job["whole"]]
+    for name, needs in wanted + [(name, command[0]) for name, command in job.get("tools", [])]:
         if name not in peers:
             print(f"    {name}: skipped, {needs} isn't installed")
 

@@ -20,7 +20,7 @@ TOP = os.path.join(os.path.dirname(os.path.abspath(__file__)), "..")
 
 def run(program, script):
     with tempfile.TemporaryDirectory() as folder:
-        for name in ("a.nc", "labels.nc"):
+        for name in ("a.nc", "labels.nc", "t.nc"):
             shutil.copy(os.path.join(TOP, "examples", name), folder)
         with open(os.path.join(folder, "s.xrs"), "w") as f:
             f.write(script)

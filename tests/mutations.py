@@ -3,11 +3,11 @@
 
     mutations.py PROGRAM [--count N] [--seed S] [--keep FOLDER]
 
-Of each changed file (10,000 by default) the plain reader of classic.py says what it is. A file that spells nothing has
-to be refused with its first fault, at its byte. Of one that is a file up to four variables of whole numbers are printed,
-written and read again: the values have to be its own, and both texts the same. No run may end by a signal, take more
-than 5 seconds, or more memory than twice the file and 64 MiB. What the program answers with NotBuilt is skipped and
-counted. The same seed changes the same files in the same way; with --keep the files that were wrong stay in FOLDER.
+Of each changed file (10,000 by default) the plain readers of classic.py and datasets.py say what it is. A file that spells
+nothing has to be refused with its first fault, at its byte. Another is opened as a dataset, which is printed with up to four of its
+parts, written and read again: the texts have to be those of the plain reader, and the same the second time. No run may end by a
+signal, take more than 5 seconds, or more memory than twice the file and 64 MiB. The same seed changes the same files in the same
+way; with --keep the files that were wrong stay in FOLDER.
 """
 import argparse
 import os
@@ -112,7 +112,7 @@ def main():
         for number in range(given.count):
             name, data = mutation(random_, files)
             before = len(driver.wrong)
-            driver.open_file(f"mutation {number} of {name}", data)
+            driver.open_file(f"mutation {number} of {name}", data, mask=random_.random() < 0.7)
             if given.keep and len(driver.wrong) > before:
                 with open(os.path.join(HOME, given.keep, f"{number}.nc"), "wb") as f:
                     f.write(data)

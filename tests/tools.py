@@ -23,6 +23,10 @@ o.isel(x=slice(1, 3)).to_netcdf("part.nc")
 o.sum().to_netcdf("sum.nc")
 p = open_dataset("labels.nc")["v"]
 p.isel(x=slice(None, None, -2)).to_netcdf("turned.nc")
+open_dataset("labels.nc").isel(x=[2, 0]).to_netcdf("set.nc", format="NETCDF3_64BIT")
+r = DataArray([[1, 2], [3, 4]], dims=["t", "x"], name="v", dtype="int16").assign_attrs(units="m", level=2)
+r.to_netcdf("records.nc", unlimited_dims="t")
+DataArray([True, False], dims=["x"], name="b").to_netcdf("truths.nc")
 """
 
 # The numbers of each variable of each file.
@@ -31,6 +35,9 @@ WRITTEN = {
     "part.nc": {"v": [2, 3]},
     "sum.nc": {"v": [6]},
     "turned.nc": {"x": [3, 1], "v": [30, 10]},
+    "set.nc": {"x": [3, 1], "v": [30, 10]},
+    "records.nc": {"v": [1, 2, 3, 4]},
+    "truths.nc": {"b": [1, 0]},
 }
 
 # How a library of Python gives a variable's numbers.
@@ -46,7 +53,7 @@ def by_ncdump(path, names):
     if ran.returncode != 0:
         return None
     values = ran.stdout[ran.stdout.index("data:"):]
-    found = {name: re.search(rf"\b{name} = ([^;]*);", values) for name in names}
+    found = {name: re.search(rf"\b{name} =\s*([^;]*);", values) for name in names}
     return {name: [int(n) for n in it.group(1).split(",")] for name, it in found.items() if it}
 
 

@@ -1,4 +1,1 @@
-pub mod Choices
-pub mod Unbounded
-pub mod Labels
-pub mod Selections
+pub mod Answers

@@ -1,17 +1,17 @@
-//! The functions and methods of scripts over arrays and datasets.
+//! The functions and methods of scripts, found by their names.
 #![tactic(auto)]
 
-mod arguments;
-mod array_at;
-mod axes;
-mod choice;
-mod coords;
-mod isel;
-mod labels;
-mod limits;
-mod points;
-mod selectors;
-mod slices;
+mod frames;
+mod function;
+mod held;
+mod method;
+mod open;
+mod part;
+mod slice;
+mod write;
 
-pub use choice::{Choice, Positions, Selector, choice_of};
-pub use isel::isel_array;
+pub use function::call_function;
+pub use method::call_method;
+pub use open::{OpenRequest, open_request};
+pub use part::pick;
+pub use write::{WriteRequest, write_request};

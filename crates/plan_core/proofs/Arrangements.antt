@@ -19,7 +19,7 @@ use Rattle.plan_core.proofs.Tabs.{tab_same, tab-map, tab-zip, tab-length, place_
 
 -- ---- numbers
 
-wrapped_in : (t : DType) (n : ℤ) → InRange t n → wrap_to t n ≡ n
+pub wrapped_in : (t : DType) (n : ℤ) → InRange t n → wrap_to t n ≡ n
 wrapped_in t n h = sym (wrapped_only t n n (record { in_range = h; turns = pos 0; congruent = omega (arith, ints) }))
 
 truth_is_char : (n : ℤ) → InRange kinds.Bool n → InRange kinds.Char n
@@ -58,7 +58,7 @@ kind_arranged s t point n (Int16 v) = refl
 kind_arranged s t point n (Int32 v) = refl
 kind_arranged s t point n (Int64 v) = refl
 
-zero_in : (t : DType) → InRange t (pos 0)
+pub zero_in : (t : DType) → InRange t (pos 0)
 zero_in kinds.Bool = (omega (arith, ints), omega (arith, ints))
 zero_in kinds.Char = (omega (arith, ints), omega (arith, ints))
 zero_in kinds.Int8 = (omega (arith, ints), omega (arith, ints))
@@ -95,7 +95,7 @@ abbrev look : List ℕ → List (Option ℤ) → Option ℤ → Option (List ℕ
 look s cells fill None = fill
 look s cells fill (Some q) = get_or cells (place s q) None
 
-masked_hole : (fill : Option ℤ) → cell (filling fill, gap fill) ≡ fill
+pub masked_hole : (fill : Option ℤ) → cell (filling fill, gap fill) ≡ fill
 masked_hole None = refl
 masked_hole (Some n) = refl
 

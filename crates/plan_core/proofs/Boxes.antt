@@ -1,12 +1,12 @@
 -- Boxes read by the strides of their list, and axes that stay before those that are folded.
-use Rattle.std.proofs.Common.{◌≡◌, ◌<◌, ◌≤◌, ◌+◌, ◌-◌, ◌*◌, ◌^◌, ℕ, zero, suc, List, [], ◌∷◌, ◌++◌, length, take, drop, get_or, min, Option, refl, sym, ap, subst, ◌∙◌, arith, append_assoc}
-use Rattle.std.proofs.lemmas.List.{nil_from_length}
+use Rattle.std.proofs.Common.{◌≡◌, ◌≢◌, ◌<◌, ◌≤◌, ◌+◌, ◌-◌, ◌*◌, ◌^◌, ℕ, zero, suc, List, [], ◌∷◌, ◌++◌, length, take, drop, get_or, min, Option, refl, sym, ap, subst, ◌∙◌, arith, append_assoc, length-append, drop-cons, add-one}
+use Rattle.std.proofs.lemmas.List.{append-nil, drop_all, nil_from_length}
 use Rattle.xr_defs.specs.declared.node.Feed.{Feed}
 use Rattle.xr_defs.specs.declared.node.Feed.TheVariants as feed
 use Rattle.xr_defs.specs.Points.{size, place, IsPoint}
 use Rattle.xr_defs.specs.Nodes.{kept}
 use Rattle.plan_core.specs.Arrangements.{shown, arranged, LieInside}
-use Rattle.plan_core.specs.Strides.{reached, strided, Reaches, IsBox, dot, own_strides, spread, woven, sorted_sizes, sorted_point}
+use Rattle.plan_core.specs.Strides.{reached, strided, Reaches, IsBox, dot, own_strides, spread, woven, sorted_sizes, sorted_point, selected, selected_one, IsSorting}
 use Rattle.plan_core.proofs.Tabs.{tab_same, tab-length, place_below}
 use Rattle.plan_core.proofs.Takes.{positive, factor}
 use Rattle.plan_core.proofs.Strides.{at_axis, first_point, is_first}
@@ -137,3 +137,49 @@ none_arranged s t sizes point count hole xs is_sizes is none =
     let e = is ∙ ap (λ k. min (size k) (2 ^ 64 - 1)) is_sizes in
     let z : size t ≡ 0 = omega arith in
     nil_from_length (arranged s t point hole xs) (tab-length t (λ p. shown s xs hole (point p)) ∙ z)
+
+-- ---- the loop over the feeds
+
+selected_step : (which f : Feed) (fs : List Feed) (n : ℕ) (ns : List ℕ) → selected which (f ∷ fs) (n ∷ ns) ≡ selected_one which f n ++ selected which fs ns
+selected_step feed.Keep feed.Keep fs n ns = refl
+selected_step feed.Keep feed.All fs n ns = refl
+selected_step feed.All feed.Keep fs n ns = refl
+selected_step feed.All feed.All fs n ns = refl
+
+selected_none : (which : Feed) (ns : List ℕ) → selected which [] ns ≡ []
+selected_none feed.Keep ns = refl
+selected_none feed.All ns = refl
+
+pub selected_more : (which f : Feed) (fs : List Feed) (ns out more base : List ℕ) (i : ℕ) → i < length fs → i < length ns → f ≡ get_or fs i f → more ≡ out ++ selected_one which f (get_or ns i 0) → out ++ selected which (drop i fs) (drop i ns) ≡ base
+    → more ++ selected which (drop (i + 1) fs) (drop (i + 1) ns) ≡ base
+selected_more which f fs ns out more base i lf ln is_f is_more so_far =
+    let n = get_or ns i 0 in
+    let rest = selected which (drop (i + 1) fs) (drop (i + 1) ns) in
+    let e : drop i fs ≡ f ∷ drop (i + 1) fs = drop-cons fs i f lf ∙ ap (λ k. k ∷ drop (suc i) fs) (sym is_f) ∙ ap (λ k. f ∷ drop k fs) (sym (add-one i)) in
+    ap (λ t. t ++ rest) is_more ∙ append_assoc out (selected_one which f n) rest ∙ ap (λ t. out ++ t) (sym (selected_step which f (drop (i + 1) fs) n (drop (i + 1) ns)) ∙ ap (λ k. selected which (f ∷ drop (i + 1) fs) k) (sym (at_axis ns i ln)) ∙ ap (λ k. selected which k (drop i ns)) (sym e)) ∙ so_far
+
+pub selected_done : (which : Feed) (fs : List Feed) (ns out base : List ℕ) (i : ℕ) → length fs ≤ i → out ++ selected which (drop i fs) (drop i ns) ≡ base → out ≡ base
+selected_done which fs ns out base i le so_far = sym (append-nil out) ∙ ap (λ t. out ++ t) (sym (ap (λ k. selected which k (drop i ns)) (drop_all i fs le) ∙ selected_none which (drop i ns))) ∙ so_far
+
+-- ---- what the code has at hand
+
+pub sorting_some : (fs : List Feed) (s sizes : List ℕ) (count : ℕ) → IsSorting fs s → sizes ≡ sorted_sizes fs s → count ≡ min (size sizes) (2 ^ 64 - 1) → count ≢ 0 → 0 < size s
+sorting_some fs s sizes count is is_sizes is_count some =
+    first_inside s (sorted_sizes fs s) (λ r. woven fs (take (length (kept fs s)) r) (drop (length (kept fs s)) r)) count (sorting_inside fs s is.each) (is_count ∙ ap (λ k. min (size k) (2 ^ 64 - 1)) is_sizes) (omega (arith, some))
+
+pub sorting_here : (fs : List Feed) (s own sizes strides : List ℕ) (len : ℕ) → IsSorting fs s → sizes ≡ sorted_sizes fs s → own ≡ own_strides s → strides ≡ sorted_sizes fs own → len ≡ size s → Reaches sizes strides 0 len
+sorting_here fs s own sizes strides len is is_sizes is_own is_strides is_len =
+    subst (λ (k : List ℕ). Reaches k strides 0 len) (sym is_sizes) (subst (λ (k : List ℕ). Reaches (sorted_sizes fs s) k 0 len) (sym (is_strides ∙ ap (sorted_sizes fs) is_own)) (subst (λ k. Reaches (sorted_sizes fs s) (sorted_sizes fs (own_strides s)) 0 k) (sym is_len) (sorting_reaches fs s is.each)))
+
+sorted-length : (fs : List Feed) (s t : List ℕ) → length s ≡ length t → length fs ≡ length s → length (sorted_sizes fs s) ≡ length (sorted_sizes fs t)
+sorted-length fs s t e f =
+    let a = length-spread fs s f in
+    let b = length-spread fs t (f ∙ e) in
+    length-append (kept fs s) (spread fs s) ∙ a ∙ e ∙ sym b ∙ sym (length-append (kept fs t) (spread fs t))
+
+pub sorting_lengths : (fs : List Feed) (s own sizes strides : List ℕ) → IsSorting fs s → sizes ≡ sorted_sizes fs s → own ≡ own_strides s → strides ≡ sorted_sizes fs own → length strides ≡ length sizes
+sorting_lengths fs s own sizes strides is is_sizes is_own is_strides = ap length (is_strides ∙ ap (sorted_sizes fs) is_own) ∙ sym (sorted-length fs s (own_strides s) (sym (length-own s)) is.each) ∙ sym (ap length is_sizes)
+
+pub sorted_here : {X : Type 0} (fs : List Feed) (s own sizes strides : List ℕ) (other : X) (xs : List X) → IsSorting fs s → sizes ≡ sorted_sizes fs s → own ≡ own_strides s → strides ≡ sorted_sizes fs own → strided sizes strides 0 other xs ≡ arranged s (sorted_sizes fs s) (sorted_point fs s) other xs
+sorted_here fs s own sizes strides other xs is is_sizes is_own is_strides =
+    ap (λ (k : List ℕ). strided k strides 0 other xs) is_sizes ∙ ap (λ (k : List ℕ). strided (sorted_sizes fs s) k 0 other xs) (is_strides ∙ ap (sorted_sizes fs) is_own) ∙ sorted_cells fs s other xs is.each

@@ -1,13 +1,12 @@
 -- Lists one after the other, read as one along an axis.
-use Rattle.std.proofs.Common.{◌≡◌, ◌≢◌, ◌<◌, ◌≤◌, ◌+◌, ◌-◌, ◌*◌, ◌^◌, ℕ, zero, suc, Bool, true, false, cond, List, [], ◌∷◌, ◌++◌, length, map, min, take, drop, set, sum, fold, get_or, Option, Some, None, refl, sym, ap, subst, ◌∙◌, arith, append_assoc, add-one, drop-cons, ltb, ◌⊎◌, inl, inr}
-use Rattle.std.specs.Prelude.{IfSome, nat_lt, if◌then◌else◌}
+use Rattle.std.proofs.Common.{◌≡◌, ◌<◌, ◌≤◌, ◌+◌, ◌-◌, ◌*◌, ◌^◌, ℕ, zero, suc, cond, List, [], ◌∷◌, ◌++◌, length, min, take, drop, set, sum, fold, get_or, refl, sym, ap, subst, ◌∙◌, arith, append_assoc, add-one, ltb}
 use Rattle.std.specs.List.{flat_map, range_with_len}
-use Rattle.std.proofs.lemmas.Bool.{cases_lt, lt-ltb, le-ltb}
+use Rattle.std.proofs.lemmas.Bool.{lt-ltb, le-ltb}
 use Rattle.std.proofs.lemmas.Grind.{flat_map-append}
 use Rattle.std.proofs.lemmas.List.{append-nil, drop_all, nil_from_length}
-use Rattle.xr_defs.specs.Points.{size, tab, place, IsPoint}
+use Rattle.xr_defs.specs.Points.{size, tab, place}
 use Rattle.xr_defs.specs.Nodes.{along}
-use Rattle.plan_core.specs.Arrangements.{shown, arranged, LieInside}
+use Rattle.plan_core.specs.Arrangements.{shown, arranged}
 use Rattle.plan_core.specs.Joins.{joined_place, joined_point, joined_sizes, joined_row, joined_total, IsJoining}
 use Rattle.plan_core.proofs.Tabs.{flat_same, tab_same, tab_part, blocks, within, suc_times, tab-length}
 use Rattle.plan_core.proofs.Takes.{size_set, factor, positive}

@@ -10,3 +10,8 @@ pub mod Moves
 pub mod Joins
 pub mod Concats
 pub mod TakenValues
+pub mod FoldRows
+pub mod Narrowing
+pub mod Folded
+pub mod Needs
+pub mod Fitting

@@ -8,7 +8,7 @@ use Rattle.xr_defs.specs.Nodes.{IsNode, AllFit, node_value, values, values_from,
 use Rattle.xr_defs.specs.declared.node.Node.{Node}
 use Rattle.plan_core.specs.Plans.{Grows}
 
-values-append : (done : List Array) (nodes : List Node) (node : Node) → values_from done (nodes ++ node ∷ []) ≡ values_from done nodes ++ node_value (values_from done nodes) node ∷ []
+pub values-append : (done : List Array) (nodes : List Node) (node : Node) → values_from done (nodes ++ node ∷ []) ≡ values_from done nodes ++ node_value (values_from done nodes) node ∷ []
 values-append done [] node = refl
 values-append done (n ∷ nodes) node = values-append (done ++ node_value done n ∷ []) nodes node
 

@@ -2,7 +2,6 @@
 use Rattle.std.proofs.Common.{◌≡◌, ◌<◌, ℕ, ℤ, Bool, true, false, List, length, set, get_or, Option, Some, None, refl, ap}
 use Rattle.std.specs.List.{All}
 use Rattle.std.specs.Option.{option_map}
-use Rattle.xr_defs.specs.Points.{IsPoint}
 use Rattle.xr_defs.specs.Arrays.{Array}
 use Rattle.xr_defs.specs.Nodes.{IsBelow, along, with_axis, without, from_source, taken_or_picked}
 use Rattle.plan_core.specs.Arrangements.{cell_from, rearranged, LieInside}

@@ -224,6 +224,9 @@ blocks_more f out more whole here rest behind width n i lt is_here is_behind is_
     ap (λ b. more ++ each_block f width (n - (i + 1)) b) is_behind ∙ ap (λ m. m ++ each_block f width (n - (i + 1)) (drop width rest)) (is_more ∙ ap (λ h. out ++ f h) is_here)
     ∙ append_assoc out (f (take width rest)) (each_block f width (n - (i + 1)) (drop width rest)) ∙ ap (λ t. out ++ t) (sym one) ∙ so_far
 
+pub blocks_end : {X : Type 0} (f : List X → List X) (out whole rest : List X) (width n i : ℕ) → n ≤ i → out ++ each_block f width (n - i) rest ≡ whole → out ≡ whole
+blocks_end f out whole rest width n i le so_far = let k : n - i ≡ 0 = omega arith in sym (append-nil out) ∙ ap (λ m. out ++ each_block f width m rest) (sym k) ∙ so_far
+
 -- a block more lies in what is left
 pub block_left : (n i width len : ℕ) → i < n → len ≡ (n - i) * width → (width ≤ len) × (len - width ≡ (n - (i + 1)) * width)
 block_left n i width len lt is =

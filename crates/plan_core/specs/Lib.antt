@@ -5,3 +5,5 @@ pub mod Widens
 pub mod Strides
 pub mod Joins
 pub mod Concats
+pub mod Rows
+pub mod Needs

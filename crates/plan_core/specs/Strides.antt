@@ -61,6 +61,16 @@ spread (feed.Keep ∷ fs) (n ∷ ns) = spread fs ns
 spread (feed.All ∷ fs) (n ∷ ns) = n ∷ spread fs ns
 spread fs ns = []
 
+-- the sizes of the axes with which a fold does this
+abbrev pub selected : Feed → List Feed → List ℕ → List ℕ
+selected feed.Keep fs ns = kept fs ns
+selected feed.All fs ns = spread fs ns
+
+abbrev pub selected_one : Feed → Feed → ℕ → List ℕ
+selected_one feed.Keep feed.Keep n = n ∷ []
+selected_one feed.All feed.All n = n ∷ []
+selected_one which f n = []
+
 -- the point whose positions are p along the axes that stay and q along the others
 abbrev pub woven : List Feed → List ℕ → List ℕ → List ℕ
 woven (feed.Keep ∷ fs) (i ∷ p) q = i ∷ woven fs p q

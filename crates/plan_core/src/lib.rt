@@ -5,15 +5,27 @@ mod arrange;
 mod axis_take;
 mod compute;
 mod concat;
+mod eval;
+mod fold;
+mod fold_row;
+mod inputs;
 mod join;
+mod mark;
+mod numbers;
 mod plan;
 mod reorder;
 mod shapes;
+mod sort;
 mod stride;
 mod take;
+#[cfg(test)]
+mod tests;
+mod total;
 mod typed;
+mod whole;
 mod widen;
 
 pub use axis_take::taken;
 pub use compute::Compute;
 pub use plan::Plan;
+pub use whole::Whole;

@@ -10,11 +10,11 @@ use Rattle.xr_defs.specs.declared.slice.Part.TheVariants as part
 use Rattle.xr_defs.specs.Results.{◌>>=◌, unless}
 use Rattle.xr_defs.specs.Values.{DataArray}
 use Rattle.xr_defs.specs.Meanings.{Value, Values, Number, Missing, Truth, Text, Sequence, Table, Slice, NoValue, With, NoEntry, Entry, Given}
-use Rattle.xr_defs.specs.Calls.{only_of, as_text, as_position, as_positions, check_dimension}
-use Rattle.xr_defs.specs.Selecting.{isel_array, check_selector, as_selector, as_number, as_numbers, array_selected, array_each_selected, choice_of, position_in, positions_in, check_array}
-use Rattle.xr_defs.specs.Parts.{new_name, to_dataset, set_name, name_given, transposed, order_given, dimensions_at, dimension_at, as_texts, texts_in, as_names, names_given, dropped_of_array, attrs_assigned, check_attr, each_attr, attr_given}
+use Rattle.xr_defs.specs.Arguments.{only_of, as_text, as_position, as_positions, check_dimension}
+use Rattle.xr_defs.specs.Selecting.{isel_array, check_selector, as_selector, as_number, as_numbers, array_selected, array_each_selected, choice_of, position_in, positions_in, check_array, check_set}
+use Rattle.xr_defs.specs.Parts.{new_name, to_dataset, set_name, name_given, transposed, order_given, dimensions_at, dimension_at, as_texts, texts_in, as_names, names_given, dropped_of_array, attrs_assigned, check_attr, each_attr, attr_given, as_set}
 use Rattle.xr_defs.specs.Building as build
-use Rattle.xr_defs.specs.Building.{elements, data_array, array_built, bound, check_elements, dims_given, entries_given, kind_given, check_entry, check_place, check_coordinate, check_labels, as_labels, with_entries, with_entry, with_labels, with_coordinate, coordinate_given, check_numbers, entries_assigned, coords_assigned, assigned_to_array, check_axis}
+use Rattle.xr_defs.specs.Building.{elements, data_array, array_built, bound, check_elements, dims_given, entries_given, kind_given, check_entry, check_place, check_coordinate, check_labels, as_labels, with_entries, with_entry, with_labels, with_coordinate, coordinate_given, check_numbers, entries_assigned, coords_assigned, assigned_to_array}
 use Rattle.xr_defs.specs.Printing.{array_text, set_text}
 
 abbrev numbers : List ℤ → Values
@@ -86,12 +86,12 @@ unfolding elements data_array array_built bound check_elements dims_given entrie
 turned = refl
 
 -- an array as a dataset, whose variable is picked again; a name that is taken
-as_set : (data_array arguments >>= λ a. to_dataset a (keyed ((codes "name", Text (codes "v")) ∷ [])) >>= λ s. Ok (set_text s)) ≡ Ok (codes "Dataset\ndim x: 3\ncoord x int64 (x): 1 2 3\nvar v int64 (x)\n")
-unfolding elements data_array array_built bound check_elements dims_given entries_given kind_given build.name_given check_entry check_place check_coordinate check_labels as_labels texts_in as_text with_entries with_entry with_labels with_coordinate coordinate_given check_numbers check_array unless digits to_dataset set_name name_given new_name only_of
-as_set = refl
+shown_as_set : (data_array arguments >>= λ a. to_dataset a (keyed ((codes "name", Text (codes "v")) ∷ [])) >>= λ s. Ok (set_text s)) ≡ Ok (codes "Dataset\ndim x: 3\ncoord x int64 (x): 1 2 3\nvar v int64 (x)\n")
+unfolding elements data_array array_built bound check_elements dims_given entries_given kind_given build.name_given check_entry check_place check_coordinate check_labels as_labels texts_in as_text with_entries with_entry with_labels with_coordinate coordinate_given check_numbers check_array unless digits to_dataset set_name name_given new_name only_of as_set check_set
+shown_as_set = refl
 
 name_taken : (data_array arguments >>= λ a. to_dataset a (keyed ((codes "name", Text (codes "x")) ∷ []))) ≡ Err DuplicateName
-unfolding elements data_array array_built bound check_elements dims_given entries_given kind_given build.name_given check_entry check_place check_coordinate check_labels as_labels texts_in as_text with_entries with_entry with_labels with_coordinate coordinate_given check_numbers check_array unless digits to_dataset set_name name_given new_name only_of
+unfolding elements data_array array_built bound check_elements dims_given entries_given kind_given build.name_given check_entry check_place check_coordinate check_labels as_labels texts_in as_text with_entries with_entry with_labels with_coordinate coordinate_given check_numbers check_array unless digits to_dataset set_name name_given new_name only_of as_set check_set
 name_taken = refl
 
 -- the faults of data: another number than the kind holds, lists of other lengths, too little nesting, a mixture

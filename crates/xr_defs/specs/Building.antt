@@ -19,12 +19,12 @@ use Rattle.xr_defs.specs.Canonical.{are_distinct}
 use Rattle.xr_defs.specs.Labels as labels
 use Rattle.xr_defs.specs.Labels.{labels_of}
 use Rattle.xr_defs.specs.Values.{DataArray, Dataset, Variable, array_of, axis_names, axis_position}
-use Rattle.xr_defs.specs.Opening.{most_dimensions}
+use Rattle.xr_defs.specs.Limits.{most_dimensions}
 use Rattle.xr_defs.specs.Encoding.{may_fill}
 use Rattle.xr_defs.specs.Selecting.{axis_called, check_array, check_set}
 use Rattle.xr_defs.specs.Parts.{new_name, texts_in}
 use Rattle.xr_defs.specs.Meanings.{Value, Values, Entries, Absent, Missing, Truth, Number, Text, Sequence, Table, Array, NoValue, With, NoEntry, Entry, Given}
-use Rattle.xr_defs.specs.Calls.{wrong, unfit, as_text}
+use Rattle.xr_defs.specs.Arguments.{wrong, unfit, as_text}
 
 -- ---- arguments by a signature: plain ones stand for its first parameters, keywords for others, none twice
 

@@ -1,197 +1,171 @@
--- The functions and methods of scripts. Every call is checked in one order: it exists, its receiver is of a kind that has it,
--- its arguments fit its signature, each argument has its kind and then its value, the dimensions that it names exist.
-use Rattle.std.specs.Prelude.{◌==◌, ℕ, ℤ, pos, negsuc, Bool, true, false, not, ◌&&◌, List, [], ◌∷◌, ◌++◌, length, map, filter, get_or, Option, Some, None, Result, Ok, Err, if◌then◌else◌, codes}
+-- The functions and methods of scripts. Every call is checked in one order: it exists, its receiver is of a kind that has it, its arguments fit its signature, each argument has its
+-- kind and then its value, the dimensions that it names exist, and then come its own checks.
+use Rattle.std.specs.Prelude.{ℕ, ℤ, Bool, true, false, not, List, [], ◌∷◌, ◌++◌, Option, Some, None, is_none, Result, Ok, Err, if◌then◌else◌, codes}
 use Rattle.std.specs.Str.{bytes_eq}
 use Rattle.std.specs.Fmt.{signed_decimal}
 use Rattle.xr_types.specs.declared.fault.Fault.{Fault}
-use Rattle.xr_types.specs.declared.fault.Fault.TheVariants.{UnknownName, NoVariable, NoDimension, WrongKind, BadArgument, WouldPromote}
-use Rattle.xr_types.specs.declared.axis.Axis.{Axis}
-use Rattle.xr_types.specs.declared.axis.Labels.{Labels}
-use Rattle.xr_types.specs.declared.axis.LabelList.{LabelList}
-use Rattle.xr_types.specs.declared.axis.LabelList.TheVariants.{Numbers}
+use Rattle.xr_types.specs.declared.fault.Fault.TheVariants.{UnknownName, WrongKind, BadArgument, WouldPromote, NoFile, BadFile}
 use Rattle.xr_types.specs.declared.kind.DType.{DType}
-use Rattle.xr_types.specs.declared.kind.DType.TheVariants.{Int64}
-use Rattle.xr_defs.specs.declared.slice.Part.{Part}
-use Rattle.xr_defs.specs.declared.slice.Part.TheVariants as part
-use Rattle.xr_defs.specs.Results.{◌>>=◌, unless, all_of}
+use Rattle.xr_types.specs.declared.kind.DType.TheVariants as kinds
+use Rattle.xr_defs.specs.declared.write_options.WriteOptions.{WriteOptions}
+use Rattle.xr_defs.specs.Results.{◌>>=◌, unless}
 use Rattle.xr_defs.specs.Classic.{among}
-use Rattle.xr_defs.specs.Slices.{slice_positions}
-use Rattle.xr_defs.specs.Values.{DataArray, taken, total, axis_position, no_axis, is_scalar}
-use Rattle.xr_defs.specs.Opening.{Files, opened, variable_in}
-use Rattle.xr_defs.specs.Writing.{written}
-use Rattle.xr_defs.specs.Text.{text_of}
-use Rattle.xr_defs.specs.Meanings.{Value, Absent, Truth, Number, Text, Slice, Array, Opened, Given}
-
--- ---- arguments
-
-abbrev pub wrong : {A : Type 0} → Result A Fault
-wrong = Err WrongKind
-
-abbrev pub unfit : {A : Type 0} → Result A Fault
-unfit = Err BadArgument
-
--- the one argument, plain or by this keyword
-unfoldable pub only_of : List ℕ → List Value → List (List ℕ × Value) → Result Value Fault
-only_of name (v ∷ []) [] = Ok v
-only_of name [] (kv ∷ []) = if bytes_eq kv.0 name then Ok kv.1 else unfit
-only_of name plain keyed = unfit
-
-abbrev pub only : List ℕ → Given → Result Value Fault
-only name g = only_of name g.plain g.keyed
-
--- no argument at all
-unfoldable pub nothing_given : Given → Result (Unit {0}) Fault
-nothing_given g = unless (length g.plain == 0 && length g.keyed == 0) BadArgument
-
-unfoldable pub as_text : Value → Result (List ℕ) Fault
-as_text (Text t) = Ok t
-as_text v = wrong
-
--- the one argument, which is a text
-unfoldable pub text_given : List ℕ → Given → Result (List ℕ) Fault
-text_given name g = only name g >>= λ v. as_text v
-
-unfoldable pub as_array : Value → Result DataArray Fault
-as_array (Array a) = Ok a
-as_array v = wrong
-
--- ---- slice(stop), slice(start, stop), slice(start, stop, step)
-
-unfoldable pub as_part : Value → Result Part Fault
-as_part Absent = Ok part.Open
-as_part (Number n) = Ok (part.At n)
-as_part (Text t) = Ok (part.Label t)
-as_part v = wrong
-
-unfoldable pub as_step : Value → Result (Option ℤ) Fault
-as_step Absent = Ok None
-as_step (Number n) = Ok (Some n)
-as_step v = wrong
-
-unfoldable pub slice_of : List Value → Result Value Fault
-slice_of (e ∷ []) = as_part e >>= λ stop. Ok (Slice part.Open stop None)
-slice_of (s ∷ e ∷ []) = as_part s >>= λ start. as_part e >>= λ stop. Ok (Slice start stop None)
-slice_of (s ∷ e ∷ k ∷ []) = as_part s >>= λ start. as_part e >>= λ stop. as_step k >>= λ step. Ok (Slice start stop step)
-slice_of plain = unfit
-
--- a slice has no arguments by keyword
-unfoldable pub slice_given : Given → Result Value Fault
-slice_given g = unless (length g.keyed == 0) BadArgument >>= λ u. slice_of g.plain
+use Rattle.xr_defs.specs.Files.{file_in}
+use Rattle.xr_defs.specs.Canonical.{canonical}
+use Rattle.xr_defs.specs.Stores.{Files}
+use Rattle.xr_defs.specs.Values.{DataArray, Dataset, total}
+use Rattle.xr_defs.specs.Decoding.{set_of}
+use Rattle.xr_defs.specs.Encoding.{file_of}
+use Rattle.xr_defs.specs.Printing.{array_text, set_text}
+use Rattle.xr_defs.specs.Selecting.{isel_array, isel_set}
+use Rattle.xr_defs.specs.Parts.{picked_of_set, picked_of_array, renamed, to_dataset, own_name, as_set, attrs_assigned, transposed, dropped_of_array, dropped_of_set}
+use Rattle.xr_defs.specs.Building.{bound, argument, option, required, parameters, data_array}
+use Rattle.xr_defs.specs.Meanings.{Value, Truth, Number, Text, Array, Set, Given}
+use Rattle.xr_defs.specs.Arguments.{wrong, unfit, as_text, slice_given, nothing_given}
 
 -- ---- functions
 
+-- whether missing cells are asked for
+unfoldable pub mask_given : Option Value → Result Bool Fault
+mask_given None = Ok false
+mask_given (Some (Truth b)) = Ok b
+mask_given (Some v) = wrong
+
+unfoldable pub set_in : List ℕ → Bool → Result Dataset Fault
+set_in bytes mask = elim (file_in bytes) [ Err x ↦ Err (BadFile x.0 x.1) | Ok f ↦ set_of f mask ]
+
+unfoldable pub opened_set : Files → List ℕ → Bool → Result Dataset Fault
+opened_set files name mask = elim (files name) [ None ↦ Err (NoFile name) | Some bytes ↦ set_in bytes mask ]
+
+-- open_dataset(name, mask=False): the name of the file, and whether missing cells are asked for
+unfoldable pub open_asked : Given → Result (List ℕ × Bool) Fault
+open_asked g =
+    bound (codes "name" ∷ codes "mask" ∷ []) g >>= λ vs. required (argument vs 0) >>= λ v. as_text v >>= λ name.
+    mask_given (option vs 1) >>= λ mask. Ok (name, mask)
+
+unfoldable pub open_dataset : Files → Given → Result Dataset Fault
+open_dataset files g = open_asked g >>= λ w. opened_set files w.0 w.1
+
+-- DataArray(data, dims, name, dtype): no coordinates are given with an array so far
+unfoldable pub array_written_out : Given → Result DataArray Fault
+array_written_out g = bound parameters g >>= λ vs. unless (is_none (option vs 2)) BadArgument >>= λ u. data_array g
+
 -- a function that takes no file
-unfoldable pub function_of_values : List ℕ → Given → Result Value Fault
-function_of_values name g = if bytes_eq name (codes "slice") then slice_given g else Err (UnknownName name)
+unfoldable pub function_over_values : List ℕ → Given → Result Value Fault
+function_over_values name g =
+    if bytes_eq name (codes "DataArray") then (array_written_out g >>= λ a. Ok (Array a))
+    else if bytes_eq name (codes "slice") then slice_given g
+    else Err (UnknownName name)
 
-unfoldable pub function : Files → List ℕ → Given → Result Value Fault
-function files name g =
-    if bytes_eq name (codes "open_dataset") then (text_given (codes "name") g >>= λ file. opened files file >>= λ f. Ok (Opened f))
-    else function_of_values name g
+unfoldable pub function_called : Files → List ℕ → Given → Result Value Fault
+function_called files name g =
+    if bytes_eq name (codes "open_dataset") then (open_dataset files g >>= λ s. Ok (Set s)) else function_over_values name g
 
--- ---- x["v"]: a variable of a file, or the labels of an array's dimension
+-- ---- x["v"]
 
-abbrev pub label_kind : LabelList → DType
-label_kind (Numbers kind ns) = kind
-label_kind l = Int64
-
-abbrev pub label_cells : LabelList → List (Option ℤ)
-label_cells (Numbers kind ns) = map Some ns
-label_cells l = []
-
--- the labels of an axis as an array over it, with the scalar coordinates
-abbrev pub index_array : DataArray → Axis → Labels → DataArray
-index_array a x l =
-    record {
-      name = Some x.name;
-      axes = x ∷ [];
-      kind = label_kind l.list;
-      masked = false;
-      attrs = l.attrs;
-      coords = filter is_scalar a.coords;
-      cells = label_cells l.list;
-    }
-
-abbrev pub labels_of_axis : DataArray → Axis → List ℕ → Result DataArray Fault
-labels_of_axis a x name = elim x.labels [ None ↦ Err (NoVariable name) | Some l ↦ Ok (index_array a x l) ]
-
-unfoldable pub coordinate_in : DataArray → List ℕ → Result DataArray Fault
-coordinate_in a name = elim (axis_position name a.axes) [ None ↦ Err (NoVariable name) | Some k ↦ labels_of_axis a (get_or a.axes k no_axis) name ]
-
-unfoldable pub picked : Value → List ℕ → Result Value Fault
-picked (Opened f) name = variable_in f name >>= λ a. Ok (Array a)
-picked (Array a) name = coordinate_in a name >>= λ b. Ok (Array b)
-picked v name = wrong
-
--- ---- isel(x=slice(..)): the positions of a slice along each dimension that is named
-
--- the numbers of a slice of positions; a text has no place in it, and its step isn't 0
-pub record Positions : Type 0 where
-  pub start : Option ℤ
-  pub stop : Option ℤ
-  pub step : Option ℤ
-
-unfoldable pub as_position : Part → Result (Option ℤ) Fault
-as_position part.Open = Ok None
-as_position (part.At n) = Ok (Some n)
-as_position (part.Label t) = wrong
-
-abbrev pub is_zero : Option ℤ → Bool
-is_zero None = false
-is_zero (Some (pos n)) = n == 0
-is_zero (Some (negsuc n)) = false
-
-unfoldable pub as_positions : Value → Result Positions Fault
-as_positions (Slice s e k) =
-    as_position s >>= λ start. as_position e >>= λ stop. unless (not (is_zero k)) BadArgument >>= λ u. Ok (record { start = start; stop = stop; step = k })
-as_positions v = wrong
-
--- an argument by keyword is such a slice
-unfoldable pub check_positions : List ℕ × Value → Result (Unit {0}) Fault
-check_positions kv = as_positions kv.1 >>= λ ps. Ok tt
-
--- the array has this dimension
-unfoldable pub check_dimension : List Axis → List ℕ × Value → Result (Unit {0}) Fault
-check_dimension axes kv = elim (axis_position kv.0 axes) [ None ↦ Err (NoDimension kv.0) | Some k ↦ Ok tt ]
-
-abbrev pub at_positions : DataArray → ℕ → Positions → DataArray
-at_positions a k ps = taken a k (slice_positions (get_or a.axes k no_axis).size ps.start ps.stop ps.step)
-
--- the array at the positions of one argument
-unfoldable pub selected : DataArray → List ℕ × Value → Result DataArray Fault
-selected a kv = as_positions kv.1 >>= λ ps. elim (axis_position kv.0 a.axes) [ None ↦ Err (NoDimension kv.0) | Some k ↦ Ok (at_positions a k ps) ]
-
-unfoldable pub each_selected : DataArray → List (List ℕ × Value) → Result DataArray Fault
-each_selected a [] = Ok a
-each_selected a (kv ∷ kvs) = selected a kv >>= λ b. each_selected b kvs
-
-unfoldable pub isel_of : DataArray → Given → Result DataArray Fault
-isel_of a g =
-    unless (length g.plain == 0) BadArgument >>= λ u. all_of check_positions g.keyed >>= λ v.
-    all_of (check_dimension a.axes) g.keyed >>= λ w. each_selected a g.keyed
+unfoldable pub part_picked : Value → List ℕ → Result Value Fault
+part_picked (Array a) name = picked_of_array a name >>= λ b. Ok (Array b)
+part_picked (Set s) name = picked_of_set s name >>= λ b. Ok (Array b)
+part_picked v name = wrong
 
 -- ---- methods
+
+-- a method of arrays alone
+unfoldable pub of_array : (DataArray → Result Value Fault) → Value → Result Value Fault
+of_array call (Array a) = call a
+of_array call v = wrong
+
+-- a method of arrays and datasets
+unfoldable pub of_both : (DataArray → Result DataArray Fault) → (Dataset → Result Dataset Fault) → Value → Result Value Fault
+of_both array_call set_call (Array a) = array_call a >>= λ b. Ok (Array b)
+of_both array_call set_call (Set s) = set_call s >>= λ t. Ok (Set t)
+of_both array_call set_call v = wrong
+
+abbrev pub is_chars : DType → Bool
+is_chars kinds.Char = true
+is_chars kind = false
+
+-- chars have no sum
+unfoldable pub sum_called : Given → DataArray → Result Value Fault
+sum_called g a = unless (not (is_chars a.kind)) WrongKind >>= λ u. nothing_given g >>= λ v. Ok (Array (total a))
+
+unfoldable pub array_with_attrs : Given → DataArray → Result DataArray Fault
+array_with_attrs g a = attrs_assigned a.attrs g >>= λ attrs. Ok (record a { attrs = attrs })
+
+unfoldable pub set_with_attrs : Given → Dataset → Result Dataset Fault
+set_with_attrs g s = attrs_assigned s.attrs g >>= λ attrs. Ok (record s { attrs = attrs })
+
+abbrev pub is_labelled_data : Value → Bool
+is_labelled_data (Array a) = true
+is_labelled_data (Set s) = true
+is_labelled_data v = false
 
 -- methods whose answers aren't whole numbers
 abbrev pub promoting : List (List ℕ)
 promoting = codes "mean" ∷ codes "std" ∷ codes "var" ∷ codes "median" ∷ codes "quantile" ∷ codes "interp" ∷ []
 
-abbrev pub is_held : Value → Bool
-is_held (Array a) = true
-is_held (Opened f) = true
-is_held v = false
+-- those, and methods that there aren't
+unfoldable pub other_method : Value → List ℕ → Result Value Fault
+other_method v name = if among promoting name then Err (if is_labelled_data v then WouldPromote else WrongKind) else Err (UnknownName name)
 
-unfoldable pub method : Value → List ℕ → Given → Result Value Fault
-method v name g =
-    if bytes_eq name (codes "sum") then (as_array v >>= λ a. nothing_given g >>= λ u. Ok (Array (total a)))
-    else if bytes_eq name (codes "isel") then (as_array v >>= λ a. isel_of a g >>= λ b. Ok (Array b))
-    else if among promoting name then Err (if is_held v then WouldPromote else WrongKind)
-    else Err (UnknownName name)
+unfoldable pub method_called : Value → List ℕ → Given → Result Value Fault
+method_called v name g =
+    if bytes_eq name (codes "isel") then of_both (λ a. isel_array a g) (λ s. isel_set s g) v
+    else if bytes_eq name (codes "transpose") then of_array (λ a. transposed a g >>= λ b. Ok (Array b)) v
+    else if bytes_eq name (codes "drop_vars") then of_both (λ a. dropped_of_array a g) (λ s. dropped_of_set s g) v
+    else if bytes_eq name (codes "assign_attrs") then of_both (array_with_attrs g) (set_with_attrs g) v
+    else if bytes_eq name (codes "rename") then of_array (λ a. renamed a g >>= λ b. Ok (Array b)) v
+    else if bytes_eq name (codes "to_dataset") then of_array (λ a. to_dataset a g >>= λ s. Ok (Set s)) v
+    else if bytes_eq name (codes "sum") then of_array (sum_called g) v
+    else other_method v name
 
--- ---- to_netcdf(name): the file that is put, and its bytes
+-- ---- to_netcdf(name, format="NETCDF3_CLASSIC", fill_value?, unlimited_dims?)
 
-unfoldable pub file_written : Value → Given → Result (List ℕ × List ℕ) Fault
-file_written v g = as_array v >>= λ a. text_given (codes "name") g >>= λ file. written a >>= λ bytes. Ok (file, bytes)
+-- the version of the format
+unfoldable pub format_named : List ℕ → Result ℕ Fault
+format_named t = if bytes_eq t (codes "NETCDF3_CLASSIC") then Ok 1 else if bytes_eq t (codes "NETCDF3_64BIT") then Ok 2 else unfit
+
+unfoldable pub format_given : Option Value → Result ℕ Fault
+format_given None = Ok 1
+format_given (Some v) = as_text v >>= λ t. format_named t
+
+unfoldable pub fill_given : Option Value → Result (Option ℤ) Fault
+fill_given None = Ok None
+fill_given (Some (Number n)) = Ok (Some n)
+fill_given (Some v) = wrong
+
+unfoldable pub unlimited_given : Option Value → Result (Option (List ℕ)) Fault
+unlimited_given None = Ok None
+unlimited_given (Some v) = as_text v >>= λ t. Ok (Some t)
+
+abbrev pub writing_parameters : List (List ℕ)
+writing_parameters = codes "name" ∷ codes "format" ∷ codes "fill_value" ∷ codes "unlimited_dims" ∷ []
+
+unfoldable pub options_given : List (Option Value) → Result WriteOptions Fault
+options_given vs =
+    format_given (option vs 1) >>= λ version. fill_given (option vs 2) >>= λ fill. unlimited_given (option vs 3) >>= λ unlimited.
+    Ok (record { version = version; fill = fill; unlimited = unlimited })
+
+-- an array is written as the dataset of it
+unfoldable pub as_dataset : Value → Result Dataset Fault
+as_dataset (Array a) = own_name a >>= λ name. as_set name a
+as_dataset (Set s) = Ok s
+as_dataset v = wrong
+
+-- what is asked for: the name of the file, how it is written, and the dataset
+pub record Asked : Type 0 where
+  pub name : List ℕ
+  pub options : WriteOptions
+  pub set : Dataset
+
+unfoldable pub write_asked : Value → Given → Result Asked Fault
+write_asked v g =
+    unless (is_labelled_data v) WrongKind >>= λ a. bound writing_parameters g >>= λ vs. required (argument vs 0) >>= λ n. as_text n >>= λ name.
+    options_given vs >>= λ options. as_dataset v >>= λ s. Ok (record { name = name; options = options; set = s })
+
+-- the name of the file that is put, and its bytes
+unfoldable pub set_written : Value → Given → Result (List ℕ × List ℕ) Fault
+set_written v g = write_asked v g >>= λ w. file_of w.set w.options >>= λ f. Ok (w.name, canonical f)
 
 -- ---- print
 
@@ -199,9 +173,10 @@ abbrev pub truth_line : Bool → List ℕ
 truth_line true = codes "True\n"
 truth_line false = codes "False\n"
 
-unfoldable pub printed : Value → Result (List ℕ) Fault
-printed (Array a) = Ok (text_of a)
-printed (Number n) = Ok (signed_decimal n ++ 10 ∷ [])
-printed (Text t) = Ok (t ++ 10 ∷ [])
-printed (Truth b) = Ok (truth_line b)
-printed v = wrong
+unfoldable pub text_printed : Value → Result (List ℕ) Fault
+text_printed (Array a) = Ok (array_text a)
+text_printed (Set s) = Ok (set_text s)
+text_printed (Number n) = Ok (signed_decimal n ++ 10 ∷ [])
+text_printed (Text t) = Ok (t ++ 10 ∷ [])
+text_printed (Truth b) = Ok (truth_line b)
+text_printed v = wrong

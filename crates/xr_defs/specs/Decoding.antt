@@ -25,7 +25,7 @@ use Rattle.xr_defs.specs.Points.{size}
 use Rattle.xr_defs.specs.Classic.{among, dim_at}
 use Rattle.xr_defs.specs.Files.{positions, shape_of}
 use Rattle.xr_defs.specs.Numbers.{is_whole, cells_kind, numbers_of}
-use Rattle.xr_defs.specs.Opening.{are_different, most_cells, most_dimensions, most_variables}
+use Rattle.xr_defs.specs.Limits.{are_different, most_cells, most_dimensions, most_variables}
 use Rattle.xr_defs.specs.Values.{Dataset, Variable, shape_over, axis_names}
 
 -- ---- types and attributes

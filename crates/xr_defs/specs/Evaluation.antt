@@ -6,11 +6,12 @@ use Rattle.xr_types.specs.declared.fault.Fault.TheVariants.{UnknownName}
 use Rattle.xr_defs.specs.declared.syntax.Constant.{Constant}
 use Rattle.xr_defs.specs.declared.syntax.Constant.TheVariants as constant
 use Rattle.xr_defs.specs.Results.{◌>>=◌}
-use Rattle.xr_defs.specs.Opening.{Files}
+use Rattle.xr_defs.specs.Stores.{Files}
 use Rattle.xr_defs.specs.Syntax as tree
 use Rattle.xr_defs.specs.Syntax.{Tree, Trees, Args}
 use Rattle.xr_defs.specs.Meanings.{Value, Values, Entries, Absent, Missing, Truth, Number, Text, Sequence, Table, NoValue, With, NoEntry, Entry, Given}
-use Rattle.xr_defs.specs.Calls.{wrong, function, method, picked}
+use Rattle.xr_defs.specs.Arguments.{wrong}
+use Rattle.xr_defs.specs.Calls.{function_called, method_called, part_picked}
 
 -- the value that each name stands for
 abbrev pub Names : Type 0
@@ -43,9 +44,9 @@ unfoldable mutual
   value_of names files (tree.Constantly c) = Ok (constant_value c)
   value_of names files (tree.Unary op a) = value_of names files a >>= λ v. wrong
   value_of names files (tree.Binary op a b) = value_of names files a >>= λ v. value_of names files b >>= λ w. wrong
-  value_of names files (tree.Call name gs) = given_of names files gs >>= λ g. function files name g
-  value_of names files (tree.Method a name gs) = value_of names files a >>= λ v. given_of names files gs >>= λ g. method v name g
-  value_of names files (tree.Index a t) = value_of names files a >>= λ v. picked v t
+  value_of names files (tree.Call name gs) = given_of names files gs >>= λ g. function_called files name g
+  value_of names files (tree.Method a name gs) = value_of names files a >>= λ v. given_of names files gs >>= λ g. method_called v name g
+  value_of names files (tree.Index a t) = value_of names files a >>= λ v. part_picked v t
   value_of names files (tree.Items xs) = values_of names files xs >>= λ vs. Ok (Sequence vs)
   value_of names files (tree.Table es) = entries_of names files es >>= λ vs. Ok (Table vs)
 

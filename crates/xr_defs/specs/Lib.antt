@@ -12,8 +12,8 @@ pub mod Slices
 pub mod Values
 pub mod Text
 pub mod Messages
-pub mod Opening
-pub mod Writing
+pub mod Limits
+pub mod Stores
 pub mod Labels
 pub mod Times
 pub mod Folds
@@ -22,7 +22,7 @@ pub mod Tokens
 pub mod Spellings
 pub mod Scripts
 pub mod Meanings
-pub mod Calls
+pub mod Arguments
 pub mod Evaluation
 pub mod Runs
 pub mod Decoding
@@ -32,4 +32,4 @@ pub mod Nodes
 pub mod Selecting
 pub mod Parts
 pub mod Building
-pub mod DatasetCalls
+pub mod Calls

@@ -1,7 +1,6 @@
 -- What the expressions of a script stand for.
 use Rattle.std.specs.Prelude.{ℕ, ℤ, Bool, List, Option}
 use Rattle.xr_defs.specs.declared.slice.Part.{Part}
-use Rattle.xr_defs.specs.declared.file.CdfFile.{CdfFile}
 use Rattle.xr_defs.specs.Values.{DataArray, Dataset}
 
 mutual
@@ -20,8 +19,6 @@ mutual
     Slice : Part → Part → Option ℤ → Value
     Array : DataArray → Value
     Set : Dataset → Value
-    -- a file, of which a variable can be taken, as long as files aren't opened as datasets
-    Opened : CdfFile → Value
 
   -- items of a list, the last one outermost
   pub data Values : Type 0 where

@@ -20,9 +20,9 @@ use Rattle.xr_defs.specs.Values.{DataArray, Dataset, Variable, array_of, axis_na
 use Rattle.xr_defs.specs.Decoding.{is_kept}
 use Rattle.xr_defs.specs.Encoding.{coords_over, holds, value_bytes}
 use Rattle.xr_defs.specs.Nodes.{reordered}
-use Rattle.xr_defs.specs.Selecting.{axis_called}
+use Rattle.xr_defs.specs.Selecting.{axis_called, check_set}
 use Rattle.xr_defs.specs.Meanings.{Value, Values, Absent, Text, Number, Sequence, NoValue, With, Given}
-use Rattle.xr_defs.specs.Calls.{wrong, unfit, only, as_text}
+use Rattle.xr_defs.specs.Arguments.{wrong, unfit, only, as_text}
 
 -- ---- x["v"]
 
@@ -105,8 +105,12 @@ set_of_array name a = record { axes = a.axes; coords = a.coords; vars = as_varia
 abbrev pub is_taken : DataArray → List ℕ → Bool
 is_taken a name = among (axis_names a.axes) name || list_any (λ (c : Coord). bytes_eq c.name name) a.coords
 
+-- its name is none of its dimensions and coordinates, of which there are no more than a dataset may have
+unfoldable pub as_set : List ℕ → DataArray → Result Dataset Fault
+as_set name a = unless (not (is_taken a name)) DuplicateName >>= λ u. check_set (set_of_array name a) >>= λ v. Ok (set_of_array name a)
+
 unfoldable pub to_dataset : DataArray → Given → Result Dataset Fault
-to_dataset a g = set_name a g >>= λ name. unless (not (is_taken a name)) DuplicateName >>= λ u. Ok (set_of_array name a)
+to_dataset a g = set_name a g >>= λ name. as_set name a
 
 -- ---- assign_attrs(name=value): a text, or a whole number of type int
 

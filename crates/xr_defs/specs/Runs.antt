@@ -10,9 +10,9 @@ use Rattle.xr_defs.specs.Results.{◌>>=◌}
 use Rattle.xr_defs.specs.Syntax as tree
 use Rattle.xr_defs.specs.Syntax.{Line, Tree}
 use Rattle.xr_defs.specs.Scripts.{IsScriptText, IsFirstFault}
-use Rattle.xr_defs.specs.Opening.{Files}
+use Rattle.xr_defs.specs.Stores.{Files}
 use Rattle.xr_defs.specs.Meanings.{Value}
-use Rattle.xr_defs.specs.Calls.{printed, file_written}
+use Rattle.xr_defs.specs.Calls.{text_printed, set_written}
 use Rattle.xr_defs.specs.Evaluation.{Names, named, value_of, given_of}
 
 -- a run so far: what its names stand for, the files, and the text printed. A name stands for a value and not for a
@@ -41,8 +41,8 @@ step (tree.Assigned name e) s = value_of s.names s.files e >>= λ v. Ok (with_na
 step (tree.Aligned names (tree.Call f gs)) s = given_of s.names s.files gs >>= λ g. Err (UnknownName f)
 step (tree.Aligned names e) s = Err WrongKind
 step (tree.Placed name variable e) s = value_of s.names s.files e >>= λ v. named s.names name >>= λ w. Err WrongKind
-step (tree.Printed e) s = value_of s.names s.files e >>= λ v. printed v >>= λ text. Ok (with_text s text)
-step (tree.Written (tree.Method e f gs)) s = value_of s.names s.files e >>= λ v. given_of s.names s.files gs >>= λ g. file_written v g >>= λ w. Ok (with_file s w.0 w.1)
+step (tree.Printed e) s = value_of s.names s.files e >>= λ v. text_printed v >>= λ text. Ok (with_text s text)
+step (tree.Written (tree.Method e f gs)) s = value_of s.names s.files e >>= λ v. given_of s.names s.files gs >>= λ g. set_written v g >>= λ w. Ok (with_file s w.0 w.1)
 step (tree.Written e) s = Err WrongKind
 
 -- how a run ended: its status, the files, and the text printed

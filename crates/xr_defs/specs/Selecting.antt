@@ -1,6 +1,6 @@
 -- Selection by position (xarray user guide, "Indexing and selecting data", `isel`): a position, a slice or a list of positions
 -- for each dimension that is named. Lists select each dimension by itself and may repeat.
-use Rattle.std.specs.Prelude.{◌-◌, ◌&&◌, ℕ, ℤ, suc, pos, negsuc, Bool, false, List, [], ◌∷◌, ◌++◌, length, map, get_or, Option, Some, None, Result, Ok, Err, nat_lt, nat_le, ◌==◌, if◌then◌else◌}
+use Rattle.std.specs.Prelude.{◌+◌, ◌-◌, ◌&&◌, ℕ, ℤ, suc, pos, negsuc, Bool, false, List, [], ◌∷◌, ◌++◌, length, map, get_or, Option, Some, None, Result, Ok, Err, nat_lt, nat_le, ◌==◌, if◌then◌else◌}
 use Rattle.std.specs.Str.{bytes_eq}
 use Rattle.std.specs.List.{list_all}
 use Rattle.xr_types.specs.declared.fault.Fault.{Fault}
@@ -16,10 +16,10 @@ use Rattle.xr_defs.specs.Points.{size}
 use Rattle.xr_defs.specs.Arrays.{Array}
 use Rattle.xr_defs.specs.Slices.{slice_positions}
 use Rattle.xr_defs.specs.Values.{DataArray, Dataset, Variable, array_of, axis_position, no_axis, shape_over, chosen_axes, chosen_cells, chosen_coord}
-use Rattle.xr_defs.specs.Opening.{most_cells}
+use Rattle.xr_defs.specs.Limits.{most_cells, most_variables}
 use Rattle.xr_defs.specs.Nodes.{without, picked_from}
 use Rattle.xr_defs.specs.Meanings.{Value, Values, Number, Sequence, Slice, NoValue, With, Given}
-use Rattle.xr_defs.specs.Calls.{wrong, Positions, as_positions, check_dimension}
+use Rattle.xr_defs.specs.Arguments.{wrong, Positions, as_positions, check_dimension}
 
 -- ---- the arguments
 
@@ -139,9 +139,13 @@ are_within coords = list_all (λ (c : Coord). is_within (shape_over c.axes)) coo
 unfoldable pub check_array : DataArray → Result (Unit {0}) Fault
 check_array a = unless (is_within (shape_over a.axes) && are_within a.coords) TooLarge
 
+-- no more coordinates and data variables together than a dataset may have
+abbrev pub are_few : Dataset → Bool
+are_few set = nat_le (length set.coords + length set.vars) most_variables
+
 unfoldable pub check_set : Dataset → Result (Unit {0}) Fault
 check_set set =
-    unless (list_all (λ (x : Axis). nat_le x.size most_cells) set.axes && (are_within set.coords && list_all (λ v. is_within (variable_array set.axes v).shape) set.vars)) TooLarge
+    unless (list_all (λ (x : Axis). nat_le x.size most_cells) set.axes && (are_within set.coords && (list_all (λ v. is_within (variable_array set.axes v).shape) set.vars && are_few set))) TooLarge
 
 -- ---- isel
 

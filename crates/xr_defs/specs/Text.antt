@@ -110,5 +110,3 @@ abbrev pub cells_text : DataArray → List ℕ
 cells_text a = let n = row_size (shape_over a.axes) in rows_text a.kind (length a.cells / n) n a.cells
 
 -- the first line, the rows, and the indexes in the order of the dimensions
-abbrev pub text_of : DataArray → List ℕ
-text_of a = head_line a ++ (cells_text a ++ flat_map index_text a.axes)

@@ -1,5 +1,5 @@
 -- Arrays with named dimensions and labels, and datasets (xarray user guide, "Data Structures").
-use Rattle.std.specs.Prelude.{◌≡◌, ◌==◌, ◌+◌, ℕ, ℤ, pos, Bool, false, List, [], ◌∷◌, length, map, filter, get_or, slice_set, Option, Some, None, option_map, MatchOption, ⊤, if◌then◌else◌}
+use Rattle.std.specs.Prelude.{◌==◌, ◌+◌, ℕ, ℤ, pos, Bool, false, List, [], ◌∷◌, length, map, filter, get_or, slice_set, Option, Some, None, option_map, if◌then◌else◌}
 use Rattle.std.specs.Str.{bytes_eq}
 use Rattle.xr_types.specs.declared.attr.Attr.{Attr}
 use Rattle.xr_types.specs.declared.axis.Axis.{Axis}
@@ -56,11 +56,6 @@ label_count (Numbers kind ns) = length ns
 label_count (Times coding ts) = length ts
 label_count (Texts ts) = length ts
 
--- an axis is a name, a size and possibly that many labels
-pub record IsAxis (x : Axis) : Type 0 where
-  pub named : length x.name ≡ 0 → ⊥
-  pub labelled : MatchOption x.labels ⊤ (λ (l : Labels). label_count l.list ≡ x.size)
-
 -- the first position of an axis of this name
 abbrev pub axis_position : List ℕ → List Axis → Option ℕ
 axis_position name [] = None
@@ -102,15 +97,6 @@ chosen_coord dimension ps c =
       | None ↦ c
       | Some k ↦ record c { axes = chosen_axes c.axes k ps; content = chosen_content c.content k ps }
     ]
-
--- the array at these positions of its axis number k
-abbrev pub taken : DataArray → ℕ → List ℕ → DataArray
-taken a k ps =
-    record a {
-      axes = chosen_axes a.axes k ps;
-      coords = map (chosen_coord (get_or a.axes k no_axis).name ps) a.coords;
-      cells = (chosen_cells (array_of a) k ps).cells;
-    }
 
 -- ---- the sum over all dimensions (NumPy, `sum`): in 64 bits, without the missing cells
 

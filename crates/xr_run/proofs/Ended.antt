@@ -6,7 +6,7 @@ use Rattle.xr_types.specs.declared.status.ScriptFault.{ScriptFault}
 use Rattle.xr_types.specs.declared.status.ScriptKind.TheVariants.{TooMany}
 use Rattle.xr_types.specs.declared.status.Status.{Status}
 use Rattle.xr_types.specs.declared.status.Status.TheVariants.{Done, Refused, BadWords, NoScript, BadScript, Storage, NoMemory}
-use Rattle.xr_defs.specs.Opening.{Files}
+use Rattle.xr_defs.specs.Stores.{Files}
 use Rattle.xr_defs.specs.Messages.{status_line}
 use Rattle.xr_defs.specs.Syntax.{Line}
 use Rattle.xr_defs.specs.Tokens.{text_fault, tokens_of}

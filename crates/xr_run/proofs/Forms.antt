@@ -3,18 +3,21 @@ use Rattle.std.proofs.Common.{◌≡◌, ◌∙◌, ℕ, ◌+◌, ◌<◌, ◌�
 use Rattle.std.proofs.lemmas.List.{nil_from_length, length-drop}
 use Rattle.xr_types.specs.declared.text.TextBytes.{TextBytes}
 use Rattle.xr_types.specs.declared.fault.Fault.{Fault}
+use Rattle.xr_types.specs.declared.fault.Fault.TheVariants.{WrongKind}
 use Rattle.xr_defs.specs.declared.syntax.Expr.{Expr}
+use Rattle.xr_defs.specs.declared.operation.OpKind.{OpKind}
 use Rattle.xr_defs.specs.Results.{◌>>=◌}
-use Rattle.xr_defs.specs.Opening.{Files}
+use Rattle.xr_defs.specs.Stores.{Files}
 use Rattle.xr_defs.specs.Syntax as tree
 use Rattle.xr_defs.specs.Syntax.{Tree, Args, tree_of}
 use Rattle.xr_defs.specs.Meanings as of
 use Rattle.xr_defs.specs.Meanings.{Values, Entries, With, Entry, Given}
-use Rattle.xr_defs.specs.Calls.{function, method}
+use Rattle.xr_defs.specs.Arguments.{wrong}
+use Rattle.xr_defs.specs.Calls.{function_called, method_called}
 use Rattle.xr_defs.specs.Evaluation.{Names, value_of, values_of, entries_of, given_of}
 use Rattle.xr_run.specs.declared.stopped.Stopped.{Stopped}
 use Rattle.xr_run.specs.declared.stopped.Stopped.TheVariants.{Refused, Storage, NoMemory}
-use Rattle.xr_run.specs.Answers.{Gives, GivesOrFails}
+use Rattle.xr_run.specs.Answers.{Gives, GivesOrFails, Tallied}
 use Rattle.xr_run.specs.Arguments.{and_argument, given_rest, values_rest, entries_rest}
 
 -- a fault is passed on by what stands behind it
@@ -30,14 +33,25 @@ gives_or view (Err (Refused f)) told h = h
 gives_or view (Err Storage) told h = absurd h
 gives_or view (Err NoMemory) told h = tt
 
-call_is : (names : Names) (files : Files) (name : List ℕ) (gs : Args) → value_of names files (tree.Call name gs) ≡ (given_of names files gs >>= λ g. function files name g)
+-- what doesn't look at the store doesn't fail by it
+pub no_fault : {A B : Type 0} (view : A → B) (r : Result A Stopped) (told : Result B Fault) (n : ℕ) → Gives view r told → Tallied n n r
+no_fault view (Ok a) told n h = refl
+no_fault view (Err (Refused f)) told n h = refl
+no_fault view (Err Storage) told n h = absurd h
+no_fault view (Err NoMemory) told n h = refl
+
+call_is : (names : Names) (files : Files) (name : List ℕ) (gs : Args) → value_of names files (tree.Call name gs) ≡ (given_of names files gs >>= λ g. function_called files name g)
 unfolding value_of given_of values_of entries_of
 call_is names files name gs = refl
 
 method_is : (names : Names) (files : Files) (a : Tree) (name : List ℕ) (gs : Args)
-    → value_of names files (tree.Method a name gs) ≡ (value_of names files a >>= λ v. given_of names files gs >>= λ g. method v name g)
+    → value_of names files (tree.Method a name gs) ≡ (value_of names files a >>= λ v. given_of names files gs >>= λ g. method_called v name g)
 unfolding value_of given_of values_of entries_of
 method_is names files a name gs = refl
+
+binary_is : (names : Names) (files : Files) (op : OpKind) (a b : Tree) → value_of names files (tree.Binary op a b) ≡ (value_of names files a >>= λ v. value_of names files b >>= λ w. wrong)
+unfolding value_of given_of values_of entries_of
+binary_is names files op a b = refl
 
 items_is : (names : Names) (files : Files) (xs : tree.Trees) → value_of names files (tree.Items xs) ≡ (values_of names files xs >>= λ vs. Ok (of.Sequence vs))
 unfolding value_of given_of values_of entries_of
@@ -48,30 +62,47 @@ unfolding value_of given_of values_of entries_of
 table_is names files xs = refl
 
 pub call_from : {V : Type 0} (view : V → of.Value) (names : Names) (files mid : Files) (e : Tree) (name : List ℕ) (gs : Args) (g : Given) (r : Result V Stopped)
-    → e ≡ tree.Call name gs → given_of names files gs ≡ Ok g → mid ≡ files → GivesOrFails view r (function mid name g) → GivesOrFails view r (value_of names files e)
+    → e ≡ tree.Call name gs → given_of names files gs ≡ Ok g → mid ≡ files → GivesOrFails view r (function_called mid name g) → GivesOrFails view r (value_of names files e)
 call_from view names files mid e name gs g r is has same h =
-    let q : value_of names files e ≡ function files name g = ap (value_of names files) is ∙ call_is names files name gs ∙ ap (λ x. x >>= λ y. function files name y) has in
-    subst (λ x. GivesOrFails view r x) (sym q) (subst (λ (fs : Files). GivesOrFails view r (function fs name g)) same h)
+    let q : value_of names files e ≡ function_called files name g = ap (value_of names files) is ∙ call_is names files name gs ∙ ap (λ x. x >>= λ y. function_called files name y) has in
+    subst (λ x. GivesOrFails view r x) (sym q) (subst (λ (fs : Files). GivesOrFails view r (function_called fs name g)) same h)
 
 pub call_fails : {V A : Type 0} (view : V → of.Value) (given : A → Given) (names : Names) (files : Files) (e : Tree) (name : List ℕ) (gs : Args) (s : Stopped)
     → e ≡ tree.Call name gs → GivesOrFails given (Err s) (given_of names files gs) → GivesOrFails view (Err s) (value_of names files e)
 call_fails view given names files e name gs s is h =
-    passed given view s (given_of names files gs) (value_of names files e) (λ g. function files name g) (ap (value_of names files) is ∙ call_is names files name gs) h
+    passed given view s (given_of names files gs) (value_of names files e) (λ g. function_called files name g) (ap (value_of names files) is ∙ call_is names files name gs) h
 
-pub method_from : {V : Type 0} (view : V → of.Value) (names : Names) (files mid : Files) (e a : Tree) (name : List ℕ) (gs : Args) (v : of.Value) (g : Given) (r : Result V Stopped)
-    → e ≡ tree.Method a name gs → value_of names files a ≡ Ok v → mid ≡ files → given_of names mid gs ≡ Ok g → Gives view r (method v name g) → GivesOrFails view r (value_of names files e)
-method_from view names files mid e a name gs v g r is value same has h =
-    let given : given_of names files gs ≡ Ok g = subst (λ (fs : Files). given_of names fs gs ≡ Ok g) same has in
-    let q : value_of names files e ≡ method v name g =
-    ap (value_of names files) is ∙ method_is names files a name gs ∙ ap (λ x. x >>= λ w. given_of names files gs >>= λ y. method w name y) value ∙ ap (λ x. x >>= λ y. method v name y) given in
-    subst (λ x. GivesOrFails view r x) (sym q) (gives_or view r (method v name g) h)
+pub method_from : {V : Type 0} (view : V → of.Value) (names mid_names : Names) (files mid : Files) (e a : Tree) (name : List ℕ) (gs : Args) (v later : of.Value) (g : Given) (r : Result V Stopped)
+    → e ≡ tree.Method a name gs → value_of names files a ≡ Ok v → mid_names ≡ names → mid ≡ files → given_of mid_names mid gs ≡ Ok g → later ≡ v → Gives view r (method_called later name g)
+    → GivesOrFails view r (value_of names files e)
+method_from view names mid_names files mid e a name gs v later g r is value same_names same has kept h =
+    let given : given_of names files gs ≡ Ok g = subst (λ (ns : Names). given_of ns files gs ≡ Ok g) same_names (subst (λ (fs : Files). given_of mid_names fs gs ≡ Ok g) same has) in
+    let q : value_of names files e ≡ method_called v name g =
+    ap (value_of names files) is ∙ method_is names files a name gs ∙ ap (λ x. x >>= λ w. given_of names files gs >>= λ y. method_called w name y) value ∙ ap (λ x. x >>= λ y. method_called v name y) given in
+    subst (λ x. GivesOrFails view r x) (sym q) (gives_or view r (method_called v name g) (subst (λ x. Gives view r (method_called x name g)) kept h))
 
-pub method_fails : {V A : Type 0} (view : V → of.Value) (given : A → Given) (names : Names) (files mid : Files) (e a : Tree) (name : List ℕ) (gs : Args) (v : of.Value) (s : Stopped)
-    → e ≡ tree.Method a name gs → value_of names files a ≡ Ok v → mid ≡ files → GivesOrFails given (Err s) (given_of names mid gs) → GivesOrFails view (Err s) (value_of names files e)
-method_fails view given names files mid e a name gs v s is value same h =
-    passed given view s (given_of names files gs) (value_of names files e) (λ y. method v name y)
-    (ap (value_of names files) is ∙ method_is names files a name gs ∙ ap (λ x. x >>= λ w. given_of names files gs >>= λ y. method w name y) value)
-    (subst (λ (fs : Files). GivesOrFails given (Err s) (given_of names fs gs)) same h)
+pub method_fails : {V A : Type 0} (view : V → of.Value) (given : A → Given) (names mid_names : Names) (files mid : Files) (e a : Tree) (name : List ℕ) (gs : Args) (v : of.Value) (s : Stopped)
+    → e ≡ tree.Method a name gs → value_of names files a ≡ Ok v → mid_names ≡ names → mid ≡ files → GivesOrFails given (Err s) (given_of mid_names mid gs)
+    → GivesOrFails view (Err s) (value_of names files e)
+method_fails view given names mid_names files mid e a name gs v s is value same_names same h =
+    passed given view s (given_of names files gs) (value_of names files e) (λ y. method_called v name y)
+    (ap (value_of names files) is ∙ method_is names files a name gs ∙ ap (λ x. x >>= λ w. given_of names files gs >>= λ y. method_called w name y) value)
+    (subst (λ (ns : Names). GivesOrFails given (Err s) (given_of ns files gs)) same_names (subst (λ (fs : Files). GivesOrFails given (Err s) (given_of mid_names fs gs)) same h))
+
+-- an operator, whose operands are both found before it
+pub binary_fails : {V A : Type 0} (view : V → of.Value) (seen : A → of.Value) (names mid_names : Names) (files mid : Files) (e a b : Tree) (op : OpKind) (v : of.Value) (s : Stopped)
+    → e ≡ tree.Binary op a b → value_of names files a ≡ Ok v → mid_names ≡ names → mid ≡ files → GivesOrFails seen (Err s) (value_of mid_names mid b)
+    → GivesOrFails view (Err s) (value_of names files e)
+binary_fails view seen names mid_names files mid e a b op v s is value same_names same h =
+    passed seen view s (value_of names files b) (value_of names files e) (λ w. wrong)
+    (ap (value_of names files) is ∙ binary_is names files op a b ∙ ap (λ x. x >>= λ u. value_of names files b >>= λ w. wrong) value)
+    (subst (λ (ns : Names). GivesOrFails seen (Err s) (value_of ns files b)) same_names (subst (λ (fs : Files). GivesOrFails seen (Err s) (value_of mid_names fs b)) same h))
+
+pub binary_wrong : (names mid_names : Names) (files mid : Files) (e a b : Tree) (op : OpKind) (v w : of.Value)
+    → e ≡ tree.Binary op a b → value_of names files a ≡ Ok v → mid_names ≡ names → mid ≡ files → value_of mid_names mid b ≡ Ok w → value_of names files e ≡ Err WrongKind
+binary_wrong names mid_names files mid e a b op v w is value same_names same has =
+    let second : value_of names files b ≡ Ok w = subst (λ (ns : Names). value_of ns files b ≡ Ok w) same_names (subst (λ (fs : Files). value_of mid_names fs b ≡ Ok w) same has) in
+    ap (value_of names files) is ∙ binary_is names files op a b ∙ ap (λ x. x >>= λ u. value_of names files b >>= λ w. wrong) value ∙ ap (λ x. x >>= λ w. wrong) second
 
 pub items_from : (names : Names) (files : Files) (e : Tree) (xs : tree.Trees) (vs : Values) (v : of.Value) → e ≡ tree.Items xs → values_of names files xs ≡ Ok vs → v ≡ of.Sequence vs → value_of names files e ≡ Ok v
 items_from names files e xs vs v is has means =
@@ -101,57 +132,57 @@ given_here : (names : Names) (files : Files) (g : Given) (xs : List (Option Text
 unfolding given_rest
 given_here names files g xs i x lt e = ap (given_rest names files g) (front xs i x lt e)
 
-pub given_more : (names : Names) (files mid : Files) (g after : Given) (xs : List (Option TextBytes × Expr)) (i : ℕ) (x : Option TextBytes × Expr) (v : of.Value) (whole : Result Given Fault)
-    → i < length xs → x ≡ get_or xs i x → mid ≡ files → value_of names mid (tree_of x.1) ≡ Ok v → after ≡ and_argument g x.0 v
+pub given_more : (names mid_names : Names) (files mid : Files) (g after : Given) (xs : List (Option TextBytes × Expr)) (i : ℕ) (x : Option TextBytes × Expr) (v : of.Value) (whole : Result Given Fault)
+    → i < length xs → x ≡ get_or xs i x → mid_names ≡ names → mid ≡ files → value_of mid_names mid (tree_of x.1) ≡ Ok v → after ≡ and_argument g x.0 v
     → given_rest names files g (drop i xs) ≡ whole → given_rest names files after (drop (i + 1) xs) ≡ whole
-given_more names files mid g after xs i x v whole lt e same value is so_far =
-    let here : value_of names files (tree_of x.1) ≡ Ok v = subst (λ (fs : Files). value_of names fs (tree_of x.1) ≡ Ok v) same value in
+given_more names mid_names files mid g after xs i x v whole lt e same_names same value is so_far =
+    let here : value_of names files (tree_of x.1) ≡ Ok v = subst (λ (ns : Names). value_of ns files (tree_of x.1) ≡ Ok v) same_names (subst (λ (fs : Files). value_of mid_names fs (tree_of x.1) ≡ Ok v) same value) in
     ap (λ y. given_rest names files y (drop (i + 1) xs)) is
     ∙ sym (given_here names files g xs i x lt e ∙ ap (λ r. r >>= λ w. given_rest names files (and_argument g x.0 w) (drop (i + 1) xs)) here) ∙ so_far
 
-pub given_stops : {V A : Type 0} (view : V → of.Value) (given : A → Given) (names : Names) (files mid : Files) (g : Given) (xs : List (Option TextBytes × Expr)) (i : ℕ) (x : Option TextBytes × Expr) (s : Stopped) (whole : Result Given Fault)
-    → i < length xs → x ≡ get_or xs i x → mid ≡ files → GivesOrFails view (Err s) (value_of names mid (tree_of x.1)) → given_rest names files g (drop i xs) ≡ whole → GivesOrFails given (Err s) whole
-given_stops view given names files mid g xs i x s whole lt e same h so_far =
+pub given_stops : {V A : Type 0} (view : V → of.Value) (given : A → Given) (names mid_names : Names) (files mid : Files) (g : Given) (xs : List (Option TextBytes × Expr)) (i : ℕ) (x : Option TextBytes × Expr) (s : Stopped) (whole : Result Given Fault)
+    → i < length xs → x ≡ get_or xs i x → mid_names ≡ names → mid ≡ files → GivesOrFails view (Err s) (value_of mid_names mid (tree_of x.1)) → given_rest names files g (drop i xs) ≡ whole → GivesOrFails given (Err s) whole
+given_stops view given names mid_names files mid g xs i x s whole lt e same_names same h so_far =
     passed view given s (value_of names files (tree_of x.1)) whole (λ v. given_rest names files (and_argument g x.0 v) (drop (i + 1) xs)) (sym so_far ∙ given_here names files g xs i x lt e)
-    (subst (λ (fs : Files). GivesOrFails view (Err s) (value_of names fs (tree_of x.1))) same h)
+    (subst (λ (ns : Names). GivesOrFails view (Err s) (value_of ns files (tree_of x.1))) same_names (subst (λ (fs : Files). GivesOrFails view (Err s) (value_of mid_names fs (tree_of x.1))) same h))
 
 values_here : (names : Names) (files : Files) (vs : Values) (xs : List Expr) (i : ℕ) (x : Expr) → i < length xs → x ≡ get_or xs i x
     → values_rest names files vs (drop i xs) ≡ (value_of names files (tree_of x) >>= λ v. values_rest names files (With vs v) (drop (i + 1) xs))
 unfolding values_rest
 values_here names files vs xs i x lt e = ap (values_rest names files vs) (front xs i x lt e)
 
-pub values_more : (names : Names) (files mid : Files) (vs after : Values) (xs : List Expr) (i : ℕ) (x : Expr) (v : of.Value) (whole : Result Values Fault)
-    → i < length xs → x ≡ get_or xs i x → mid ≡ files → value_of names mid (tree_of x) ≡ Ok v → after ≡ With vs v
+pub values_more : (names mid_names : Names) (files mid : Files) (vs after : Values) (xs : List Expr) (i : ℕ) (x : Expr) (v : of.Value) (whole : Result Values Fault)
+    → i < length xs → x ≡ get_or xs i x → mid_names ≡ names → mid ≡ files → value_of mid_names mid (tree_of x) ≡ Ok v → after ≡ With vs v
     → values_rest names files vs (drop i xs) ≡ whole → values_rest names files after (drop (i + 1) xs) ≡ whole
-values_more names files mid vs after xs i x v whole lt e same value is so_far =
-    let here : value_of names files (tree_of x) ≡ Ok v = subst (λ (fs : Files). value_of names fs (tree_of x) ≡ Ok v) same value in
+values_more names mid_names files mid vs after xs i x v whole lt e same_names same value is so_far =
+    let here : value_of names files (tree_of x) ≡ Ok v = subst (λ (ns : Names). value_of ns files (tree_of x) ≡ Ok v) same_names (subst (λ (fs : Files). value_of mid_names fs (tree_of x) ≡ Ok v) same value) in
     ap (λ y. values_rest names files y (drop (i + 1) xs)) is
     ∙ sym (values_here names files vs xs i x lt e ∙ ap (λ r. r >>= λ w. values_rest names files (With vs w) (drop (i + 1) xs)) here) ∙ so_far
 
-pub values_stop : {V A : Type 0} (view : V → of.Value) (seen : A → Values) (names : Names) (files mid : Files) (vs : Values) (xs : List Expr) (i : ℕ) (x : Expr) (s : Stopped) (whole : Result Values Fault)
-    → i < length xs → x ≡ get_or xs i x → mid ≡ files → GivesOrFails view (Err s) (value_of names mid (tree_of x)) → values_rest names files vs (drop i xs) ≡ whole → GivesOrFails seen (Err s) whole
-values_stop view seen names files mid vs xs i x s whole lt e same h so_far =
+pub values_stop : {V A : Type 0} (view : V → of.Value) (seen : A → Values) (names mid_names : Names) (files mid : Files) (vs : Values) (xs : List Expr) (i : ℕ) (x : Expr) (s : Stopped) (whole : Result Values Fault)
+    → i < length xs → x ≡ get_or xs i x → mid_names ≡ names → mid ≡ files → GivesOrFails view (Err s) (value_of mid_names mid (tree_of x)) → values_rest names files vs (drop i xs) ≡ whole → GivesOrFails seen (Err s) whole
+values_stop view seen names mid_names files mid vs xs i x s whole lt e same_names same h so_far =
     passed view seen s (value_of names files (tree_of x)) whole (λ v. values_rest names files (With vs v) (drop (i + 1) xs)) (sym so_far ∙ values_here names files vs xs i x lt e)
-    (subst (λ (fs : Files). GivesOrFails view (Err s) (value_of names fs (tree_of x))) same h)
+    (subst (λ (ns : Names). GivesOrFails view (Err s) (value_of ns files (tree_of x))) same_names (subst (λ (fs : Files). GivesOrFails view (Err s) (value_of mid_names fs (tree_of x))) same h))
 
 entries_here : (names : Names) (files : Files) (vs : Entries) (xs : List (TextBytes × Expr)) (i : ℕ) (x : TextBytes × Expr) → i < length xs → x ≡ get_or xs i x
     → entries_rest names files vs (drop i xs) ≡ (value_of names files (tree_of x.1) >>= λ v. entries_rest names files (Entry vs x.0 v) (drop (i + 1) xs))
 unfolding entries_rest
 entries_here names files vs xs i x lt e = ap (entries_rest names files vs) (front xs i x lt e)
 
-pub entries_more : (names : Names) (files mid : Files) (vs after : Entries) (xs : List (TextBytes × Expr)) (i : ℕ) (x : TextBytes × Expr) (v : of.Value) (whole : Result Entries Fault)
-    → i < length xs → x ≡ get_or xs i x → mid ≡ files → value_of names mid (tree_of x.1) ≡ Ok v → after ≡ Entry vs x.0 v
+pub entries_more : (names mid_names : Names) (files mid : Files) (vs after : Entries) (xs : List (TextBytes × Expr)) (i : ℕ) (x : TextBytes × Expr) (v : of.Value) (whole : Result Entries Fault)
+    → i < length xs → x ≡ get_or xs i x → mid_names ≡ names → mid ≡ files → value_of mid_names mid (tree_of x.1) ≡ Ok v → after ≡ Entry vs x.0 v
     → entries_rest names files vs (drop i xs) ≡ whole → entries_rest names files after (drop (i + 1) xs) ≡ whole
-entries_more names files mid vs after xs i x v whole lt e same value is so_far =
-    let here : value_of names files (tree_of x.1) ≡ Ok v = subst (λ (fs : Files). value_of names fs (tree_of x.1) ≡ Ok v) same value in
+entries_more names mid_names files mid vs after xs i x v whole lt e same_names same value is so_far =
+    let here : value_of names files (tree_of x.1) ≡ Ok v = subst (λ (ns : Names). value_of ns files (tree_of x.1) ≡ Ok v) same_names (subst (λ (fs : Files). value_of mid_names fs (tree_of x.1) ≡ Ok v) same value) in
     ap (λ y. entries_rest names files y (drop (i + 1) xs)) is
     ∙ sym (entries_here names files vs xs i x lt e ∙ ap (λ r. r >>= λ w. entries_rest names files (Entry vs x.0 w) (drop (i + 1) xs)) here) ∙ so_far
 
-pub entries_stop : {V A : Type 0} (view : V → of.Value) (seen : A → Entries) (names : Names) (files mid : Files) (vs : Entries) (xs : List (TextBytes × Expr)) (i : ℕ) (x : TextBytes × Expr) (s : Stopped) (whole : Result Entries Fault)
-    → i < length xs → x ≡ get_or xs i x → mid ≡ files → GivesOrFails view (Err s) (value_of names mid (tree_of x.1)) → entries_rest names files vs (drop i xs) ≡ whole → GivesOrFails seen (Err s) whole
-entries_stop view seen names files mid vs xs i x s whole lt e same h so_far =
+pub entries_stop : {V A : Type 0} (view : V → of.Value) (seen : A → Entries) (names mid_names : Names) (files mid : Files) (vs : Entries) (xs : List (TextBytes × Expr)) (i : ℕ) (x : TextBytes × Expr) (s : Stopped) (whole : Result Entries Fault)
+    → i < length xs → x ≡ get_or xs i x → mid_names ≡ names → mid ≡ files → GivesOrFails view (Err s) (value_of mid_names mid (tree_of x.1)) → entries_rest names files vs (drop i xs) ≡ whole → GivesOrFails seen (Err s) whole
+entries_stop view seen names mid_names files mid vs xs i x s whole lt e same_names same h so_far =
     passed view seen s (value_of names files (tree_of x.1)) whole (λ v. entries_rest names files (Entry vs x.0 v) (drop (i + 1) xs)) (sym so_far ∙ entries_here names files vs xs i x lt e)
-    (subst (λ (fs : Files). GivesOrFails view (Err s) (value_of names fs (tree_of x.1))) same h)
+    (subst (λ (ns : Names). GivesOrFails view (Err s) (value_of ns files (tree_of x.1))) same_names (subst (λ (fs : Files). GivesOrFails view (Err s) (value_of mid_names fs (tree_of x.1))) same h))
 
 -- nothing is left behind the last one
 pub given_ends : (names : Names) (files : Files) (g : Given) (xs : List (Option TextBytes × Expr)) (i : ℕ) (whole : Result Given Fault) → length xs ≤ i → given_rest names files g (drop i xs) ≡ whole → whole ≡ Ok g

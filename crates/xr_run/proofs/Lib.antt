@@ -1,11 +1,15 @@
+mod Carried
 mod Ended
 mod Forms
 mod Layers
 mod Lists
 mod Long
+mod NamesKept
 mod OneEnd
 mod Parse
 mod Performed
 mod Pieces
 mod Puts
 mod Stepped
+mod Timed
+mod ValuesKept

@@ -1,14 +1,22 @@
 -- A file that is too long is refused before anything of it is read.
-use Rattle.std.proofs.Common.{◌≡◌, ◌<◌, ◌∙◌, ℕ, List, length, Option, Some, None, Err, ltb, true, refl, ap, rules, tests}
+use Rattle.std.proofs.Common.{◌≡◌, ◌<◌, ◌∙◌, ℕ, Bool, List, length, Option, Some, None, Result, Err, ltb, true, refl, ap, rules, tests}
 use Rattle.xr_types.specs.declared.fault.CdfKind.TheVariants.{TooLarge}
+use Rattle.xr_types.specs.declared.fault.Fault.{Fault}
 use Rattle.xr_types.specs.declared.fault.Fault.TheVariants.{BadFile, NoFile}
 use Rattle.xr_defs.specs.Files.{file_in}
-use Rattle.xr_defs.specs.Opening.{Files, opened, opened_bytes}
-use Rattle.xr_run.specs.Functions.{file_value}
+use Rattle.xr_defs.specs.Stores.{Files}
+use Rattle.xr_defs.specs.Values.{Dataset}
+use Rattle.xr_defs.specs.Calls.{set_in, opened_set}
+use Rattle.xr_run.specs.Functions.{set_value}
 
-long_bytes : (bytes : List ℕ) → 268435456 < length bytes → file_value (opened_bytes bytes) ≡ Err (BadFile TooLarge 0)
-unfolding file_in
-long_bytes bytes long = let t : ltb 268435456 (length bytes) ≡ true = search (rules, tests) in rw t refl
+long_bytes : (bytes : List ℕ) (mask : Bool) → 268435456 < length bytes → set_value (set_in bytes mask) ≡ Err (BadFile TooLarge 0)
+unfolding file_in set_in
+long_bytes bytes mask long = let t : ltb 268435456 (length bytes) ≡ true = search (rules, tests) in rw (t, set_in) refl
 
-pub long_file : (files : Files) (name bytes : List ℕ) → files name ≡ Some bytes → 268435456 < length bytes → file_value (opened files name) ≡ Err (BadFile TooLarge 0)
-long_file files name bytes held long = ap (λ (o : Option (List ℕ)). file_value (elim o [ None ↦ Err (NoFile name) | Some bs ↦ opened_bytes bs ])) held ∙ long_bytes bytes long
+opened_is : (files : Files) (name : List ℕ) (mask : Bool) → opened_set files name mask ≡ elim (files name) [ None ↦ Err (NoFile name) | Some bytes ↦ set_in bytes mask ]
+unfolding opened_set
+opened_is files name mask = refl
+
+pub long_file : (files : Files) (name bytes : List ℕ) (mask : Bool) → files name ≡ Some bytes → 268435456 < length bytes → set_value (opened_set files name mask) ≡ Err (BadFile TooLarge 0)
+long_file files name bytes mask held long =
+    ap set_value (opened_is files name mask) ∙ ap (λ (o : Option (List ℕ)). set_value (elim o [ None ↦ Err (NoFile name) | Some bs ↦ set_in bs mask ])) held ∙ long_bytes bytes mask long

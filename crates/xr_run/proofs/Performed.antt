@@ -1,5 +1,5 @@
 -- What statements do, done.
-use Rattle.std.proofs.Common.{◌≡◌, ◌≢◌, ℕ, Bool, true, false, cond, List, [], ◌++◌, Option, Some, Ok, refl, sym, ap, ap₂, ◌∙◌}
+use Rattle.std.proofs.Common.{◌≡◌, ◌≢◌, ℕ, Bool, true, false, cond, List, [], ◌++◌, Option, Some, Ok, refl, sym, ap, ap₂, subst, ◌∙◌}
 use Rattle.std.specs.Prelude.{IsTrue, Vec}
 use Rattle.std.specs.Str.{bytes_eq}
 use Rattle.std.specs.declared.alloc.Global.{Global}
@@ -8,12 +8,14 @@ use Rattle.std.proofs.lemmas.Bool.{false≢true}
 use Rattle.std.proofs.lemmas.List.{append-nil}
 use Rattle.std.proofs.lemmas.Slice.Eq.{bytes_eq-Decides}
 use Rattle.xr_types.specs.declared.text.TextBytes.{TextBytes}
-use Rattle.xr_defs.specs.Opening.{Files}
+use Rattle.xr_defs.specs.Stores.{Files}
 use Rattle.xr_defs.specs.Evaluation.{Names}
 use Rattle.xr_defs.specs.Runs.{put}
-use Rattle.interim_values.specs.declared.value.Value.{Value}
-use Rattle.interim_values.specs.Meaning.{meaning}
-use Rattle.xr_run.specs.declared.effect.Effect.TheVariants.{Bind, Print, Write}
+use Rattle.xr_defs.specs.declared.node.Node.{Node}
+use Rattle.xr_values.specs.declared.value.Value.{Value}
+use Rattle.xr_values.specs.Meaning.{meaning}
+use Rattle.xr_run.specs.declared.effect.Effect.{Effect}
+use Rattle.xr_run.specs.declared.effect.Effect.TheVariants.{Bind, Write}
 use Rattle.xr_run.specs.Outside.{OthersSame}
 use Rattle.xr_run.specs.Steps.{at, PerformIs}
 
@@ -28,15 +30,14 @@ put_is old new name x here others =
     ] in
     at_n (bytes_eq n name) refl)
 
-pub bound : (name : TextBytes) (value : Value) (names after : Names) (files : Files) (told : Bool) (taken : List ℕ) → after ≡ put names name (meaning value)
-    → PerformIs (Bind name value) names after files files told taken taken (Ok tt)
-bound name value names after files told taken e =
-    ([], λ t. sym (append-nil taken), λ text. ap₂ (λ (ns : Names) (w : List ℕ). at ns files w) (sym e) (sym (append-nil text)))
+pub bound : (nodes : List Node) (e : Effect) (name : TextBytes) (value : Value) (names after : Names) (files : Files) (told : Bool) (taken : List ℕ) → e ≡ Bind name value → after ≡ put names name (meaning nodes value)
+    → PerformIs nodes e names after files files told taken taken (Ok tt)
+bound nodes e name value names after files told taken is same =
+    subst (λ (x : Effect). PerformIs nodes x names after files files told taken taken (Ok tt)) (sym is)
+    ([], λ t. sym (append-nil taken), λ text. ap₂ (λ (ns : Names) (w : List ℕ). at ns files w) (sym same) (sym (append-nil text)))
 
-pub printed : (text : Vec ℕ Global) (names : Names) (files : Files) (told : Bool) (taken now : List ℕ) → (IsTrue told → now ≡ taken ++ text.items) → PerformIs (Print text) names names files files told taken now (Ok tt)
-printed text names files told taken now gained = (text.items, gained, λ before. refl)
-
-pub wrote : (name : TextBytes) (bytes : Vec ℕ Global) (names : Names) (files after : Files) (told : Bool) (taken : List ℕ) → after name ≡ Some bytes.items → OthersSame name files after
-    → PerformIs (Write name bytes) names names files after told taken taken (Ok tt)
-wrote name bytes names files after told taken here others =
+pub wrote : (nodes : List Node) (e : Effect) (name : TextBytes) (bytes : Vec ℕ Global) (names : Names) (files after : Files) (told : Bool) (taken : List ℕ) → e ≡ Write name bytes
+    → after name ≡ Some bytes.items → OthersSame name files after → PerformIs nodes e names names files after told taken taken (Ok tt)
+wrote nodes e name bytes names files after told taken is here others =
+    subst (λ (x : Effect). PerformIs nodes x names names files after told taken taken (Ok tt)) (sym is)
     ([], λ t. sym (append-nil taken), λ text. ap₂ (λ (fs : Files) (w : List ℕ). at names fs w) (sym (put_is files after name bytes.items here others)) (sym (append-nil text)))

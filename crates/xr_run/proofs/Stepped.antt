@@ -7,7 +7,7 @@ use Rattle.xr_types.specs.declared.status.Status.TheVariants as statuses
 use Rattle.xr_defs.specs.declared.syntax.Statement.{Statement}
 use Rattle.xr_defs.specs.Syntax as tree
 use Rattle.xr_defs.specs.Syntax.{Line, line_of}
-use Rattle.xr_defs.specs.Opening.{Files}
+use Rattle.xr_defs.specs.Stores.{Files}
 use Rattle.xr_defs.specs.Evaluation.{Names}
 use Rattle.xr_defs.specs.Runs.{State, step, run_from, start, Ended, ended, IsPut, put_now, put_later}
 use Rattle.xr_run.specs.declared.stopped.Stopped.{Stopped}

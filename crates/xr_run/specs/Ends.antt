@@ -2,7 +2,7 @@
 use Rattle.std.specs.Prelude.{◌≡◌, ◌≤◌, ◌⊎◌, ◌++◌, ℕ, Bool, List, IsTrue, Option}
 use Rattle.xr_types.specs.declared.status.Status.{Status}
 use Rattle.xr_types.specs.declared.status.Status.TheVariants as statuses
-use Rattle.xr_defs.specs.Opening.{Files}
+use Rattle.xr_defs.specs.Stores.{Files}
 use Rattle.xr_defs.specs.Syntax.{Line}
 use Rattle.xr_defs.specs.Scripts.{IsScriptText}
 use Rattle.xr_defs.specs.Runs.{Ended, Run, ScriptRun, IsPut, IsPutInRun, start}

@@ -10,3 +10,4 @@ pub mod Steps
 pub mod Stops
 pub mod Top
 pub mod Words
+pub mod Writing

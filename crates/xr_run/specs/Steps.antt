@@ -1,11 +1,12 @@
 -- What a statement does, and what it leaves.
 use Rattle.std.specs.Prelude.{◌≡◌, ◌≢◌, ◌≤◌, ◌⊎◌, ℕ, Bool, List, ◌++◌, IsTrue, Result, Ok, Err}
-use Rattle.xr_defs.specs.Opening.{Files}
+use Rattle.xr_defs.specs.Stores.{Files}
 use Rattle.xr_defs.specs.Syntax as tree
 use Rattle.xr_defs.specs.Syntax.{Line}
 use Rattle.xr_defs.specs.Evaluation.{Names}
 use Rattle.xr_defs.specs.Runs.{State, step, with_name, with_text, with_file}
-use Rattle.interim_values.specs.Meaning.{meaning}
+use Rattle.xr_defs.specs.declared.node.Node.{Node}
+use Rattle.xr_values.specs.Meaning.{meaning, IsValueIn}
 use Rattle.xr_run.specs.declared.effect.Effect.{Effect}
 use Rattle.xr_run.specs.declared.effect.Effect.TheVariants.{Bind, Print, Write}
 use Rattle.xr_run.specs.declared.stopped.Stopped.{Stopped}
@@ -16,17 +17,23 @@ abbrev pub at : Names → Files → List ℕ → State
 at names files text = record { names = names; files = files; text = text }
 
 -- what a statement does to a state once nothing refuses it
-abbrev pub done : Effect → State → State
-done (Bind name value) s = with_name s name (meaning value)
-done (Print text) s = with_text s text.items
-done (Write name bytes) s = with_file s name bytes.items
+abbrev pub done : List Node → Effect → State → State
+done nodes (Bind name value) s = with_name s name (meaning nodes value)
+done nodes (Print text) s = with_text s text.items
+done nodes (Write name bytes) s = with_file s name bytes.items
+
+-- the arrays and datasets that it binds are of the plan
+abbrev pub IsEffectIn : List Node → Effect → Type 0
+IsEffectIn nodes (Bind name value) = IsValueIn nodes value
+IsEffectIn nodes (Print text) = Unit {0}
+IsEffectIn nodes (Write name bytes) = Unit {0}
 
 -- what a statement does is found over these names and files, whatever was printed before
-abbrev pub EffectIs : Line → Names → Files → Result Effect Stopped → Type 0
-EffectIs l names files (Ok e) = (text : List ℕ) → step l (at names files text) ≡ Ok (done e (at names files text))
-EffectIs l names files (Err (Refused f)) = (text : List ℕ) → step l (at names files text) ≡ Err f
-EffectIs l names files (Err Storage) = Unit {0}
-EffectIs l names files (Err NoMemory) = Unit {0}
+abbrev pub EffectIs : List Node → Line → Names → Files → Result Effect Stopped → Type 0
+EffectIs nodes l names files (Ok e) = (text : List ℕ) → step l (at names files text) ≡ Ok (done nodes e (at names files text))
+EffectIs nodes l names files (Err (Refused f)) = (text : List ℕ) → step l (at names files text) ≡ Err f
+EffectIs nodes l names files (Err Storage) = Unit {0}
+EffectIs nodes l names files (Err NoMemory) = Unit {0}
 
 -- only to_netcdf puts a file
 abbrev pub IsOf : Line → Effect → Type 0
@@ -40,10 +47,10 @@ EffectFits l (Ok e) = IsOf l e
 EffectFits l (Err stopped) = Unit {0}
 
 -- it is done: the names, the files and what a sink that tells it took, before and after
-abbrev pub PerformIs : Effect → Names → Names → Files → Files → Bool → List ℕ → List ℕ → Result (Unit {0}) Stopped → Type 0
-PerformIs e names after files files_after told taken now (Ok u) =
-    (more : List ℕ) × (IsTrue told → now ≡ taken ++ more) × ((text : List ℕ) → done e (at names files text) ≡ at after files_after (text ++ more))
-PerformIs e names after files files_after told taken now (Err stopped) = Unit {0}
+abbrev pub PerformIs : List Node → Effect → Names → Names → Files → Files → Bool → List ℕ → List ℕ → Result (Unit {0}) Stopped → Type 0
+PerformIs nodes e names after files files_after told taken now (Ok u) =
+    (more : List ℕ) × (IsTrue told → now ≡ taken ++ more) × ((text : List ℕ) → done nodes e (at names files text) ≡ at after files_after (text ++ more))
+PerformIs nodes e names after files files_after told taken now (Err stopped) = Unit {0}
 
 -- the files but the one that it puts hold what they held
 abbrev pub PerformKeeps : Effect → Files → Files → Type 0

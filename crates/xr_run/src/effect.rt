@@ -1,6 +1,6 @@
 //! What a statement does once nothing refuses it.
-use interim_values::Value;
 use xr_types::TextBytes;
+use xr_values::Value;
 
 /// What a statement does once nothing refuses it.
 #[derive(Drop)]

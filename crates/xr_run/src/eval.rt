@@ -1,13 +1,16 @@
 //! The values of expressions: parts from left to right, a receiver before its arguments, and then the call.
-ghost use Rattle.std.specs.Prelude.{◌≡◌, IsTrue, OnOk};
+ghost use Rattle.std.specs.Prelude.{◌≡◌, List, IsTrue, All, OnOk, IfOk};
+ghost use denote.Param.Send.{IsSync};
 ghost use Rattle.xr_types.specs.declared.fault.Fault.TheVariants.{WrongKind as wrong_kind};
+ghost use Rattle.xr_defs.specs.declared.node.Node.{Node};
 ghost use Rattle.xr_defs.specs.Syntax.{tree_of, all_arguments, all_trees, all_entries};
 ghost use Rattle.xr_defs.specs.Evaluation.{value_of, values_of, entries_of, given_of, constant_value as value_of_constant, named};
-ghost use Rattle.xr_defs.specs.Calls.{method, picked};
-ghost use Rattle.interim_values.specs.Meaning.{meaning, given, all_values as values_meant, all_entries as entries_meant};
-ghost use Rattle.xr_defs.specs.Meanings.{Sequence, Table, With, Entry};
+ghost use Rattle.xr_defs.specs.Calls.{method_called, part_picked};
+ghost use Rattle.xr_defs.specs.Meanings.{Number, Text, Sequence, Table, With, Entry};
+ghost use Rattle.plan_core.specs.Plans.{Grows};
+ghost use Rattle.xr_values.specs.Meaning.{meaning, given, all_values as values_meant, all_entries as entries_meant, IsValueIn, IsEntryIn, AreArgsIn};
 ghost use Rattle.xr_run.specs.Arguments.{and_argument};
-ghost use Rattle.xr_run.specs.Named.{names_of};
+ghost use Rattle.xr_run.specs.Named.{names_of, AreNamesIn};
 ghost use Rattle.xr_run.specs.Answers.{Gives, GivesOrFails, Tallied};
 ghost use Rattle.xr_run.specs.declared.stopped.Stopped.TheVariants as stops;
 
@@ -15,14 +18,18 @@ use crate::functions::call_function;
 use crate::names::NameMap;
 use crate::outside::Store;
 use crate::stopped::Stopped;
-use interim_calls::{call_method, pick};
-use interim_values::{Args, Value};
+use dataset_core::{call_method, pick};
+use plan_core::{Plan, Whole};
 use std::alloc::{AllocError, Global};
+use std::thread::Threads;
 use xr_defs::{Argument, Constant, Expr};
 use xr_types::{DeepCopy, Fault, TextBytes};
+use xr_values::{Args, Cx, Value};
 
+#[tactic(auto, using(xr_arguments::proofs::Variants::is_truth, xr_arguments::proofs::Variants::is_absent, xr_arguments::proofs::Variants::is_missing, xr_arguments::proofs::Inside::truth_inside, xr_arguments::proofs::Inside::absent_inside, xr_arguments::proofs::Inside::missing_inside))]
 fn constant_value(c: Constant) -> Value
-    ensures { meaning result ≡ value_of_constant c }
+    ensures value { (nodes : List Node) → meaning nodes result ≡ value_of_constant c }
+    ensures inside { (nodes : List Node) → IsValueIn nodes result }
 {
     match c {
         Constant::True => Value::Truth(true),
@@ -34,7 +41,8 @@ fn constant_value(c: Constant) -> Value
 
 // The value that a name stands for.
 fn value_named(alloc: Global, names: &NameMap, name: &TextBytes) -> Result<Value, Stopped>
-    ensures { Gives meaning result (named (names_of names.now) name.now) }
+    ensures value { (nodes : List Node) → Gives (meaning nodes) result (named (names_of nodes names.now) name.now) }
+    ensures inside { IfOk result (λ v. (nodes : List Node) → AreNamesIn nodes names.now → IsValueIn nodes v) }
 {
     match names.get(name) {
         Some(value) => Ok(value.copy(alloc)?),
@@ -50,38 +58,71 @@ fn refuse(value: Value) -> Stopped
     Stopped::Refused(Fault::WrongKind)
 }
 
+#[tactic(auto, using(xr_arguments::proofs::Variants::is_number, xr_arguments::proofs::Inside::number_inside))]
+fn number_value(n: i128) -> Value
+    ensures value { (nodes : List Node) → meaning nodes result ≡ Number n }
+    ensures inside { (nodes : List Node) → IsValueIn nodes result }
+{
+    Value::Number(n)
+}
+
+#[tactic(auto, using(xr_arguments::proofs::Variants::is_text, xr_arguments::proofs::Inside::text_inside))]
+fn text_value(text: TextBytes) -> Value
+    ensures value { (nodes : List Node) → meaning nodes result ≡ Text text }
+    ensures inside { (nodes : List Node) → IsValueIn nodes result }
+{
+    Value::Text(text)
+}
+
 fn list_value(items: Vec<Value>) -> Value
-    ensures { meaning result ≡ Sequence (values_meant items.items) }
+    ensures value { (nodes : List Node) → meaning nodes result ≡ Sequence (values_meant nodes items.items) }
+    ensures inside { (nodes : List Node) → All (IsValueIn nodes) items.items → IsValueIn nodes result }
 {
     Value::List(items)
 }
 
 fn table_value(entries: Vec<(TextBytes, Value)>) -> Value
-    ensures { meaning result ≡ Table (entries_meant entries.items) }
+    ensures value { (nodes : List Node) → meaning nodes result ≡ Table (entries_meant nodes entries.items) }
+    ensures inside { (nodes : List Node) → All (IsEntryIn nodes) entries.items → IsValueIn nodes result }
 {
     Value::Table(entries)
 }
 
 // The value of a method of a value.
-fn method_value(
+fn method_value<R: Threads + Sync>(
+    rt: &R,
     alloc: Global,
+    cx: &mut Cx<Whole>,
     value: &Value,
     name: &TextBytes,
     args: &Args,
 ) -> Result<Value, Stopped>
-    ensures { Gives meaning result (method (meaning value.now) name.now (given args.now)) }
+    requires sync { IsSync R.row }
+    requires inside { IsValueIn cx.old.plan value.now }
+    requires given { AreArgsIn cx.old.plan args.now }
+    ensures value { Gives (meaning cx.new.plan) result (method_called (meaning cx.old.plan value.now) name.now (given cx.old.plan args.now)) }
+    ensures inside { IfOk result (IsValueIn cx.new.plan) }
+    ensures grows { Grows cx.old.plan cx.new.plan }
 {
-    match call_method(alloc, value, name, args) {
+    match call_method(rt, alloc, cx, value, name, args) {
         Ok(value) => Ok(value),
         Err(fault) => Err(Stopped::from(fault)),
     }
 }
 
 // A variable or labels of a value.
-fn picked_value(alloc: Global, value: &Value, name: &TextBytes) -> Result<Value, Stopped>
-    ensures { Gives meaning result (picked (meaning value.now) name.now) }
+fn picked_value(
+    alloc: Global,
+    plan: &mut Plan,
+    value: &Value,
+    name: &TextBytes,
+) -> Result<Value, Stopped>
+    requires inside { IsValueIn plan.old value.now }
+    ensures value { Gives (meaning plan.new) result (part_picked (meaning plan.old value.now) name.now) }
+    ensures inside { IfOk result (IsValueIn plan.new) }
+    ensures grows { Grows plan.old plan.new }
 {
-    match pick(alloc, value, name) {
+    match pick(alloc, plan, value, name) {
         Ok(value) => Ok(value),
         Err(fault) => Err(Stopped::from(fault)),
     }
@@ -93,7 +134,8 @@ fn push_argument(
     name: &Option<TextBytes>,
     value: Value,
 ) -> Result<(), AllocError>
-    ensures { OnOk result (given args.new ≡ and_argument (given args.old) name.now (meaning value)) }
+    ensures value { OnOk result ((nodes : List Node) → given nodes args.new ≡ and_argument (given nodes args.old) name.now (meaning nodes value)) }
+    ensures inside { OnOk result ((nodes : List Node) → AreArgsIn nodes args.old → IsValueIn nodes value → AreArgsIn nodes args.new) }
 {
     match name {
         Some(name) => {
@@ -104,42 +146,50 @@ fn push_argument(
     }
 }
 
-#[tactic(auto, using(interim_values::proofs::Meaning::all_entered))]
+#[tactic(auto, using(xr_values::proofs::Meaning::all_entered))]
 fn push_entry(
     alloc: Global,
     entries: &mut Vec<(TextBytes, Value)>,
     key: &TextBytes,
     value: Value,
 ) -> Result<(), AllocError>
-    ensures { OnOk result (entries_meant entries.new.items ≡ Entry (entries_meant entries.old.items) key.now (meaning value)) }
+    ensures value { OnOk result ((nodes : List Node) → entries_meant nodes entries.new.items ≡ Entry (entries_meant nodes entries.old.items) key.now (meaning nodes value)) }
+    ensures inside { OnOk result ((nodes : List Node) → All (IsEntryIn nodes) entries.old.items → IsValueIn nodes value → All (IsEntryIn nodes) entries.new.items) }
 {
     let key = key.deep_copy(alloc)?;
     Ok(entries.push((key, value))?)
 }
 
-#[tactic(auto, using(interim_values::proofs::Meaning::all_more))]
+#[tactic(auto, using(xr_values::proofs::Meaning::all_more))]
 fn push_item(items: &mut Vec<Value>, value: Value) -> Result<(), AllocError>
-    ensures { OnOk result (values_meant items.new.items ≡ With (values_meant items.old.items) (meaning value)) }
+    ensures value { OnOk result ((nodes : List Node) → values_meant nodes items.new.items ≡ With (values_meant nodes items.old.items) (meaning nodes value)) }
+    ensures inside { OnOk result ((nodes : List Node) → All (IsValueIn nodes) items.old.items → IsValueIn nodes value → All (IsValueIn nodes) items.new.items) }
 {
     Ok(items.push(value)?)
 }
 
 // The arguments of a call.
 #[cycle(evaluation)]
-pub(crate) fn eval_arguments<S: Store>(
+pub(crate) fn eval_arguments<R: Threads + Sync, S: Store>(
+    rt: &R,
     alloc: Global,
     arguments: &[Argument],
     names: &NameMap,
     store: &mut S,
+    cx: &mut Cx<Whole>,
 ) -> Result<Args, Stopped>
-    ensures value { IsTrue (S.tells store.old) → GivesOrFails given result (given_of (names_of names.now) (S.held store.old) (all_arguments arguments.now)) }
+    requires sync { IsSync R.row }
+    requires inside { AreNamesIn cx.old.plan names.now }
+    ensures value { IsTrue (S.tells store.old) → GivesOrFails (given cx.new.plan) result (given_of (names_of cx.old.plan names.now) (S.held store.old) (all_arguments arguments.now)) }
+    ensures inside { IfOk result (AreArgsIn cx.new.plan) }
+    ensures grows { Grows cx.old.plan cx.new.plan }
     ensures keeps { IsTrue (S.tells store.old) → S.held store.new ≡ S.held store.old }
     ensures tells { S.tells store.new ≡ S.tells store.old }
     ensures tallied { Tallied (S.faults store.old) (S.faults store.new) result }
 {
     let mut args = Args::new(alloc);
     for argument in arguments {
-        match eval(alloc, &argument.1, names, store) {
+        match eval(rt, alloc, &argument.1, names, store, cx) {
             Ok(value) => push_argument(alloc, &mut args, &argument.0, value)?,
             Err(stopped) => return Err(stopped),
         }
@@ -149,20 +199,26 @@ pub(crate) fn eval_arguments<S: Store>(
 
 // The items of a list.
 #[cycle(evaluation)]
-fn eval_items<S: Store>(
+fn eval_items<R: Threads + Sync, S: Store>(
+    rt: &R,
     alloc: Global,
     items: &[Expr],
     names: &NameMap,
     store: &mut S,
+    cx: &mut Cx<Whole>,
 ) -> Result<Vec<Value>, Stopped>
-    ensures value { IsTrue (S.tells store.old) → GivesOrFails (λ v. values_meant v.items) result (values_of (names_of names.now) (S.held store.old) (all_trees items.now)) }
+    requires sync { IsSync R.row }
+    requires inside { AreNamesIn cx.old.plan names.now }
+    ensures value { IsTrue (S.tells store.old) → GivesOrFails (λ v. values_meant cx.new.plan v.items) result (values_of (names_of cx.old.plan names.now) (S.held store.old) (all_trees items.now)) }
+    ensures inside { IfOk result (λ v. All (IsValueIn cx.new.plan) v.items) }
+    ensures grows { Grows cx.old.plan cx.new.plan }
     ensures keeps { IsTrue (S.tells store.old) → S.held store.new ≡ S.held store.old }
     ensures tells { S.tells store.new ≡ S.tells store.old }
     ensures tallied { Tallied (S.faults store.old) (S.faults store.new) result }
 {
     let mut values = Vec::new(alloc);
     for item in items {
-        match eval(alloc, item, names, store) {
+        match eval(rt, alloc, item, names, store, cx) {
             Ok(value) => push_item(&mut values, value)?,
             Err(stopped) => return Err(stopped),
         }
@@ -172,20 +228,26 @@ fn eval_items<S: Store>(
 
 // The entries of a table.
 #[cycle(evaluation)]
-fn eval_entries<S: Store>(
+fn eval_entries<R: Threads + Sync, S: Store>(
+    rt: &R,
     alloc: Global,
     entries: &[(TextBytes, Expr)],
     names: &NameMap,
     store: &mut S,
+    cx: &mut Cx<Whole>,
 ) -> Result<Vec<(TextBytes, Value)>, Stopped>
-    ensures value { IsTrue (S.tells store.old) → GivesOrFails (λ v. entries_meant v.items) result (entries_of (names_of names.now) (S.held store.old) (all_entries entries.now)) }
+    requires sync { IsSync R.row }
+    requires inside { AreNamesIn cx.old.plan names.now }
+    ensures value { IsTrue (S.tells store.old) → GivesOrFails (λ v. entries_meant cx.new.plan v.items) result (entries_of (names_of cx.old.plan names.now) (S.held store.old) (all_entries entries.now)) }
+    ensures inside { IfOk result (λ v. All (IsEntryIn cx.new.plan) v.items) }
+    ensures grows { Grows cx.old.plan cx.new.plan }
     ensures keeps { IsTrue (S.tells store.old) → S.held store.new ≡ S.held store.old }
     ensures tells { S.tells store.new ≡ S.tells store.old }
     ensures tallied { Tallied (S.faults store.old) (S.faults store.new) result }
 {
     let mut values = Vec::new(alloc);
     for entry in entries {
-        match eval(alloc, &entry.1, names, store) {
+        match eval(rt, alloc, &entry.1, names, store, cx) {
             Ok(value) => push_entry(alloc, &mut values, &entry.0, value)?,
             Err(stopped) => return Err(stopped),
         }
@@ -195,31 +257,37 @@ fn eval_entries<S: Store>(
 
 /// The value of an expression.
 #[cycle(evaluation)]
-#[tactic(auto, using(xr_defs::proofs::Trees::tree_out), unfolding(xr_defs::specs::Evaluation::value_of))]
-pub(crate) fn eval<S: Store>(
+#[tactic(auto, using(xr_defs::proofs::Trees::tree_out, plan_core::proofs::Plans::grows_by_none), unfolding(xr_defs::specs::Evaluation::value_of))]
+pub(crate) fn eval<R: Threads + Sync, S: Store>(
+    rt: &R,
     alloc: Global,
     expr: &Expr,
     names: &NameMap,
     store: &mut S,
+    cx: &mut Cx<Whole>,
 ) -> Result<Value, Stopped>
-    ensures value { IsTrue (S.tells store.old) → GivesOrFails meaning result (value_of (names_of names.now) (S.held store.old) (tree_of expr.now)) }
+    requires sync { IsSync R.row }
+    requires inside { AreNamesIn cx.old.plan names.now }
+    ensures value { IsTrue (S.tells store.old) → GivesOrFails (meaning cx.new.plan) result (value_of (names_of cx.old.plan names.now) (S.held store.old) (tree_of expr.now)) }
+    ensures inside { IfOk result (IsValueIn cx.new.plan) }
+    ensures grows { Grows cx.old.plan cx.new.plan }
     ensures keeps { IsTrue (S.tells store.old) → S.held store.new ≡ S.held store.old }
     ensures tells { S.tells store.new ≡ S.tells store.old }
     ensures tallied { Tallied (S.faults store.old) (S.faults store.new) result }
 {
     match expr {
         Expr::Name(name) => value_named(alloc, names, name),
-        Expr::Number(n) => Ok(Value::Number(*n)),
-        Expr::Text(text) => Ok(Value::Text(text.deep_copy(alloc)?)),
+        Expr::Number(n) => Ok(number_value(*n)),
+        Expr::Text(text) => Ok(text_value(text.deep_copy(alloc)?)),
         Expr::Constant(c) => Ok(constant_value(*c)),
-        Expr::Unary(_, a) => match eval(alloc, a, names, store) {
+        Expr::Unary(_, a) => match eval(rt, alloc, a, names, store, cx) {
             Ok(value) => Err(refuse(value)),
             Err(stopped) => Err(stopped),
         },
-        Expr::Binary(_, a, b) => match eval(alloc, a, names, store) {
+        Expr::Binary(_, a, b) => match eval(rt, alloc, a, names, store, cx) {
             Ok(value) => {
                 drop(value);
-                match eval(alloc, b, names, store) {
+                match eval(rt, alloc, b, names, store, cx) {
                     Ok(value) => Err(refuse(value)),
                     Err(stopped) => Err(stopped),
                 }
@@ -227,29 +295,35 @@ pub(crate) fn eval<S: Store>(
             Err(stopped) => Err(stopped),
         },
         Expr::Call(name, arguments) => {
-            match eval_arguments(alloc, arguments.as_slice(), names, store) {
-                Ok(args) => call_function(alloc, name, &args, store),
+            match eval_arguments(rt, alloc, arguments.as_slice(), names, store, cx) {
+                Ok(args) => call_function(rt, alloc, name, &args, store, cx),
                 Err(stopped) => Err(stopped),
             }
         }
-        Expr::Method(receiver, name, arguments) => match eval(alloc, receiver, names, store) {
-            Ok(value) => match eval_arguments(alloc, arguments.as_slice(), names, store) {
-                Ok(args) => method_value(alloc, &value, name, &args),
+        Expr::Method(receiver, name, arguments) => {
+            match eval(rt, alloc, receiver, names, store, cx) {
+                Ok(value) => {
+                    match eval_arguments(rt, alloc, arguments.as_slice(), names, store, cx) {
+                        Ok(args) => method_value(rt, alloc, cx, &value, name, &args),
+                        Err(stopped) => Err(stopped),
+                    }
+                }
                 Err(stopped) => Err(stopped),
-            },
+            }
+        }
+        Expr::Index(receiver, name) => match eval(rt, alloc, receiver, names, store, cx) {
+            Ok(value) => picked_value(alloc, &mut cx.plan, &value, name),
             Err(stopped) => Err(stopped),
         },
-        Expr::Index(receiver, name) => match eval(alloc, receiver, names, store) {
-            Ok(value) => picked_value(alloc, &value, name),
-            Err(stopped) => Err(stopped),
-        },
-        Expr::List(items) => match eval_items(alloc, items.as_slice(), names, store) {
+        Expr::List(items) => match eval_items(rt, alloc, items.as_slice(), names, store, cx) {
             Ok(values) => Ok(list_value(values)),
             Err(stopped) => Err(stopped),
         },
-        Expr::Table(entries) => match eval_entries(alloc, entries.as_slice(), names, store) {
-            Ok(values) => Ok(table_value(values)),
-            Err(stopped) => Err(stopped),
-        },
+        Expr::Table(entries) => {
+            match eval_entries(rt, alloc, entries.as_slice(), names, store, cx) {
+                Ok(values) => Ok(table_value(values)),
+                Err(stopped) => Err(stopped),
+            }
+        }
     }
 }

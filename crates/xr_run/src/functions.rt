@@ -1,38 +1,54 @@
 //! The functions of scripts: those over values, and the one that takes a file from the store.
-ghost use Rattle.std.specs.Prelude.{◌≡◌, IsTrue};
-ghost use Rattle.xr_defs.specs.Opening.{opened, opened_bytes};
-ghost use Rattle.xr_defs.specs.Calls.{function};
-ghost use Rattle.interim_values.specs.Meaning.{meaning, given};
+ghost use Rattle.std.specs.Prelude.{◌≡◌, IsTrue, IfOk};
+ghost use denote.Param.Send.{IsSync};
+ghost use Rattle.xr_defs.specs.Calls.{opened_set, set_in, function_called, function_over_values};
+ghost use Rattle.plan_core.specs.Plans.{Grows};
+ghost use Rattle.xr_values.specs.Meaning.{meaning, given, IsValueIn, AreArgsIn};
 ghost use Rattle.xr_run.specs.Answers.{Gives, GivesOrFails, Tallied};
-ghost use Rattle.xr_run.specs.Functions.{file_value, open_call};
+ghost use Rattle.xr_run.specs.Functions.{set_value, open_call};
 
 use crate::outside::{Got, Store, StoreFault};
 use crate::stopped::Stopped;
-use interim_calls::text_given;
-use interim_values::{Args, Value};
+use dataset_core::open_request;
+use plan_core::{Plan, Whole};
 use std::alloc::Global;
 use std::rc::Rc;
-use xr_arrays::OpenFile;
+use std::thread::Threads;
+use xr_decode::decode_bytes;
 use xr_types::{CdfKind, DeepCopy, Fault, MOST_FILE_BYTES, TextBytes};
+use xr_values::{Args, Cx, Value};
 
 // The dataset of a file's bytes.
-#[tactic(auto, using(interim_values::proofs::Meaning::meaning_out))]
-fn opened_value(alloc: Global, bytes: Vec<u8>) -> Result<Value, Stopped>
-    ensures { Gives meaning result (file_value (opened_bytes bytes.items)) }
+#[tactic(auto, using(xr_arguments::proofs::Variants::is_set, xr_arguments::proofs::Inside::set_inside))]
+fn opened_value(alloc: Global, plan: &mut Plan, bytes: &[u8], mask: bool) -> Result<Value, Stopped>
+    ensures value { Gives (meaning plan.new) result (set_value (set_in bytes.now mask)) }
+    ensures inside { IfOk result (IsValueIn plan.new) }
+    ensures grows { Grows plan.old plan.new }
 {
-    let file = OpenFile::of(alloc, bytes)?;
-    Ok(Value::Opened(Rc::new(alloc, file)?))
+    match decode_bytes(alloc, plan, bytes, mask) {
+        Ok(set) => Ok(Value::Set(Rc::new(alloc, set)?)),
+        Err(fault) => Err(Stopped::from(fault)),
+    }
 }
 
 // The dataset of the file of a name. The whole file is taken.
-fn open_file<S: Store>(alloc: Global, name: &TextBytes, store: &mut S) -> Result<Value, Stopped>
-    ensures value { IsTrue (S.tells store.old) → GivesOrFails meaning result (file_value (opened (S.held store.old) name.now)) }
+#[tactic(auto, using(plan_core::proofs::Plans::grows_by_none), unfolding(xr_defs::specs::Calls::opened_set))]
+fn open_file<S: Store>(
+    alloc: Global,
+    name: &TextBytes,
+    mask: bool,
+    store: &mut S,
+    plan: &mut Plan,
+) -> Result<Value, Stopped>
+    ensures value { IsTrue (S.tells store.old) → GivesOrFails (meaning plan.new) result (set_value (opened_set (S.held store.old) name.now mask)) }
+    ensures inside { IfOk result (IsValueIn plan.new) }
+    ensures grows { Grows plan.old plan.new }
     ensures keeps { IsTrue (S.tells store.old) → S.held store.new ≡ S.held store.old }
     ensures tells { S.tells store.new ≡ S.tells store.old }
     ensures tallied { Tallied (S.faults store.old) (S.faults store.new) result }
 {
     match store.get(alloc, name, MOST_FILE_BYTES as u64) {
-        Ok(Got::Found(bytes)) => opened_value(alloc, bytes),
+        Ok(Got::Found(bytes)) => opened_value(alloc, plan, &bytes, mask),
         Ok(Got::Absent) => match name.deep_copy(alloc) {
             Ok(name) => Err(Stopped::Refused(Fault::NoFile(name))),
             Err(_) => Err(Stopped::NoMemory),
@@ -44,34 +60,69 @@ fn open_file<S: Store>(alloc: Global, name: &TextBytes, store: &mut S) -> Result
 }
 
 // The call of `open_dataset`.
-fn open_dataset<S: Store>(alloc: Global, args: &Args, store: &mut S) -> Result<Value, Stopped>
-    ensures value { IsTrue (S.tells store.old) → GivesOrFails meaning result (open_call (S.held store.old) (given args.now)) }
+#[tactic(auto, using(plan_core::proofs::Plans::grows_by_none))]
+fn open_dataset<S: Store>(
+    alloc: Global,
+    args: &Args,
+    store: &mut S,
+    plan: &mut Plan,
+) -> Result<Value, Stopped>
+    requires inside { AreArgsIn plan.old args.now }
+    ensures value { IsTrue (S.tells store.old) → GivesOrFails (meaning plan.new) result (open_call (S.held store.old) (given plan.old args.now)) }
+    ensures inside { IfOk result (IsValueIn plan.new) }
+    ensures grows { Grows plan.old plan.new }
     ensures keeps { IsTrue (S.tells store.old) → S.held store.new ≡ S.held store.old }
     ensures tells { S.tells store.new ≡ S.tells store.old }
     ensures tallied { Tallied (S.faults store.old) (S.faults store.new) result }
 {
-    match text_given(args, "name") {
-        Ok(name) => open_file(alloc, name, store),
+    match open_request(alloc, args) {
+        Ok(request) => open_file(alloc, &request.name, request.mask, store, plan),
+        Err(fault) => Err(Stopped::from(fault)),
+    }
+}
+
+// A function of values alone.
+fn value_function<R: Threads + Sync>(
+    rt: &R,
+    alloc: Global,
+    cx: &mut Cx<Whole>,
+    name: &TextBytes,
+    args: &Args,
+) -> Result<Value, Stopped>
+    requires sync { IsSync R.row }
+    requires inside { AreArgsIn cx.old.plan args.now }
+    ensures value { Gives (meaning cx.new.plan) result (function_over_values name.now (given cx.old.plan args.now)) }
+    ensures inside { IfOk result (IsValueIn cx.new.plan) }
+    ensures grows { Grows cx.old.plan cx.new.plan }
+{
+    match dataset_core::call_function(rt, alloc, cx, name, args) {
+        Ok(value) => Ok(value),
         Err(fault) => Err(Stopped::from(fault)),
     }
 }
 
 /// Calls a function by its name.
-#[tactic(auto, unfolding(xr_defs::specs::Calls::function))]
-pub(crate) fn call_function<S: Store>(
+#[tactic(auto, unfolding(xr_defs::specs::Calls::function_called, xr_defs::specs::Calls::open_dataset))]
+pub(crate) fn call_function<R: Threads + Sync, S: Store>(
+    rt: &R,
     alloc: Global,
     name: &TextBytes,
     args: &Args,
     store: &mut S,
+    cx: &mut Cx<Whole>,
 ) -> Result<Value, Stopped>
-    ensures value { IsTrue (S.tells store.old) → GivesOrFails meaning result (function (S.held store.old) name.now (given args.now)) }
+    requires sync { IsSync R.row }
+    requires inside { AreArgsIn cx.old.plan args.now }
+    ensures value { IsTrue (S.tells store.old) → GivesOrFails (meaning cx.new.plan) result (function_called (S.held store.old) name.now (given cx.old.plan args.now)) }
+    ensures inside { IfOk result (IsValueIn cx.new.plan) }
+    ensures grows { Grows cx.old.plan cx.new.plan }
     ensures keeps { IsTrue (S.tells store.old) → S.held store.new ≡ S.held store.old }
     ensures tells { S.tells store.new ≡ S.tells store.old }
     ensures tallied { Tallied (S.faults store.old) (S.faults store.new) result }
 {
     if name.as_str() == "open_dataset" {
-        open_dataset(alloc, args, store)
+        open_dataset(alloc, args, store, &mut cx.plan)
     } else {
-        Ok(interim_calls::call_function(alloc, name, args)?)
+        value_function(rt, alloc, cx, name, args)
     }
 }

@@ -1,6 +1,6 @@
 //! That a run has one end.
 ghost use Rattle.std.specs.Prelude.{◌≡◌, ℕ, List, Option};
-ghost use Rattle.xr_defs.specs.Opening.{Files};
+ghost use Rattle.xr_defs.specs.Stores.{Files};
 ghost use Rattle.xr_defs.specs.Runs.{Ended, Run};
 
 use xr_grammar::one_answer_fits;

@@ -10,6 +10,7 @@ mod message;
 mod names;
 mod outside;
 mod printed_name;
+mod printing;
 mod put_log;
 mod roomy_bytes;
 mod roomy_log;
@@ -19,6 +20,7 @@ mod stopped;
 mod top;
 mod words;
 mod write_all;
+mod writing;
 
 pub use laws::one_end_fits;
 pub use memory::{MemFile, MemSink, MemStore};

@@ -1,13 +1,14 @@
 //! The values of names.
-ghost use Rattle.std.specs.Prelude.{◌≡◌, None, option_map, OnOk, OnErr};
+ghost use Rattle.std.specs.Prelude.{◌≡◌, List, None, option_map, IfSome, OnOk, OnErr};
+ghost use Rattle.xr_defs.specs.declared.node.Node.{Node};
 ghost use Rattle.xr_defs.specs.Runs.{put};
-ghost use Rattle.interim_values.specs.Meaning.{meaning};
-ghost use Rattle.xr_run.specs.Named.{names_of};
+ghost use Rattle.xr_values.specs.Meaning.{meaning, IsValueIn};
+ghost use Rattle.xr_run.specs.Named.{names_of, AreNamesIn};
 
-use interim_values::Value;
 use std::alloc::{AllocError, Global};
 use std::collections::BTreeMap;
 use xr_types::TextBytes;
+use xr_values::Value;
 
 /// The value that each name stands for.
 #[derive(Drop)]
@@ -18,7 +19,8 @@ pub(crate) struct NameMap {
 impl NameMap {
     /// No names.
     pub(crate) fn new(alloc: Global) -> NameMap
-        ensures { names_of result ≡ λ name. None }
+        ensures none { (nodes : List Node) → names_of nodes result ≡ λ name. None }
+        ensures inside { (nodes : List Node) → AreNamesIn nodes result }
     {
         NameMap {
             values: BTreeMap::new(alloc),
@@ -27,7 +29,8 @@ impl NameMap {
 
     /// The value of a name.
     pub(crate) fn get(&self, name: &TextBytes) -> Option<&Value>
-        ensures { names_of self.now name.now ≡ option_map (λ v. meaning v.now) result }
+        ensures value { (nodes : List Node) → names_of nodes self.now name.now ≡ option_map (λ v. meaning nodes v.now) result }
+        ensures inside { IfSome result (λ v. (nodes : List Node) → AreNamesIn nodes self.now → IsValueIn nodes v.now) }
     {
         self.values.get(name.as_str())
     }
@@ -39,8 +42,10 @@ impl NameMap {
         name: &TextBytes,
         value: Value,
     ) -> Result<(), AllocError>
-        ensures ok { OnOk result (names_of self.new ≡ put (names_of self.old) name.now (meaning value)) }
-        ensures err { OnErr result (names_of self.new ≡ names_of self.old) }
+        ensures ok { OnOk result ((nodes : List Node) → names_of nodes self.new ≡ put (names_of nodes self.old) name.now (meaning nodes value)) }
+        ensures inside { OnOk result ((nodes : List Node) → AreNamesIn nodes self.old → IsValueIn nodes value → AreNamesIn nodes self.new) }
+        ensures err { OnErr result ((nodes : List Node) → names_of nodes self.new ≡ names_of nodes self.old) }
+        ensures err_inside { OnErr result ((nodes : List Node) → AreNamesIn nodes self.old → AreNamesIn nodes self.new) }
     {
         let key = String::from_str(alloc, name.as_str())?;
         match self.values.insert(key, value) {

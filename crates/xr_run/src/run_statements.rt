@@ -1,5 +1,6 @@
 //! Carries out the statements of a script in order.
 ghost use Rattle.std.specs.Prelude.{◌≡◌, map, IsTrue};
+ghost use denote.Param.Send.{IsSync};
 ghost use Rattle.xr_defs.specs.Syntax.{line_of};
 ghost use Rattle.xr_defs.specs.Runs.{run_from, start};
 ghost use Rattle.xr_run.specs.Ends.{Ends, StatementsKeep, StatusTallied, Untouched, status_of};
@@ -8,9 +9,12 @@ use crate::names::NameMap;
 use crate::outside::{Sink, Store};
 use crate::step::step;
 use crate::stopped::Stopped;
+use plan_core::{Plan, Whole};
 use std::alloc::Global;
+use std::thread::Threads;
 use xr_defs::Statement;
 use xr_types::Status;
+use xr_values::Cx;
 
 // How a run ends that stops at the statement of this number.
 fn status_of(stopped: Stopped, number: u32) -> Status
@@ -24,12 +28,14 @@ fn status_of(stopped: Stopped, number: u32) -> Status
 }
 
 /// Carries out the statements in order, up to the first that is refused.
-pub(crate) fn run_statements<S: Store, O: Sink>(
+pub(crate) fn run_statements<R: Threads + Sync, S: Store, O: Sink>(
+    rt: &R,
     alloc: Global,
     statements: &[Statement],
     store: &mut S,
     out: &mut O,
 ) -> Status
+    requires sync { IsSync R.row }
     ensures ends { IsTrue (S.tells store.old) → Ends (run_from 1 (map line_of statements.now) (start (S.held store.old))) (S.held store.new) (O.tells out.old) (O.taken out.old) (O.taken out.new) result }
     ensures keeps { IsTrue (S.tells store.old) → StatementsKeep (map line_of statements.now) (S.held store.old) (S.held store.new) }
     ensures store_tells { S.tells store.new ≡ S.tells store.old }
@@ -38,12 +44,16 @@ pub(crate) fn run_statements<S: Store, O: Sink>(
     ensures tallied { StatusTallied (S.faults store.old) (S.faults store.new) (O.faults out.old) (O.faults out.new) result }
 {
     let mut names = NameMap::new(alloc);
+    let mut cx = Cx {
+        plan: Plan::new(alloc),
+        compute: Whole,
+    };
     for (i, statement) in statements.iter().enumerate() {
         // No script has more statements than such a number counts.
         let Ok(number) = u32::try_from(i + 1) else {
             return Status::NoMemory;
         };
-        match step(alloc, statement, &mut names, store, out) {
+        match step(rt, alloc, statement, &mut names, store, out, &mut cx) {
             Ok(()) => {}
             Err(stopped) => return status_of(stopped, number),
         }

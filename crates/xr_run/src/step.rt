@@ -1,37 +1,50 @@
 //! Carries out one statement: what it does is found first, with each check, and then done.
-ghost use Rattle.std.specs.Prelude.{◌≡◌, IsTrue, codes};
+ghost use Rattle.std.specs.Prelude.{◌≡◌, List, IsTrue, IfOk, codes};
+ghost use denote.Param.Send.{IsSync};
+ghost use Rattle.xr_defs.specs.declared.node.Node.{Node};
 ghost use Rattle.xr_defs.specs.Syntax.{line_of, tree_of, all_arguments, Assigned, Aligned, Placed, Printed as a_print, Written as a_write, Call as a_call, Method as a_method};
+ghost use Rattle.plan_core.specs.Plans.{Grows};
 ghost use Rattle.xr_run.specs.Answers.{Tallied};
-ghost use Rattle.xr_run.specs.Named.{names_of};
-ghost use Rattle.xr_run.specs.Steps.{EffectIs, EffectFits, PerformIs, PerformKeeps, StepIs, StepKeeps, PerformTallied, BothTallied};
+ghost use Rattle.xr_run.specs.Named.{names_of, AreNamesIn};
+ghost use Rattle.xr_run.specs.Steps.{EffectIs, EffectFits, IsEffectIn, PerformIs, PerformKeeps, StepIs, StepKeeps, PerformTallied, BothTallied};
 
 use crate::effect::Effect;
 use crate::eval::{eval, eval_arguments};
 use crate::names::NameMap;
 use crate::outside::{Sink, Store};
+use crate::printing::printed;
 use crate::stopped::Stopped;
 use crate::write_all::write_all;
-use interim_calls::{file_written, printed};
+use crate::writing::written;
+use plan_core::Whole;
 use std::alloc::Global;
+use std::thread::Threads;
 use xr_defs::{Argument, Expr, Statement};
 use xr_types::{DeepCopy, Fault, TextBytes};
+use xr_values::Cx;
 
 // `name = expr`
 #[tactic(auto, unfolding(xr_defs::specs::Runs::step))]
-fn assign<S: Store>(
+fn assign<R: Threads + Sync, S: Store>(
+    rt: &R,
     alloc: Global,
     name: &TextBytes,
     expr: &Expr,
     names: &NameMap,
     store: &mut S,
+    cx: &mut Cx<Whole>,
 ) -> Result<Effect, Stopped>
-    ensures effect { IsTrue (S.tells store.old) → EffectIs (Assigned name.now (tree_of expr.now)) (names_of names.now) (S.held store.old) result }
+    requires sync { IsSync R.row }
+    requires inside { AreNamesIn cx.old.plan names.now }
+    ensures effect { IsTrue (S.tells store.old) → EffectIs cx.new.plan (Assigned name.now (tree_of expr.now)) (names_of cx.old.plan names.now) (S.held store.old) result }
     ensures fits { EffectFits (Assigned name.now (tree_of expr.now)) result }
+    ensures inside { IfOk result (IsEffectIn cx.new.plan) }
+    ensures grows { Grows cx.old.plan cx.new.plan }
     ensures keeps { IsTrue (S.tells store.old) → S.held store.new ≡ S.held store.old }
     ensures tells { S.tells store.new ≡ S.tells store.old }
     ensures tallied { Tallied (S.faults store.old) (S.faults store.new) result }
 {
-    match eval(alloc, expr, names, store) {
+    match eval(rt, alloc, expr, names, store, cx) {
         Ok(value) => Ok(Effect::Bind(name.deep_copy(alloc)?, value)),
         Err(stopped) => Err(stopped),
     }
@@ -39,21 +52,27 @@ fn assign<S: Store>(
 
 // `a, b = align(..)`. Nothing aligns so far.
 #[tactic(auto, unfolding(xr_defs::specs::Runs::step))]
-fn align<S: Store>(
+fn align<R: Threads + Sync, S: Store>(
+    rt: &R,
     alloc: Global,
     targets: &[TextBytes],
     arguments: &[Argument],
     names: &NameMap,
     store: &mut S,
+    cx: &mut Cx<Whole>,
 ) -> Result<Effect, Stopped>
-    ensures effect { IsTrue (S.tells store.old) → EffectIs (Aligned targets.now (a_call (codes "align") (all_arguments arguments.now))) (names_of names.now) (S.held store.old) result }
+    requires sync { IsSync R.row }
+    requires inside { AreNamesIn cx.old.plan names.now }
+    ensures effect { IsTrue (S.tells store.old) → EffectIs cx.new.plan (Aligned targets.now (a_call (codes "align") (all_arguments arguments.now))) (names_of cx.old.plan names.now) (S.held store.old) result }
     ensures fits { EffectFits (Aligned targets.now (a_call (codes "align") (all_arguments arguments.now))) result }
+    ensures inside { IfOk result (IsEffectIn cx.new.plan) }
+    ensures grows { Grows cx.old.plan cx.new.plan }
     ensures keeps { IsTrue (S.tells store.old) → S.held store.new ≡ S.held store.old }
     ensures tells { S.tells store.new ≡ S.tells store.old }
     ensures tallied { Tallied (S.faults store.old) (S.faults store.new) result }
 {
     let _ = targets;
-    match eval_arguments(alloc, arguments, names, store) {
+    match eval_arguments(rt, alloc, arguments, names, store, cx) {
         Ok(args) => {
             drop(args);
             Err(Stopped::Refused(Fault::UnknownName(TextBytes::from_str(alloc, "align")?)))
@@ -62,24 +81,30 @@ fn align<S: Store>(
     }
 }
 
-// `name["v"] = expr`. No name stands for a dataset so far.
+// `name["v"] = expr`. No variable is set in a dataset so far.
 #[tactic(auto, unfolding(xr_defs::specs::Runs::step))]
-fn place<S: Store>(
+fn place<R: Threads + Sync, S: Store>(
+    rt: &R,
     alloc: Global,
     name: &TextBytes,
     variable: &TextBytes,
     expr: &Expr,
     names: &NameMap,
     store: &mut S,
+    cx: &mut Cx<Whole>,
 ) -> Result<Effect, Stopped>
-    ensures effect { IsTrue (S.tells store.old) → EffectIs (Placed name.now variable.now (tree_of expr.now)) (names_of names.now) (S.held store.old) result }
+    requires sync { IsSync R.row }
+    requires inside { AreNamesIn cx.old.plan names.now }
+    ensures effect { IsTrue (S.tells store.old) → EffectIs cx.new.plan (Placed name.now variable.now (tree_of expr.now)) (names_of cx.old.plan names.now) (S.held store.old) result }
     ensures fits { EffectFits (Placed name.now variable.now (tree_of expr.now)) result }
+    ensures inside { IfOk result (IsEffectIn cx.new.plan) }
+    ensures grows { Grows cx.old.plan cx.new.plan }
     ensures keeps { IsTrue (S.tells store.old) → S.held store.new ≡ S.held store.old }
     ensures tells { S.tells store.new ≡ S.tells store.old }
     ensures tallied { Tallied (S.faults store.old) (S.faults store.new) result }
 {
     let _ = variable;
-    match eval(alloc, expr, names, store) {
+    match eval(rt, alloc, expr, names, store, cx) {
         Ok(value) => {
             drop(value);
             match names.get(name) {
@@ -93,45 +118,60 @@ fn place<S: Store>(
 
 // `print(expr)`
 #[tactic(auto, unfolding(xr_defs::specs::Runs::step))]
-fn print<S: Store>(
+fn print<R: Threads + Sync, S: Store>(
+    rt: &R,
     alloc: Global,
     expr: &Expr,
     names: &NameMap,
     store: &mut S,
+    cx: &mut Cx<Whole>,
 ) -> Result<Effect, Stopped>
-    ensures effect { IsTrue (S.tells store.old) → EffectIs (a_print (tree_of expr.now)) (names_of names.now) (S.held store.old) result }
+    requires sync { IsSync R.row }
+    requires inside { AreNamesIn cx.old.plan names.now }
+    ensures effect { IsTrue (S.tells store.old) → EffectIs cx.new.plan (a_print (tree_of expr.now)) (names_of cx.old.plan names.now) (S.held store.old) result }
     ensures fits { EffectFits (a_print (tree_of expr.now)) result }
+    ensures inside { IfOk result (IsEffectIn cx.new.plan) }
+    ensures grows { Grows cx.old.plan cx.new.plan }
     ensures keeps { IsTrue (S.tells store.old) → S.held store.new ≡ S.held store.old }
     ensures tells { S.tells store.new ≡ S.tells store.old }
     ensures tallied { Tallied (S.faults store.old) (S.faults store.new) result }
 {
-    match eval(alloc, expr, names, store) {
-        Ok(value) => Ok(Effect::Print(printed(alloc, &value)?)),
+    match eval(rt, alloc, expr, names, store, cx) {
+        Ok(value) => match printed(rt, alloc, cx, &value) {
+            Ok(text) => Ok(Effect::Print(text)),
+            Err(stopped) => Err(stopped),
+        },
         Err(stopped) => Err(stopped),
     }
 }
 
 // `receiver.to_netcdf(..)`
 #[tactic(auto, unfolding(xr_defs::specs::Runs::step))]
-fn write<S: Store>(
+fn write<R: Threads + Sync, S: Store>(
+    rt: &R,
     alloc: Global,
     receiver: &Expr,
     arguments: &[Argument],
     names: &NameMap,
     store: &mut S,
+    cx: &mut Cx<Whole>,
 ) -> Result<Effect, Stopped>
-    ensures effect { IsTrue (S.tells store.old) → EffectIs (a_write (a_method (tree_of receiver.now) (codes "to_netcdf") (all_arguments arguments.now))) (names_of names.now) (S.held store.old) result }
+    requires sync { IsSync R.row }
+    requires inside { AreNamesIn cx.old.plan names.now }
+    ensures effect { IsTrue (S.tells store.old) → EffectIs cx.new.plan (a_write (a_method (tree_of receiver.now) (codes "to_netcdf") (all_arguments arguments.now))) (names_of cx.old.plan names.now) (S.held store.old) result }
     ensures fits { EffectFits (a_write (a_method (tree_of receiver.now) (codes "to_netcdf") (all_arguments arguments.now))) result }
+    ensures inside { IfOk result (IsEffectIn cx.new.plan) }
+    ensures grows { Grows cx.old.plan cx.new.plan }
     ensures keeps { IsTrue (S.tells store.old) → S.held store.new ≡ S.held store.old }
     ensures tells { S.tells store.new ≡ S.tells store.old }
     ensures tallied { Tallied (S.faults store.old) (S.faults store.new) result }
 {
-    match eval(alloc, receiver, names, store) {
-        Ok(value) => match eval_arguments(alloc, arguments, names, store) {
-            Ok(args) => {
-                let (name, bytes) = file_written(alloc, &value, &args)?;
-                Ok(Effect::Write(name, bytes))
-            }
+    match eval(rt, alloc, receiver, names, store, cx) {
+        Ok(value) => match eval_arguments(rt, alloc, arguments, names, store, cx) {
+            Ok(args) => match written(rt, alloc, cx, &value, &args) {
+                Ok((name, bytes)) => Ok(Effect::Write(name, bytes)),
+                Err(stopped) => Err(stopped),
+            },
             Err(stopped) => Err(stopped),
         },
         Err(stopped) => Err(stopped),
@@ -139,33 +179,41 @@ fn write<S: Store>(
 }
 
 // What a statement does, after all its checks.
-fn effect_of<S: Store>(
+fn effect_of<R: Threads + Sync, S: Store>(
+    rt: &R,
     alloc: Global,
     statement: &Statement,
     names: &NameMap,
     store: &mut S,
+    cx: &mut Cx<Whole>,
 ) -> Result<Effect, Stopped>
-    ensures effect { IsTrue (S.tells store.old) → EffectIs (line_of statement.now) (names_of names.now) (S.held store.old) result }
+    requires sync { IsSync R.row }
+    requires inside { AreNamesIn cx.old.plan names.now }
+    ensures effect { IsTrue (S.tells store.old) → EffectIs cx.new.plan (line_of statement.now) (names_of cx.old.plan names.now) (S.held store.old) result }
     ensures fits { EffectFits (line_of statement.now) result }
+    ensures inside { IfOk result (IsEffectIn cx.new.plan) }
+    ensures grows { Grows cx.old.plan cx.new.plan }
     ensures keeps { IsTrue (S.tells store.old) → S.held store.new ≡ S.held store.old }
     ensures tells { S.tells store.new ≡ S.tells store.old }
     ensures tallied { Tallied (S.faults store.old) (S.faults store.new) result }
 {
     match statement {
-        Statement::Assign(name, expr) => assign(alloc, name, expr, names, store),
-        Statement::Align(targets, arguments) => {
-            align(
-                alloc,
-                targets.as_slice(),
-                arguments.as_slice(),
-                names,
-                store,
-            )
+        Statement::Assign(name, expr) => assign(rt, alloc, name, expr, names, store, cx),
+        Statement::Align(targets, arguments) => align(
+            rt,
+            alloc,
+            targets.as_slice(),
+            arguments.as_slice(),
+            names,
+            store,
+            cx,
+        ),
+        Statement::Set(name, variable, expr) => {
+            place(rt, alloc, name, variable, expr, names, store, cx)
         }
-        Statement::Set(name, variable, expr) => place(alloc, name, variable, expr, names, store),
-        Statement::Print(expr) => print(alloc, expr, names, store),
+        Statement::Print(expr) => print(rt, alloc, expr, names, store, cx),
         Statement::Write(receiver, arguments) => {
-            write(alloc, receiver, arguments.as_slice(), names, store)
+            write(rt, alloc, receiver, arguments.as_slice(), names, store, cx)
         }
     }
 }
@@ -178,7 +226,8 @@ fn perform<S: Store, O: Sink>(
     store: &mut S,
     out: &mut O,
 ) -> Result<(), Stopped>
-    ensures performs { IsTrue (S.tells store.old) → PerformIs effect (names_of names.old) (names_of names.new) (S.held store.old) (S.held store.new) (O.tells out.old) (O.taken out.old) (O.taken out.new) result }
+    ensures performs { (nodes : List Node) → IsTrue (S.tells store.old) → PerformIs nodes effect (names_of nodes names.old) (names_of nodes names.new) (S.held store.old) (S.held store.new) (O.tells out.old) (O.taken out.old) (O.taken out.new) result }
+    ensures inside { (nodes : List Node) → AreNamesIn nodes names.old → IsEffectIn nodes effect → AreNamesIn nodes names.new }
     ensures keeps { IsTrue (S.tells store.old) → PerformKeeps effect (S.held store.old) (S.held store.new) }
     ensures store_tells { S.tells store.new ≡ S.tells store.old }
     ensures out_tells { O.tells out.new ≡ O.tells out.old }
@@ -201,20 +250,26 @@ fn perform<S: Store, O: Sink>(
 }
 
 /// Carries out one statement.
-pub(crate) fn step<S: Store, O: Sink>(
+pub(crate) fn step<R: Threads + Sync, S: Store, O: Sink>(
+    rt: &R,
     alloc: Global,
     statement: &Statement,
     names: &mut NameMap,
     store: &mut S,
     out: &mut O,
+    cx: &mut Cx<Whole>,
 ) -> Result<(), Stopped>
-    ensures step { IsTrue (S.tells store.old) → StepIs (line_of statement.now) (names_of names.old) (names_of names.new) (S.held store.old) (S.held store.new) (O.tells out.old) (O.taken out.old) (O.taken out.new) result }
-    ensures keeps { IsTrue (S.tells store.old) → StepKeeps (line_of statement.now) (names_of names.old) (S.held store.old) (S.held store.new) }
+    requires sync { IsSync R.row }
+    requires inside { AreNamesIn cx.old.plan names.old }
+    ensures step { IsTrue (S.tells store.old) → StepIs (line_of statement.now) (names_of cx.old.plan names.old) (names_of cx.new.plan names.new) (S.held store.old) (S.held store.new) (O.tells out.old) (O.taken out.old) (O.taken out.new) result }
+    ensures inside { AreNamesIn cx.new.plan names.new }
+    ensures grows { Grows cx.old.plan cx.new.plan }
+    ensures keeps { IsTrue (S.tells store.old) → StepKeeps (line_of statement.now) (names_of cx.old.plan names.old) (S.held store.old) (S.held store.new) }
     ensures store_tells { S.tells store.new ≡ S.tells store.old }
     ensures out_tells { O.tells out.new ≡ O.tells out.old }
     ensures tallied { BothTallied (S.faults store.old) (S.faults store.new) (O.faults out.old) (O.faults out.new) result }
 {
-    match effect_of(alloc, statement, names, store) {
+    match effect_of(rt, alloc, statement, names, store, cx) {
         Ok(effect) => perform(alloc, effect, names, store, out),
         Err(stopped) => Err(stopped),
     }

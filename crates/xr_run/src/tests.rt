@@ -4,37 +4,89 @@ use std::test::*;
 use xr_types::{Status, TextBytes};
 
 // The file of one variable `v` over `x` that holds 1, 2 and 3.
-const FILE: [u8; 92] = [
-    67, 68, 70, 1, 0, 0, 0, 0, 0, 0, 0, 10, 0, 0, 0, 1, 0, 0, 0, 1, 120, 0, 0, 0, 0, 0, 0, 3, 0, 0,
-    0, 0, 0, 0, 0, 0, 0, 0, 0, 11, 0, 0, 0, 1, 0, 0, 0, 1, 118, 0, 0, 0, 0, 0, 0, 1, 0, 0, 0, 0, 0,
-    0, 0, 0, 0, 0, 0, 0, 0, 0, 0, 4, 0, 0, 0, 12, 0, 0, 0, 80, 0, 0, 0, 1, 0, 0, 0, 2, 0, 0, 0, 3,
-];
+const FILE: &str =
+    "43444601000000000000000a0000000100000001780000000000000300000000000000000000000b00000001000000017600000000000001000000000000000000000000000000040000000c00000050000000010000000200000003";
 
-// That of its last two numbers: the dimension's length, the size and the numbers are others.
-const PART: [u8; 88] = [
-    67, 68, 70, 1, 0, 0, 0, 0, 0, 0, 0, 10, 0, 0, 0, 1, 0, 0, 0, 1, 120, 0, 0, 0, 0, 0, 0, 2, 0, 0,
-    0, 0, 0, 0, 0, 0, 0, 0, 0, 11, 0, 0, 0, 1, 0, 0, 0, 1, 118, 0, 0, 0, 0, 0, 0, 1, 0, 0, 0, 0, 0,
-    0, 0, 0, 0, 0, 0, 0, 0, 0, 0, 4, 0, 0, 0, 8, 0, 0, 0, 80, 0, 0, 0, 2, 0, 0, 0, 3,
-];
+// That of its last two numbers.
+const PART: &str =
+    "43444601000000000000000a0000000100000001780000000000000200000000000000000000000b000000010000000176000000000000010000000000000000000000000000000400000008000000500000000200000003";
+
+// A variable of bytes and one of four bytes along the records, each record padded.
+const TWO_RECORDS: &str =
+    "43444601000000030000000a0000000100000001740000000000000000000000000000000000000b00000002000000016200000000000001000000000000000000000000000000010000000400000074000000016900000000000001000000000000000000000000000000040000000400000078018181810000000a0281818100000014038181810000001e";
+
+// A lone variable of two bytes along the records, which isn't padded.
+const LONE_RECORD: &str =
+    "43444601000000030000000a0000000100000001740000000000000000000000000000000000000b00000001000000017300000000000001000000000000000000000000000000030000000400000050000100020003";
+
+// A file whose header leaves the number of records open.
+const STREAMED: &str =
+    "43444601ffffffff0000000a0000000100000001740000000000000000000000000000000000000b00000002000000016200000000000001000000000000000000000000000000010000000400000074000000016900000000000001000000000000000000000000000000040000000400000078018181810000000a028181810000001403";
+
+// The file of nothing.
+const EMPTY: &str = "4344460100000000000000000000000000000000000000000000000000000000";
+
+// Short values with a fill value and a scale, along records, with an axis of numbers and two of another type.
+const MASKED: &str =
+    "43444601000000040000000a000000030000000474696d6500000000000000036c61740000000002000000036c6f6e000000000200000000000000000000000b00000004000000036c61740000000001000000010000000000000000000000050000000800000140000000036c6f6e00000000010000000200000000000000000000000500000008000001480000000474696d6500000001000000000000000c0000000100000005756e6974730000000000000200000015646179732073696e636520313930302d30312d30310000000000000400000004000001500000000174000000000000030000000000000001000000020000000c000000020000000a5f46696c6c56616c756500000000000300000001fc1900000000000c7363616c655f666163746f720000000500000001000000000000000300000008000001540000000000000000000000000000000000000000000100020003fc190000000f0004fc190002fc190000001f00050006000700080000002d00010009fc190003";
+
+// A variable whose second cell is missing.
+const FILLED: &str =
+    "43444601000000000000000a0000000100000001780000000000000200000000000000000000000b00000001000000017600000000000001000000000000000c000000010000000a5f46696c6c56616c756500000000000400000001ffffffff00000004000000080000006c00000001ffffffff";
 
 const SUM: &str = "print(open_dataset(\"a.nc\")[\"v\"].sum())\n";
 
 const USAGE: &str = "xrs: usage: xrs [--workers N] [--chunk N] SCRIPT | --demo N\n";
 
-// A store of the files a.nc and s.xrs, which take its first two puts.
+// A list of files by their names, with their bytes in hexadecimal digits.
+type Files<'a> = &'a [(&'a str, &'a str)];
+
+// The bytes that hexadecimal digits stand for.
+fn bytes_of(alloc: std::alloc::Global, digits: &str) -> Result<Vec<u8>, Fail> {
+    let mut out = Vec::new(alloc);
+    let mut first = None;
+    for digit in digits.as_bytes() {
+        let number = match *digit {
+            b'0'..=b'9' => *digit - b'0',
+            b'a'..=b'f' => *digit - b'a' + 10,
+            _ => return Err(Fail::from("no digit")),
+        };
+        match first {
+            None => first = Some(number),
+            Some(high) => {
+                out.push((high << 4) | number).ok().ok_or("memory")?;
+                first = None;
+            }
+        }
+    }
+    Ok(out)
+}
+
+fn name_of(alloc: std::alloc::Global, name: &str) -> Result<TextBytes, Fail> {
+    Ok(TextBytes::from_str(alloc, name).ok().ok_or("memory")?)
+}
+
+// A store of these files and the script s.xrs, which take its first puts.
 fn stored(
     alloc: std::alloc::Global,
-    file: &[u8],
+    files: Files,
     script: &str,
     failing: &[u64],
 ) -> Result<MemStore, Fail> {
     let mut store = MemStore::new(alloc, &[], 65536, failing)
         .ok()
         .ok_or("memory")?;
-    let a = TextBytes::from_str(alloc, "a.nc").ok().ok_or("memory")?;
-    let s = TextBytes::from_str(alloc, "s.xrs").ok().ok_or("memory")?;
-    store.put(&a, file).ok().ok_or("put")?;
-    store.put(&s, script.as_bytes()).ok().ok_or("put")?;
+    for file in files {
+        let bytes = bytes_of(alloc, file.1)?;
+        store
+            .put(&name_of(alloc, file.0)?, &bytes)
+            .ok()
+            .ok_or("put")?;
+    }
+    store
+        .put(&name_of(alloc, "s.xrs")?, script.as_bytes())
+        .ok()
+        .ok_or("put")?;
     Ok(store)
 }
 
@@ -55,17 +107,18 @@ fn run_over<R: std::thread::Threads + Sync + AllocGlobal>(
     Ok(run(rt, alloc, &all, store, out, err, &NoGate))
 }
 
-// Runs a script over a.nc: the text, the line and the exit number.
+// Runs a script over these files: the text, the line, the exit number, and files that it leaves.
 fn check<R: std::thread::Threads + Sync + AllocGlobal>(
     rt: &R,
-    file: &[u8],
+    files: Files,
     script: &str,
     text: &str,
     line: &str,
     number: u8,
+    written: Files,
 ) -> Result<(), Fail> {
     let alloc = rt.alloc();
-    let mut store = stored(alloc, file, script, &[])?;
+    let mut store = stored(alloc, files, script, &[])?;
     let mut out = MemSink::new(alloc, 65536, &[]).ok().ok_or("memory")?;
     let mut err = MemSink::new(alloc, 65536, &[]).ok().ok_or("memory")?;
     let status = run_over(rt, &["xrs", "s.xrs"], &mut store, &mut out, &mut err)?;
@@ -77,6 +130,233 @@ fn check<R: std::thread::Threads + Sync + AllocGlobal>(
     }
     if err.taken() != line.as_bytes() {
         return Err(Fail::from("another line"));
+    }
+    for file in written {
+        let bytes = bytes_of(alloc, file.1)?;
+        if store.bytes_of(&name_of(alloc, file.0)?).ok_or("no file")? != bytes.as_slice() {
+            return Err(Fail::from("another file"));
+        }
+    }
+    Ok(())
+}
+
+type Case<'a> = (Files<'a>, &'a str, &'a str, &'a str, u8, Files<'a>);
+
+#[test]
+fn opened(rt: HostRuntime) -> Result<(), Fail> {
+    let cases: [Case; 13] = [
+        (
+            &[("e.nc", EMPTY)],
+            "print(open_dataset(\"e.nc\"))",
+            "Dataset\n",
+            "",
+            0,
+            &[],
+        ),
+        (
+            &[("a.nc", FILE)],
+            "print(open_dataset(\"a.nc\")[\"v\"].sum())",
+            "DataArray v () int64\n6\n",
+            "",
+            0,
+            &[],
+        ),
+        (
+            &[("a.nc", FILE)],
+            "print(open_dataset(\"a.nc\")[\"w\"].sum())",
+            "",
+            "xrs: statement 1: F2 no variable w\n",
+            1,
+            &[],
+        ),
+        (
+            &[("f.nc", TWO_RECORDS)],
+            "\nprint(open_dataset(\"f.nc\")[\"b\"])\n",
+            "DataArray b (t: 3) int8\n1 2 3\n",
+            "",
+            0,
+            &[],
+        ),
+        (
+            &[("f.nc", TWO_RECORDS)],
+            "\nprint(open_dataset(\"f.nc\")[\"i\"])\n",
+            "DataArray i (t: 3) int32\n10 20 30\n",
+            "",
+            0,
+            &[],
+        ),
+        (
+            &[("f.nc", LONE_RECORD)],
+            "\nprint(open_dataset(\"f.nc\")[\"s\"])\n",
+            "DataArray s (t: 3) int16\n1 2 3\n",
+            "",
+            0,
+            &[],
+        ),
+        (
+            &[("f.nc", STREAMED)],
+            "\nprint(open_dataset(\"f.nc\")[\"b\"])\n",
+            "DataArray b (t: 2) int8\n1 2\n",
+            "",
+            0,
+            &[],
+        ),
+        (
+            &[("f.nc", STREAMED)],
+            "\nprint(open_dataset(\"f.nc\")[\"i\"])\n",
+            "DataArray i (t: 2) int32\n10 20\n",
+            "",
+            0,
+            &[],
+        ),
+        (
+            &[(
+                "a.nc",
+                "43444601000000000000000a0000000100000001780000000000000300000000000000000000000b00000001000000017600000000000001000000000000000000000000000000040000000c000000500000000100000002000000",
+            )],
+            "x = open_dataset(\"a.nc\")",
+            "",
+            "xrs: statement 1: F24 bad file: CutData at 91\n",
+            1,
+            &[],
+        ),
+        (
+            &[(
+                "a.nc",
+                "43444601000000000000000a0000000100000001780000000000000300000000000000000000000b00000001000000017600",
+            )],
+            "x = open_dataset(\"a.nc\")",
+            "",
+            "xrs: statement 1: F24 bad file: CutHeader at 50\n",
+            1,
+            &[],
+        ),
+        (
+            &[("a.nc", "")],
+            "x = open_dataset(\"a.nc\")",
+            "",
+            "xrs: statement 1: F24 bad file: BadMagic at 0\n",
+            1,
+            &[],
+        ),
+        (
+            &[("t.nc", MASKED)],
+            "print(open_dataset(\"t.nc\", mask=True))",
+            "Dataset\ndim time: 4\ndim lat: 2\ndim lon: 2\ncoord time int32 (time): 0 15 31 45\nvar t int16 (time, lat, lon) masked\nskipped lat\nskipped lon\n",
+            "",
+            0,
+            &[],
+        ),
+        (
+            &[("t.nc", MASKED)],
+            "print(open_dataset(\"t.nc\", mask=True)[\"lat\"])",
+            "",
+            "xrs: statement 1: F26 variable not loaded lat\n",
+            1,
+            &[],
+        ),
+    ];
+    for (files, script, text, line, number, written) in cases {
+        check(&rt, files, script, text, line, number, written)?;
+    }
+    Ok(())
+}
+
+#[test]
+fn built(rt: HostRuntime) -> Result<(), Fail> {
+    let cases: [Case; 12] = [
+        (
+            &[],
+            "a = DataArray([10, 20, 30], dims=[\"x\"], coords={\"x\": [1, 2, 3]})",
+            "",
+            "xrs: statement 1: F5 bad argument\n",
+            1,
+            &[],
+        ),
+        (
+            &[],
+            "a = DataArray([10, 20, 30], dims=[\"x\"])\nprint(a.isel(x=-1))",
+            "DataArray - () int64\n30\n",
+            "",
+            0,
+            &[],
+        ),
+        (
+            &[],
+            "a = DataArray([10, 20, 30], dims=[\"x\"])\nb = a.isel(x=3)",
+            "",
+            "xrs: statement 2: F7 position out of range\n",
+            1,
+            &[],
+        ),
+        (
+            &[],
+            "a = DataArray([10, 20, 30], dims=[\"x\"])\nb = a.isel(y=0)",
+            "",
+            "xrs: statement 2: F3 no dimension y\n",
+            1,
+            &[],
+        ),
+        (
+            &[("a.nc", FILE)],
+            "n = DataArray([1, NA], dims=[\"x\"], name=\"v\")\nn.to_netcdf(\"a.nc\")",
+            "",
+            "xrs: statement 2: F20 no fill value\n",
+            1,
+            &[],
+        ),
+        (
+            &[("a.nc", FILE)],
+            "n = DataArray([1, NA], dims=[\"x\"], name=\"v\")\nn.to_netcdf(\"a.nc\", fill_value=1)",
+            "",
+            "xrs: statement 2: F19 cell equals the fill value\n",
+            1,
+            &[],
+        ),
+        (
+            &[],
+            "n = DataArray([1, NA], dims=[\"x\"], name=\"v\")\nn.to_netcdf(\"a.nc\", fill_value=-1)\nprint(open_dataset(\"a.nc\", mask=True)[\"v\"])\n",
+            "DataArray v (x: 2) int32 masked\n1 NA\nattr _FillValue int: -1\n",
+            "",
+            0,
+            &[("a.nc", FILLED)],
+        ),
+        (
+            &[("a.nc", FILE)],
+            "o = open_dataset(\"a.nc\")[\"v\"]\np = o.isel(x=slice(1, 3))\nprint(p)\np.to_netcdf(\"c.nc\")\no.to_netcdf(\"d.nc\")\n",
+            "DataArray v (x: 2) int32\n2 3\n",
+            "",
+            0,
+            &[("c.nc", PART), ("d.nc", FILE)],
+        ),
+        (
+            &[],
+            "print(1)\nprint(q)\n",
+            "1\n",
+            "xrs: statement 2: F1 unknown name q\n",
+            1,
+            &[],
+        ),
+        (
+            &[],
+            "print(1)\nx = = 3\n",
+            "",
+            "xrs: line 2: bad syntax\n",
+            2,
+            &[],
+        ),
+        (&[], "x = 1 $", "", "xrs: line 1: bad token\n", 2, &[]),
+        (
+            &[("a.nc", FILE)],
+            "o = open_dataset(\"a.nc\")[\"v\"]\no.isel(x=slice(1, 3)).to_netcdf(\"a.nc\")\nprint(o)\nprint(open_dataset(\"a.nc\")[\"v\"])\n",
+            "DataArray v (x: 3) int32\n1 2 3\nDataArray v (x: 2) int32\n2 3\n",
+            "",
+            0,
+            &[("a.nc", PART)],
+        ),
+    ];
+    for (files, script, text, line, number, written) in cases {
+        check(&rt, files, script, text, line, number, written)?;
     }
     Ok(())
 }
@@ -158,7 +438,7 @@ fn scripts(rt: HostRuntime) -> Result<(), Fail> {
             1,
         ),
         ("x = open_dataset()", "", bad_argument, 1),
-        ("x = open_dataset(\"a.nc\", mask=True)", "", bad_argument, 1),
+        ("x = open_dataset(\"a.nc\", mask=1)", "", wrong_kind, 1),
         ("x = open_dataset(file=\"a.nc\")", "", bad_argument, 1),
         ("x = open_dataset(1)", "", wrong_kind, 1),
         (
@@ -193,25 +473,7 @@ fn scripts(rt: HostRuntime) -> Result<(), Fail> {
         ),
     ];
     for (script, text, line, number) in cases {
-        check(&rt, &FILE, script, text, line, number)?;
-    }
-    let cut: [(&[u8], &str); 4] = [
-        (
-            &FILE[..91],
-            "xrs: statement 1: F24 bad file: CutData at 91\n",
-        ),
-        (
-            &FILE[..50],
-            "xrs: statement 1: F24 bad file: CutHeader at 50\n",
-        ),
-        (
-            &FILE[..3],
-            "xrs: statement 1: F24 bad file: BadMagic at 0\n",
-        ),
-        (&[], "xrs: statement 1: F24 bad file: BadMagic at 0\n"),
-    ];
-    for (file, line) in cut {
-        check(&rt, file, SUM, "", line, 1)?;
+        check(&rt, &[("a.nc", FILE)], script, text, line, number, &[])?;
     }
     Ok(())
 }
@@ -237,7 +499,7 @@ fn words(rt: HostRuntime) -> Result<(), Fail> {
         (&["xrs", "a\tb"], "", "xrs: no script a\\x09b\n", 2),
     ];
     for (words, text, line, number) in cases {
-        let mut store = stored(alloc, &FILE, SUM, &[])?;
+        let mut store = stored(alloc, &[("a.nc", FILE)], SUM, &[])?;
         let mut out = MemSink::new(alloc, 4096, &[]).ok().ok_or("memory")?;
         let mut err = MemSink::new(alloc, 4096, &[]).ok().ok_or("memory")?;
         let status = run_over(&rt, words, &mut store, &mut out, &mut err)?;
@@ -245,32 +507,6 @@ fn words(rt: HostRuntime) -> Result<(), Fail> {
         assert_eq!(rt; out.taken(), text.as_bytes());
         assert_eq!(rt; err.taken(), line.as_bytes());
     }
-    Ok(())
-}
-
-#[test]
-fn files(rt: HostRuntime) -> Result<(), Fail> {
-    let alloc = rt.alloc();
-    let script =
-        "o = open_dataset(\"a.nc\")[\"v\"]\np = o.isel(x=slice(1, 3))\nprint(p)\np.to_netcdf(\"c.nc\")\no.to_netcdf(\"d.nc\")\np.to_netcdf(\"a.nc\")\nprint(o)\nprint(open_dataset(\"a.nc\")[\"v\"])\nq = o.isel(y=slice(1))\nprint(1)\n";
-    let text =
-        "DataArray v (x: 2) int32\n2 3\nDataArray v (x: 3) int32\n1 2 3\nDataArray v (x: 2) int32\n2 3\n";
-    let mut store = stored(alloc, &FILE, script, &[])?;
-    let mut out = MemSink::new(alloc, 4096, &[]).ok().ok_or("memory")?;
-    let mut err = MemSink::new(alloc, 4096, &[]).ok().ok_or("memory")?;
-    let status = run_over(&rt, &["xrs", "s.xrs"], &mut store, &mut out, &mut err)?;
-    assert_eq!(rt; exit_number(&status), 1);
-    assert_eq!(rt; out.taken(), text.as_bytes());
-    assert_eq!(rt;
-        err.taken(),
-        b"xrs: statement 9: F3 no dimension y\n".as_slice()
-    );
-    let a = TextBytes::from_str(alloc, "a.nc").ok().ok_or("memory")?;
-    let c = TextBytes::from_str(alloc, "c.nc").ok().ok_or("memory")?;
-    let d = TextBytes::from_str(alloc, "d.nc").ok().ok_or("memory")?;
-    assert_eq!(rt; store.bytes_of(&a).ok_or("a.nc")?, PART.as_slice());
-    assert_eq!(rt; store.bytes_of(&c).ok_or("c.nc")?, PART.as_slice());
-    assert_eq!(rt; store.bytes_of(&d).ok_or("d.nc")?, FILE.as_slice());
     Ok(())
 }
 
@@ -288,15 +524,16 @@ fn failures(rt: HostRuntime) -> Result<(), Fail> {
         (&[5], &[], &[1], "", "", 3),
     ];
     for (store_fails, out_fails, err_fails, text, line, number) in cases {
-        let mut store = stored(alloc, &FILE, script, store_fails)?;
+        let mut store = stored(alloc, &[("a.nc", FILE)], script, store_fails)?;
         let mut out = MemSink::new(alloc, 4096, out_fails).ok().ok_or("memory")?;
         let mut err = MemSink::new(alloc, 4096, err_fails).ok().ok_or("memory")?;
         let status = run_over(&rt, &["xrs", "s.xrs"], &mut store, &mut out, &mut err)?;
         assert_eq!(rt; exit_number(&status), number);
         assert_eq!(rt; out.taken(), text.as_bytes());
         assert_eq!(rt; err.taken(), line.as_bytes());
-        let a = TextBytes::from_str(alloc, "a.nc").ok().ok_or("memory")?;
-        assert_eq!(rt; store.bytes_of(&a).ok_or("a.nc")?, FILE.as_slice());
+        let file = bytes_of(alloc, FILE)?;
+        let a = name_of(alloc, "a.nc")?;
+        assert_eq!(rt; store.bytes_of(&a).ok_or("a.nc")?, file.as_slice());
     }
     one_end_fits();
     Ok(())
@@ -348,29 +585,9 @@ fn limits(rt: HostRuntime) -> Result<(), Fail> {
     ];
     for (front, piece, times, end, line, number) in cases {
         let script = long(alloc, front, piece, times, end)?;
-        check(&rt, &FILE, &script, "", line, number)?;
+        check(&rt, &[], &script, "", line, number, &[])?;
     }
     let open = long(alloc, "print(", "(", 63, "7")?;
     let script = long(alloc, &open, ")", 64, "\n")?;
-    check(&rt, &FILE, &script, "7\n", "", 0)
-}
-
-#[test]
-fn refused_at_the_third_line(rt: HostRuntime) -> Result<(), Fail> {
-    let script =
-        "o = open_dataset(\"a.nc\")[\"v\"]\nprint(1)\no.isel(x=slice(0)).to_netcdf(\"b.nc\")\nprint(2)\no.to_netcdf(\"b.nc\")\n";
-    let alloc = rt.alloc();
-    let mut store = stored(alloc, &FILE, script, &[])?;
-    let mut out = MemSink::new(alloc, 4096, &[]).ok().ok_or("memory")?;
-    let mut err = MemSink::new(alloc, 4096, &[]).ok().ok_or("memory")?;
-    let status = run_over(&rt, &["xrs", "s.xrs"], &mut store, &mut out, &mut err)?;
-    assert_eq!(rt; exit_number(&status), 1);
-    assert_eq!(rt; out.taken(), b"1\n".as_slice());
-    assert_eq!(rt;
-        err.taken(),
-        b"xrs: statement 3: F21 format cannot hold it\n".as_slice()
-    );
-    let b = TextBytes::from_str(alloc, "b.nc").ok().ok_or("memory")?;
-    assert!(rt; store.bytes_of(&b).is_none());
-    Ok(())
+    check(&rt, &[], &script, "7\n", "", 0, &[])
 }

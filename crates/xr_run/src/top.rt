@@ -1,5 +1,6 @@
 //! The top call.
 ghost use Rattle.std.specs.Prelude.{◌≡◌, Some, IsTrue};
+ghost use denote.Param.Send.{IsSync};
 ghost use Rattle.xr_run.specs.Words.{script_word as named_script};
 ghost use Rattle.xr_run.specs.Ends.{ScriptEnds, CommandEnds, ScriptKeeps, CommandKeeps, StatusTallied, Untouched};
 ghost use Rattle.xr_run.specs.Top.{RunEnds, RunCounted, unsaid, exit_of};
@@ -15,7 +16,14 @@ use xr_script::{ParseFault, parse};
 use xr_types::{MOST_SCRIPT_BYTES, ScriptFault, ScriptKind, Status, TextBytes};
 
 // The run of a script of these bytes.
-fn run_bytes<S: Store, O: Sink>(alloc: Global, bytes: &[u8], store: &mut S, out: &mut O) -> Status
+fn run_bytes<R: Threads + Sync, S: Store, O: Sink>(
+    rt: &R,
+    alloc: Global,
+    bytes: &[u8],
+    store: &mut S,
+    out: &mut O,
+) -> Status
+    requires sync { IsSync R.row }
     ensures ends { IsTrue (S.tells store.old) → ScriptEnds (S.held store.old) bytes.now (S.held store.new) (O.tells out.old) (O.taken out.old) (O.taken out.new) result }
     ensures keeps { IsTrue (S.tells store.old) → ScriptKeeps (S.held store.old) bytes.now (S.held store.new) }
     ensures store_tells { S.tells store.new ≡ S.tells store.old }
@@ -24,19 +32,21 @@ fn run_bytes<S: Store, O: Sink>(alloc: Global, bytes: &[u8], store: &mut S, out:
     ensures tallied { StatusTallied (S.faults store.old) (S.faults store.new) (O.faults out.old) (O.faults out.new) result }
 {
     match parse(alloc, bytes) {
-        Ok(script) => run_statements(alloc, script.statements.as_slice(), store, out),
+        Ok(script) => run_statements(rt, alloc, script.statements.as_slice(), store, out),
         Err(ParseFault::Script(fault)) => Status::BadScript(fault),
         Err(ParseFault::NoMemory) => Status::NoMemory,
     }
 }
 
 // The run of the script of a name.
-fn run_named<S: Store, O: Sink>(
+fn run_named<R: Threads + Sync, S: Store, O: Sink>(
+    rt: &R,
     alloc: Global,
     name: &TextBytes,
     store: &mut S,
     out: &mut O,
 ) -> Status
+    requires sync { IsSync R.row }
     ensures ends { IsTrue (S.tells store.old) → CommandEnds (S.held store.old) (Some name.now) (S.held store.new) (O.tells out.old) (O.taken out.old) (O.taken out.new) result }
     ensures keeps { IsTrue (S.tells store.old) → CommandKeeps (S.held store.old) (Some name.now) (S.held store.new) }
     ensures store_tells { S.tells store.new ≡ S.tells store.old }
@@ -45,7 +55,7 @@ fn run_named<S: Store, O: Sink>(
     ensures tallied { StatusTallied (S.faults store.old) (S.faults store.new) (O.faults out.old) (O.faults out.new) result }
 {
     match store.get(alloc, name, MOST_SCRIPT_BYTES as u64) {
-        Ok(Got::Found(bytes)) => run_bytes(alloc, &bytes, store, out),
+        Ok(Got::Found(bytes)) => run_bytes(rt, alloc, &bytes, store, out),
         Ok(Got::Absent) => Status::NoScript,
         Ok(Got::TooLong) => Status::BadScript(ScriptFault {
             kind: ScriptKind::TooMany,
@@ -57,12 +67,14 @@ fn run_named<S: Store, O: Sink>(
 }
 
 // All of the run but the words and the line on the error sink.
-fn work<S: Store, O: Sink>(
+fn work<R: Threads + Sync, S: Store, O: Sink>(
+    rt: &R,
     alloc: Global,
     script: &Option<TextBytes>,
     store: &mut S,
     out: &mut O,
 ) -> Status
+    requires sync { IsSync R.row }
     ensures ends { IsTrue (S.tells store.old) → CommandEnds (S.held store.old) script.now (S.held store.new) (O.tells out.old) (O.taken out.old) (O.taken out.new) result }
     ensures keeps { IsTrue (S.tells store.old) → CommandKeeps (S.held store.old) script.now (S.held store.new) }
     ensures store_tells { S.tells store.new ≡ S.tells store.old }
@@ -71,7 +83,7 @@ fn work<S: Store, O: Sink>(
     ensures tallied { StatusTallied (S.faults store.old) (S.faults store.new) (O.faults out.old) (O.faults out.new) result }
 {
     match script {
-        Some(name) => run_named(alloc, name, store, out),
+        Some(name) => run_named(rt, alloc, name, store, out),
         None => Status::BadWords,
     }
 }
@@ -109,7 +121,7 @@ fn unsaid(status: Status) -> Status
 /// Each answer but `Storage` and `NoMemory` comes exactly where the one end that the run has by the definitions is so:
 /// `one_end_fits` says that there is no other.
 pub fn run<R: Threads + Sync, S: Store, O: Sink, E: Sink, G: Gate>(
-    _rt: &R,
+    rt: &R,
     alloc: Global,
     words: &[TextBytes],
     store: &mut S,
@@ -134,7 +146,7 @@ pub fn run<R: Threads + Sync, S: Store, O: Sink, E: Sink, G: Gate>(
         let _ = write_all(err, b"xrs: out of memory\n");
         return Status::NoMemory;
     };
-    let status = work(alloc, &script, store, out);
+    let status = work(rt, alloc, &script, store, out);
     let Ok(text) = status_line(alloc, &script, &status) else {
         let _ = write_all(err, b"xrs: out of memory\n");
         return Status::NoMemory;

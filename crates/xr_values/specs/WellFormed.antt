@@ -17,10 +17,11 @@ use Rattle.xr_defs.specs.Points.{size}
 use Rattle.xr_defs.specs.Arrays.{IsCell}
 use Rattle.xr_defs.specs.Classic.{among, attr_names, is_name, width}
 use Rattle.xr_defs.specs.Canonical.{are_distinct}
-use Rattle.xr_defs.specs.Opening.{most_cells, most_dimensions, most_variables}
+use Rattle.xr_defs.specs.Limits.{most_cells, most_dimensions, most_variables}
 use Rattle.xr_defs.specs.Values.{DataArray, Dataset, Variable, axis_names, label_count, shape_over}
 use Rattle.xr_defs.specs.Selecting.{axis_called}
 use Rattle.xr_defs.specs.Building.{is_integer_kind}
+use Rattle.xr_defs.specs.Times.{IsTime}
 
 -- ---- attributes
 
@@ -35,10 +36,10 @@ pub record AreAttributes (attrs : List Attr) : Type 0 where
 
 -- ---- axes
 
--- whole numbers are of an integer kind and in its range
+-- whole numbers are of an integer kind and in its range, and times stand in the years 1 to 9999
 abbrev pub AreLabels : LabelList → Type 0
 AreLabels (Numbers kind ns) = (is_integer_kind kind ≡ true) × All (InRange kind) ns
-AreLabels (Times coding ts) = ⊤
+AreLabels (Times coding ts) = All IsTime ts
 AreLabels (Texts ts) = ⊤
 
 pub record IsIndex (n : ℕ) (l : Labels) : Type 0 where
@@ -74,7 +75,7 @@ pub record AreCells (shape : List ℕ) (kind : DType) (masked : Bool) (cells : L
 abbrev pub IsContent : List ℕ → Content → Type 0
 IsContent shape (contents.Cells a masked) = (a.shape ≡ shape) × AreCells shape a.kind masked a.cells
 IsContent shape (contents.Text text) = shape ≡ []
-IsContent shape (contents.Time coding t) = shape ≡ []
+IsContent shape (contents.Time coding t) = (shape ≡ []) × IsTime t
 
 -- each of its axes is one of these
 pub record IsCoordinate (axes : List Axis) (c : Coord) : Type 0 where

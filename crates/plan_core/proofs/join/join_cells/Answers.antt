@@ -1,4 +1,4 @@
-use Rattle.std.proofs.Common.{◌≡◌, ◌<◌, ◌++◌, ◌∙◌, ap, sym, arith, rules, length}
+use Rattle.std.proofs.Common.{◌<◌, ◌++◌, ◌∙◌, ap, sym, rules, length}
 use Rattle.std.specs.List.{flat_map, range_with_len}
 use Rattle.plan_core.specs.Joins.{joined_row}
 use Rattle.plan_core.proofs.Joins.{cut_is, joined_by, none_joined}

@@ -5,7 +5,14 @@ use Rattle.xr_run.proofs.Stepped.{leads_none, leads_more, leads_stopped, leads_a
 use Rattle.xr_run.proofs.run_statements.run_statements.Goals as goal
 
 pub loop-i-init : goal.loop-i-init
-loop-i-init g c = record { store_tells = refl; out_tells = refl; store_faults = refl; out_faults = refl; leads = λ s. leads_none _ _ _ _ _ c.new-names.ensures }
+loop-i-init g c = record {
+  store_tells = refl;
+  out_tells = refl;
+  store_faults = refl;
+  out_faults = refl;
+  inside = c.new-names.ensures.inside _;
+  leads = λ s. leads_none _ _ _ _ _ (c.new-names.ensures.none _);
+}
 
 pub returns-in-Err-clause-ends : goal.returns-in-Err-clause-ends
 returns-in-Err-clause-ends g c = λ s.
@@ -29,6 +36,7 @@ loop-i-preserved g c = record {
   out_tells = c.step.ensures.out_tells ∙ c.loop-i.invariant.out_tells;
   store_faults = c.in-Ok-step.ensures.tallied.0 ∙ c.loop-i.invariant.store_faults;
   out_faults = c.in-Ok-step.ensures.tallied.1 ∙ c.loop-i.invariant.out_faults;
+  inside = c.step.ensures.inside;
   leads = λ s.
       let told = subst (λ (b : Bool). IsTrue b) (sym c.loop-i.invariant.store_tells) s in
       leads_more c.args.statements.now _ _ _ _ c.loop-i.i _ _ _ _ _ _ c.index-statements-i.result (c.loop-i.invariant.leads s) c.loop-i-test.true c.index-statements-i.is c.loop-i.invariant.out_tells (c.step.ensures.keeps told) (c.in-Ok-step.ensures.step told);

@@ -1,4 +1,4 @@
-use Rattle.std.proofs.Common.{◌≡◌, ◌∙◌, ap, sym, arith, length, [], ◌∷◌}
+use Rattle.std.proofs.Common.{◌≡◌, ◌∙◌, ap, arith, length, [], ◌∷◌}
 use Rattle.plan_core.specs.Arrangements.{arranged}
 use Rattle.plan_core.specs.Joins.{joined_sizes, joined_point}
 use Rattle.plan_core.proofs.Takes.{if_ok}

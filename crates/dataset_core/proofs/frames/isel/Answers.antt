@@ -1,0 +1,23 @@
+use Rattle.xr_arguments.proofs.Inside.{held_array, held_set}
+use Rattle.dataset_core.proofs.Shared.{both_array, both_set}
+use Rattle.dataset_core.proofs.frames.isel.Goals as goal
+
+pub isel_array-requires : goal.isel_array-requires
+isel_array-requires c = held_array c.args.plan.now c.args.on.now c.in-Array.array c.deref.result.now c.in-Array.is c.deref.ensures c.requires
+
+pub isel_set-requires : goal.isel_set-requires
+isel_set-requires c = held_set c.args.plan.now c.args.on.now c.in-Set.set c.deref-in-Set.result.now c.in-Set.is c.deref-in-Set.ensures c.requires
+
+pub returns-in_ok-array_value-in-Array-clause-answers : goal.returns-in_ok-array_value-in-Array-clause-answers
+returns-in_ok-array_value-in-Array-clause-answers c =
+    let new = c.isel_array.new.plan in
+    let r = c.in_ok-array_value-in-Array.field-0 in
+    let told = c.in_ok-answer-in-Array.ensures.answers c.args.plan.now in
+    (both_array c.args.plan.now new c.args.on.now r c.in-Array.array c.deref.result.now c.in-Array.is c.deref.ensures _ _ c.in_ok-answer-in-Array.answer told.0 (c.in_ok-array_value-in-Array.ensures.means new), c.in_ok-array_value-in-Array.ensures.inside new told.1)
+
+pub returns-in_ok-set_value-in-Set-clause-answers : goal.returns-in_ok-set_value-in-Set-clause-answers
+returns-in_ok-set_value-in-Set-clause-answers c =
+    let new = c.isel_set.new.plan in
+    let r = c.in_ok-set_value-in-Set.field-0 in
+    let told = c.in_ok-answer-in-Set.ensures.answers c.args.plan.now in
+    (both_set c.args.plan.now new c.args.on.now r c.in-Set.set c.deref-in-Set.result.now c.in-Set.is c.deref-in-Set.ensures _ _ c.in_ok-answer-in-Set.answer told.0 (c.in_ok-set_value-in-Set.ensures.means new), c.in_ok-set_value-in-Set.ensures.inside new told.1)

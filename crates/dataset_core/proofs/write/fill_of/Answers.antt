@@ -1,0 +1,7 @@
+use Rattle.std.proofs.Common.{subst}
+use Rattle.xr_defs.specs.Calls as calls
+use Rattle.xr_defs.specs.Results.{Answers}
+use Rattle.dataset_core.proofs.write.fill_of.Goals as goal
+
+pub returns : goal.returns
+returns c = λ nodes. subst (λ o. Answers (λ x. x) c.fill_given.result (calls.fill_given o)) (c.option.ensures nodes) (c.fill_given.ensures nodes)

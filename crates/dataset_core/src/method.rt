@@ -1,0 +1,104 @@
+//! The methods of arrays and datasets, found by their names.
+ghost use Rattle.std.specs.Prelude.{◌≡◌, ℕ, List, false, IfOk};
+ghost use denote.Param.Send.{IsSync};
+ghost use Rattle.xr_defs.specs.declared.node.Node.{Node};
+ghost use Rattle.xr_defs.specs.Classic.{among};
+ghost use Rattle.xr_defs.specs.Calls.{method_called, other_method as other_method_called, is_labelled_data as is_labelled, promoting};
+ghost use Rattle.plan_core.specs.Plans.{Grows};
+ghost use Rattle.xr_values.specs.Meaning.{meaning, given, IsValueIn, AreArgsIn};
+ghost use Rattle.dataset_core.specs.Answers.{AnswersValue, RefusesValue};
+
+use crate::frames::{assign_attrs, drop_vars, isel, rename, sum, to_dataset, transpose};
+use plan_core::Compute;
+use std::alloc::Global;
+use std::thread::Threads;
+use xr_types::{CallFault, DeepCopy, Fault, TextBytes};
+use xr_values::{Args, Cx, Value};
+
+// Whether a method's answers aren't whole numbers.
+fn is_promoting(name: &TextBytes) -> bool
+    ensures { result ≡ among promoting name.now }
+{
+    let name = name.as_str();
+    name == "mean"
+        || name == "std"
+        || name == "var"
+        || name == "median"
+        || name == "quantile"
+        || name == "interp"
+}
+
+/// Whether a value is an array or a dataset.
+#[tactic(auto, using(xr_arguments::proofs::Variants::is_array, xr_arguments::proofs::Variants::is_set, xr_values::proofs::Meaning::meaning_out))]
+pub(crate) fn is_labelled_data(value: &Value) -> bool
+    ensures { (nodes : List Node) → result ≡ is_labelled (meaning nodes value.now) }
+{
+    match value {
+        Value::Array(_) => true,
+        Value::Set(_) => true,
+        _ => false,
+    }
+}
+
+// Why there is no other method of this name.
+#[tactic(auto, unfolding(xr_defs::specs::Calls::other_method))]
+fn other_method(alloc: Global, on: &Value, name: &TextBytes) -> CallFault
+    ensures { (nodes : List Node) → RefusesValue result (other_method_called (meaning nodes on.now) name.now) }
+{
+    if is_promoting(name) {
+        if is_labelled_data(on) {
+            CallFault::Refused(Fault::WouldPromote)
+        } else {
+            CallFault::Refused(Fault::WrongKind)
+        }
+    } else {
+        match name.deep_copy(alloc) {
+            Ok(name) => CallFault::Refused(Fault::UnknownName(name)),
+            Err(_) => CallFault::NoMemory,
+        }
+    }
+}
+
+/// The value of a call of a method: `isel`, `drop_vars` and `assign_attrs` of arrays and datasets, and
+/// `transpose`, `rename`, `to_dataset` and `sum` of arrays.
+///
+/// # Errors
+/// `UnknownName` for any other method, but `WouldPromote` for those of arrays and datasets whose answers aren't whole
+/// numbers, `mean` and its like; then `WrongKind` for a receiver that hasn't the method; then those of the method. Where
+/// cells that the call needs are declined, it is that.
+#[tactic(auto, using(plan_core::proofs::Plans::grows_by_none), unfolding(xr_defs::specs::Calls::method_called))]
+pub fn call_method<R: Threads + Sync, C: Compute>(
+    _rt: &R,
+    alloc: Global,
+    cx: &mut Cx<C>,
+    on: &Value,
+    name: &TextBytes,
+    args: &Args,
+) -> Result<Value, CallFault>
+    requires sync { IsSync R.row }
+    requires inside { IsValueIn cx.old.plan on.now }
+    requires given { AreArgsIn cx.old.plan args.now }
+    ensures undeclined { ((n : ℕ) → C.declines cx.old.compute cx.old.plan n ≡ false) → AnswersValue cx.new.plan result (method_called (meaning cx.old.plan on.now) name.now (given cx.old.plan args.now)) }
+    ensures inside { IfOk result (IsValueIn cx.new.plan) }
+    ensures grows { Grows cx.old.plan cx.new.plan }
+    ensures keeps { (nodes : List Node) (n : ℕ) → C.declines cx.new.compute nodes n ≡ C.declines cx.old.compute nodes n }
+{
+    let called = name.as_str();
+    if called == "isel" {
+        isel(alloc, &mut cx.plan, on, args)
+    } else if called == "transpose" {
+        transpose(alloc, &mut cx.plan, on, args)
+    } else if called == "drop_vars" {
+        drop_vars(alloc, &mut cx.plan, on, args)
+    } else if called == "assign_attrs" {
+        assign_attrs(alloc, &mut cx.plan, on, args)
+    } else if called == "rename" {
+        rename(alloc, &mut cx.plan, on, args)
+    } else if called == "to_dataset" {
+        to_dataset(alloc, &mut cx.plan, on, args)
+    } else if called == "sum" {
+        sum(alloc, &mut cx.plan, on, args)
+    } else {
+        Err(other_method(alloc, on, name))
+    }
+}

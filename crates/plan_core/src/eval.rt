@@ -1,0 +1,108 @@
+//! The value of a node from those of its inputs.
+ghost use Rattle.std.specs.Prelude.{◌≡◌, ◌<◌, ◌≤◌, [], length, All, IfOk};
+ghost use Rattle.xr_defs.specs.Points.{size};
+ghost use Rattle.xr_defs.specs.Nodes.{value, AllFit, IsOrder, reordered, widened, most_node_cells};
+ghost use Rattle.plan_core.specs.Widens.{IsWidening};
+ghost use Rattle.plan_core.specs.Needs.{inputs_at, node_by, IsHeld, IsReady};
+
+use crate::arrange::rearrange;
+use crate::axis_take::take;
+use crate::concat::concat;
+use crate::fold::fold;
+use crate::inputs::{input, inputs};
+use crate::reorder::Moving;
+use crate::widen::Widening;
+use std::alloc::{AllocError, Global};
+use xr_defs::{ArrayValue, Node};
+
+fn reorder(alloc: Global, a: &ArrayValue, order: &[u64]) -> Result<ArrayValue, AllocError>
+    requires each { IsOrder (length a.now.shape) order.now }
+    requires axes { length order.now ≤ 16 }
+    requires few { size a.now.shape ≤ most_node_cells }
+    requires small { size (reordered a.now order.now).shape ≤ most_node_cells }
+    ensures { IfOk result (λ b. b ≡ reordered a.now order.now) }
+{
+    let moving = Moving {
+        shape: a.shape(),
+        order,
+    };
+    rearrange(alloc, a, &moving, None)
+}
+
+fn widen(
+    alloc: Global,
+    a: &ArrayValue,
+    axis: usize,
+    positions: u64,
+) -> Result<ArrayValue, AllocError>
+    requires { IsWidening a.now.shape axis positions }
+    ensures { IfOk result (λ b. b ≡ widened a.now axis positions) }
+{
+    let widening = Widening {
+        shape: a.shape(),
+        axis,
+        size: positions,
+    };
+    rearrange(alloc, a, &widening, None)
+}
+
+// The value of a node whose inputs are held.
+fn value_of(
+    alloc: Global,
+    nodes: &[Node],
+    done: &[Option<ArrayValue>],
+    node: &Node,
+) -> Result<ArrayValue, AllocError>
+    requires { IsReady nodes.now done.now node.now }
+    ensures { IfOk result (λ a. a ≡ node_by (value nodes.now) node.now) }
+{
+    match node {
+        Node::Source { cells } => cells.copy(alloc),
+        Node::Take {
+            input: id,
+            axis,
+            from,
+            fill,
+            drop,
+        } => take(
+            alloc,
+            input(nodes, done, *id),
+            *axis,
+            from.as_slice(),
+            *fill,
+            *drop,
+        ),
+        Node::Reorder { input: id, order } => {
+            reorder(alloc, input(nodes, done, *id), order.as_slice())
+        }
+        Node::Widen {
+            input: id,
+            axis,
+            size,
+        } => widen(alloc, input(nodes, done, *id), *axis, *size),
+        Node::Fold {
+            fold: kind,
+            input: id,
+            feeds,
+        } => fold(alloc, *kind, input(nodes, done, *id), feeds.as_slice()),
+        Node::Concat { inputs: ids, axis } => {
+            let arrays = inputs(alloc, nodes, done, ids.as_slice())?;
+            concat(alloc, &arrays, *axis)
+        }
+    }
+}
+
+/// The value of a node of a plan whose inputs are held.
+pub fn compute(
+    alloc: Global,
+    nodes: &[Node],
+    done: &[Option<ArrayValue>],
+    at: usize,
+) -> Result<ArrayValue, AllocError>
+    requires fit { AllFit [] nodes.now }
+    requires inside { at < length nodes.now }
+    requires held { All (IsHeld nodes.now done.now) (inputs_at nodes.now at) }
+    ensures { IfOk result (λ a. a ≡ value nodes.now at) }
+{
+    value_of(alloc, nodes, done, &nodes[at])
+}

@@ -1,0 +1,79 @@
+//! The sum of all cells of an array.
+ghost use Rattle.std.specs.Prelude.{◌≡◌, ◌==◌, ℤ, List, length, map, zip, Option, Some, None, IfSome, ◌+ℤ◌, ◌∷◌, option_map};
+ghost use Rattle.std.specs.Int.{int_wrap, w64};
+ghost use Rattle.xr_defs.specs.Points.{size};
+ghost use Rattle.xr_defs.specs.Arrays.{cell, hidden, wide};
+ghost use Rattle.xr_defs.specs.Folds.{sum_of};
+ghost use Rattle.plan_core.specs.Rows.{those};
+
+use crate::fold_row::added;
+use xr_defs::{ArrayValue, Cells};
+use xr_types::{Elem, Items};
+
+// The sum with one more cell.
+fn more<T: Elem>(sum: i64, cell: T) -> i64
+    ensures { (rest : ℤ) → int_wrap w64 (result +ℤ rest) ≡ int_wrap w64 (sum +ℤ (T.number cell +ℤ rest)) }
+{
+    added(sum, i64::wrap_from(cell.widen()))
+}
+
+fn total_of<T: Elem>(cells: &[T]) -> i64
+    ensures { result ≡ int_wrap w64 (sum_of (map T.number cells.now)) }
+{
+    let mut sum = 0;
+    for cell in cells {
+        sum = more(sum, *cell);
+    }
+    sum
+}
+
+// The sum with one more cell, unless its byte in the mask isn't 0.
+fn more_shown<T: Elem>(sum: i64, x: T, byte: u8) -> i64
+    ensures { (rest : List (Option ℤ)) → int_wrap w64 (result +ℤ sum_of (those rest)) ≡ int_wrap w64 (sum +ℤ sum_of (those (cell (T.number x, byte) ∷ rest))) }
+{
+    if byte == 0 { more(sum, x) } else { sum }
+}
+
+fn total_masked<T: Elem>(cells: &[T], mask: &[u8]) -> i64
+    requires { length mask.now ≡ length cells.now }
+    ensures { result ≡ int_wrap w64 (sum_of (those (map cell (zip (map T.number cells.now) mask.now)))) }
+{
+    let mut sum = 0;
+    for i in 0..cells.len() {
+        sum = more_shown(sum, cells[i], mask[i]);
+    }
+    sum
+}
+
+fn total_in<T: Elem>(cells: &[T], mask: Option<&Items<u8>>) -> i64
+    requires { IfSome mask (λ m. length m.now ≡ length cells.now) }
+    ensures { result ≡ int_wrap w64 (sum_of (those (hidden (map T.number cells.now) (option_map (λ m. m.now) mask.entry)))) }
+{
+    match mask {
+        Some(mask) => total_masked(cells, mask.as_slice()),
+        None => total_of(cells),
+    }
+}
+
+fn total_cells(cells: &Cells, mask: Option<&Items<u8>>) -> i64
+    requires { IfSome mask (λ m. length m.now ≡ length (wide cells.now)) }
+    ensures { result ≡ int_wrap w64 (sum_of (those (hidden (wide cells.now) (option_map (λ m. m.now) mask.entry)))) }
+{
+    match cells {
+        Cells::Bool(v) => total_in(v.as_slice(), mask),
+        Cells::Char(v) => total_in(v.as_slice(), mask),
+        Cells::Int8(v) => total_in(v.as_slice(), mask),
+        Cells::Int16(v) => total_in(v.as_slice(), mask),
+        Cells::Int32(v) => total_in(v.as_slice(), mask),
+        Cells::Int64(v) => total_in(v.as_slice(), mask),
+    }
+}
+
+/// The sum of the cells that aren't missing, wrapped at 64 bits.
+pub fn total(a: &ArrayValue) -> i64
+    ensures whole { length a.now.cells ≡ size a.now.shape }
+    ensures sum { result ≡ int_wrap w64 (sum_of (those a.now.cells)) }
+{
+    let (cells, mask) = a.parts();
+    total_cells(cells, mask)
+}

@@ -1,0 +1,32 @@
+-- The arguments of parameters, one after the other.
+use Rattle.std.proofs.Common.{◌≡◌, ◌≤◌, ◌-◌, ℕ, true, List, [], ◌∷◌, ◌++◌, length, map, take, drop, get_or, Option, Some, Result, Ok, Err, sym, ap, ◌∙◌, append_assoc, arith}
+use Rattle.std.proofs.lemmas.Bool.{le-leb}
+use Rattle.std.proofs.lemmas.List.{map-append, drop-map, length-map, take_all}
+use Rattle.std.specs.List.{list_all}
+use Rattle.std.specs.Prelude.{nat_le, OnOk}
+use Rattle.xr_defs.specs.Meanings.{Value}
+use Rattle.xr_defs.specs.Results.{unless}
+use Rattle.xr_defs.specs.Building.{bound, keyword, is_keyword_of}
+
+pub bound_is : {N : Type 0} (now : N → List ℕ) (names others : List N) (plain : List Value) (keyed : List (List ℕ × Value)) (values : List (Option Value)) → length plain ≤ length names → others ≡ drop (length plain) names
+    → list_all (is_keyword_of (map now others)) keyed ≡ true → values ≡ map Some plain ++ map (λ n. keyword n keyed) (map now others) → bound (map now names) (record { plain = plain; keyed = keyed }) ≡ Ok values
+unfolding bound unless
+bound_is now names others plain keyed values few is keywords are =
+    let rest : drop (length plain) (map now names) ≡ map now others = drop-map now (length plain) names ∙ ap (map now) (sym is) in
+    let long : length (map now names) ≡ length names = length-map names now in
+    let enough : nat_le (length plain) (length (map now names)) ≡ true = le-leb (length plain) (length (map now names)) (omega arith) in
+    let known : list_all (is_keyword_of (drop (length plain) (map now names))) keyed ≡ true = ap (λ ns. list_all (is_keyword_of ns) keyed) rest ∙ keywords in
+    let each : map (λ n. keyword n keyed) (drop (length plain) (map now names)) ≡ map (λ n. keyword n keyed) (map now others) = ap (map (λ n. keyword n keyed)) rest in
+    rw (enough, known) (ap (λ t. Ok (map Some plain ++ t)) each ∙ ap Ok (sym are))
+
+-- a list by its first item and the others
+pub first_and_rest : {Z W : Type 0} (now : Z → W) (zs : List Z) (d : Z) → 1 ≤ length zs → map now zs ≡ now (get_or zs 0 d) ∷ map now (take (length zs - 1) (drop 1 zs))
+first_and_rest now [] d long = absurd (omega arith)
+first_and_rest now (z ∷ zs) d long = ap (λ t. now z ∷ map now t) (sym (take_all (length (z ∷ zs) - 1) zs (omega arith)))
+
+-- one at the end, and then the others
+pub put_first : {X Y Z E : Type 0} (g : X → Y) (h : Z → Y) (old mid new : List X) (x : X) (zs : List Z) (z : Z) (rest : List Z) (r : Result (Unit {0}) E) → mid ≡ old ++ x ∷ [] → g x ≡ h z → OnOk r (map g new ≡ map g mid ++ map h rest) → zs ≡ z ∷ rest
+    → OnOk r (map g new ≡ map g old ++ map h zs)
+put_first g h old mid new x zs z rest (Ok u) pushed same so_far is =
+    so_far ∙ ap (λ xs. map g xs ++ map h rest) pushed ∙ ap (λ ys. ys ++ map h rest) (map-append g old (x ∷ [])) ∙ append_assoc (map g old) (g x ∷ []) (map h rest) ∙ ap (λ y. map g old ++ (y ∷ map h rest)) same ∙ ap (λ t. map g old ++ map h t) (sym is)
+put_first g h old mid new x zs z rest (Err e) pushed same so_far is = so_far

@@ -1,0 +1,74 @@
+-- Which values are of a plan, by their variant.
+use Rattle.std.proofs.Common.{◌≡◌, ℕ, ℤ, Bool, List, Option, ap, sym, subst, ◌∙◌}
+use Rattle.std.specs.declared.rc.Rc.{Rc}
+use Rattle.std.specs.declared.alloc.Global.{Global}
+use Rattle.xr_types.specs.declared.text.TextBytes.{TextBytes}
+use Rattle.xr_defs.specs.declared.slice.Part.{Part}
+use Rattle.xr_defs.specs.declared.node.Node.{Node}
+use Rattle.xr_values.specs.declared.data_array.DataArray.{DataArray}
+use Rattle.xr_values.specs.declared.dataset.Dataset.{Dataset}
+use Rattle.xr_values.specs.declared.value.Value.{Value}
+use Rattle.xr_values.specs.declared.value.Value.TheVariants as variants
+use Rattle.xr_values.specs.declared.value.Value.TheOpen as held
+use Rattle.xr_values.specs.declared.value.Value.TheOpen.{Value-F}
+use Rattle.xr_values.specs.declared.value.Value.TheViews.{out-Value, roll-Value, out-roll-Value}
+use Rattle.xr_values.specs.Meaning.{IsValueIn, IsLayerIn}
+use Rattle.xr_values.specs.Stands.{IsArrayIn, IsDatasetIn}
+use Rattle.xr_values.proofs.Meaning.{value_in, value_out}
+
+by_layer : (nodes : List Node) (v : Value) (x : Value-F Value) → v ≡ roll-Value x → IsValueIn nodes v → IsLayerIn nodes x
+by_layer nodes v x is inside = subst (IsLayerIn nodes) (ap (λ w. out-Value w) is ∙ out-roll-Value x) (value_out nodes v inside)
+
+of_layer : (nodes : List Node) (v : Value) (x : Value-F Value) → v ≡ roll-Value x → IsLayerIn nodes x → IsValueIn nodes v
+of_layer nodes v x is inside = value_in nodes v (subst (IsLayerIn nodes) (sym (ap (λ w. out-Value w) is ∙ out-roll-Value x)) inside)
+
+-- ---- values of every plan
+
+pub absent_inside : (nodes : List Node) (v : Value) → v ≡ variants.Absent → IsValueIn nodes v
+unfolding roll-Value denote.Hole.Carrier.roll
+absent_inside nodes v is = of_layer nodes v held.Absent is tt
+
+pub missing_inside : (nodes : List Node) (v : Value) → v ≡ variants.Missing → IsValueIn nodes v
+unfolding roll-Value denote.Hole.Carrier.roll
+missing_inside nodes v is = of_layer nodes v held.Missing is tt
+
+pub truth_inside : (nodes : List Node) (v : Value) (b : Bool) → v ≡ variants.Truth b → IsValueIn nodes v
+unfolding roll-Value denote.Hole.Carrier.roll
+truth_inside nodes v b is = of_layer nodes v (held.Truth b) is tt
+
+pub number_inside : (nodes : List Node) (v : Value) (n : ℤ) → v ≡ variants.Number n → IsValueIn nodes v
+unfolding roll-Value denote.Hole.Carrier.roll
+number_inside nodes v n is = of_layer nodes v (held.Number n) is tt
+
+pub text_inside : (nodes : List Node) (v : Value) (t : TextBytes) → v ≡ variants.Text t → IsValueIn nodes v
+unfolding roll-Value denote.Hole.Carrier.roll
+text_inside nodes v t is = of_layer nodes v (held.Text t) is tt
+
+pub slice_inside : (nodes : List Node) (v : Value) (start stop : Part) (step : Option ℤ) → v ≡ variants.Slice start stop step → IsValueIn nodes v
+unfolding roll-Value denote.Hole.Carrier.roll
+slice_inside nodes v start stop step is = of_layer nodes v (held.Slice start stop step) is tt
+
+-- ---- arrays and datasets of a plan
+
+pub array_inside : (nodes : List Node) (v : Value) (a : Rc DataArray Global) → v ≡ variants.Array a → IsArrayIn nodes a.value → IsValueIn nodes v
+unfolding roll-Value denote.Hole.Carrier.roll
+array_inside nodes v a is inside = of_layer nodes v (held.Array a) is inside
+
+pub set_inside : (nodes : List Node) (v : Value) (s : Rc Dataset Global) → v ≡ variants.Set s → IsDatasetIn nodes s.value → IsValueIn nodes v
+unfolding roll-Value denote.Hole.Carrier.roll
+set_inside nodes v s is inside = of_layer nodes v (held.Set s) is inside
+
+pub inside_array : (nodes : List Node) (v : Value) (a : Rc DataArray Global) → v ≡ variants.Array a → IsValueIn nodes v → IsArrayIn nodes a.value
+unfolding roll-Value denote.Hole.Carrier.roll
+inside_array nodes v a is inside = by_layer nodes v (held.Array a) is inside
+
+pub inside_set : (nodes : List Node) (v : Value) (s : Rc Dataset Global) → v ≡ variants.Set s → IsValueIn nodes v → IsDatasetIn nodes s.value
+unfolding roll-Value denote.Hole.Carrier.roll
+inside_set nodes v s is inside = by_layer nodes v (held.Set s) is inside
+
+-- the same where what is shared is looked at
+pub held_array : (nodes : List Node) (v : Value) (a : Rc DataArray Global) (x : DataArray) → v ≡ variants.Array a → x ≡ a.value → IsValueIn nodes v → IsArrayIn nodes x
+held_array nodes v a x is same inside = subst (IsArrayIn nodes) (sym same) (inside_array nodes v a is inside)
+
+pub held_set : (nodes : List Node) (v : Value) (s : Rc Dataset Global) (x : Dataset) → v ≡ variants.Set s → x ≡ s.value → IsValueIn nodes v → IsDatasetIn nodes x
+held_set nodes v s x is same inside = subst (IsDatasetIn nodes) (sym same) (inside_set nodes v s is inside)

@@ -1,0 +1,4 @@
+pub mod Binding
+pub mod Inside
+pub mod Listed
+pub mod Variants

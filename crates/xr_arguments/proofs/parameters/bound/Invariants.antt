@@ -1,0 +1,7 @@
+use Rattle.std.proofs.Common.{◌≡◌, List, map, option_map, take, Some}
+use Rattle.xr_defs.specs.declared.node.Node.{Node}
+use Rattle.xr_values.specs.Meaning.{meaning}
+use Rattle.xr_arguments.proofs.parameters.bound.Given as goal
+
+abbrev pub invariant-loop-value : goal.invariant-loop-value
+invariant-loop-value l = (nodes : List Node) → map (option_map (λ v. meaning nodes v.now)) l.values ≡ map Some (map (meaning nodes) (take l.value-index l.plain))

@@ -1,0 +1,8 @@
+use Rattle.std.proofs.Common.{◌≡◌, List, take, Ok}
+use Rattle.xr_defs.specs.declared.node.Node.{Node}
+use Rattle.xr_defs.specs.Parts.{texts_in}
+use Rattle.xr_values.specs.Meaning.{all_values}
+use Rattle.xr_arguments.proofs.texts.texts_in.Given as goal
+
+abbrev pub invariant-loop-value : goal.invariant-loop-value
+invariant-loop-value l = (nodes : List Node) → texts_in (all_values nodes (take l.value-index l.list)) ≡ Ok l.out

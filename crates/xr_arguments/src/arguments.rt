@@ -1,0 +1,57 @@
+//! What a call takes from its arguments.
+ghost use Rattle.std.specs.Prelude.{List};
+ghost use Rattle.xr_defs.specs.declared.node.Node.{Node};
+ghost use Rattle.xr_defs.specs.Results.{Answers};
+ghost use Rattle.xr_defs.specs.Arguments as calls;
+ghost use Rattle.xr_values.specs.Meaning.{meaning, given};
+
+use xr_types::{CallFault, Fault, TextBytes};
+use xr_values::{Args, Value};
+
+/// The one argument, plain or by this keyword.
+#[tactic(auto, unfolding(xr_defs::specs::Arguments::only_of, xr_values::specs::Meaning::given))]
+pub fn only<'a>(args: &'a Args, name: &str) -> Result<&'a Value, CallFault>
+    ensures { (nodes : List Node) → Answers (λ v. meaning nodes v.now) result (calls.only name.now (given nodes args.now)) }
+{
+    match args.plain.as_slice() {
+        [] => match args.keyed.as_slice() {
+            [] => Err(CallFault::Refused(Fault::BadArgument)),
+            [argument] => {
+                if argument.0.as_str() == name {
+                    Ok(&argument.1)
+                } else {
+                    Err(CallFault::Refused(Fault::BadArgument))
+                }
+            }
+            [_, _, ..] => Err(CallFault::Refused(Fault::BadArgument)),
+        },
+        [argument] => match args.keyed.as_slice() {
+            [] => Ok(argument),
+            [_, ..] => Err(CallFault::Refused(Fault::BadArgument)),
+        },
+        [_, _, ..] => Err(CallFault::Refused(Fault::BadArgument)),
+    }
+}
+
+/// The text that a value is.
+#[tactic(auto, using(crate::proofs::Variants::is_text, xr_values::proofs::Meaning::meaning_out), unfolding(xr_defs::specs::Arguments::as_text))]
+pub fn as_text(value: &Value) -> Result<&TextBytes, CallFault>
+    ensures { (nodes : List Node) → Answers (λ t. t.now) result (calls.as_text (meaning nodes value.now)) }
+{
+    match value {
+        Value::Text(text) => Ok(text),
+        _ => Err(CallFault::Refused(Fault::WrongKind)),
+    }
+}
+
+/// Refuses every argument.
+#[tactic(auto, unfolding(xr_defs::specs::Arguments::nothing_given, xr_defs::specs::Results::unless, xr_values::specs::Meaning::given))]
+pub fn nothing_given(args: &Args) -> Result<(), CallFault>
+    ensures { (nodes : List Node) → Answers (λ u. u) result (calls.nothing_given (given nodes args.now)) }
+{
+    if args.plain.len() == 0 && args.keyed.len() == 0 {
+        Ok(())
+    } else {
+        Err(CallFault::Refused(Fault::BadArgument))
+    }
+}

@@ -1,5 +1,0 @@
-use Rattle.std.proofs.Common.{length}
-use Rattle.xr_arrays.proofs.built.+size.Given as goal
-
-abbrev pub decreases-size : goal.decreases-size
-decreases-size l = length l.ids.now

@@ -1,7 +1,0 @@
-use Rattle.std.proofs.Common.{◌≡◌, drop}
-use Rattle.std.specs.Prelude.{◌==◌}
-use Rattle.std.specs.List.{list_all}
-use Rattle.xr_arrays.proofs.variable.is_only.Given as goal
-
-abbrev pub invariant-loop-other : goal.invariant-loop-other
-invariant-loop-other l = list_all (λ j. j == l.id) (drop l.other-index l.ids) ≡ list_all (λ j. j == l.id) l.ids

@@ -1,0 +1,93 @@
+-- An array that is written out has what its node and its limits ask.
+use Rattle.std.proofs.Common.{◌≡◌, ◌≢◌, ℕ, ℤ, zero, suc, Bool, true, false, ◌||◌, List, [], ◌∷◌, map, length, All, Option, refl, sym, ap, subst, ◌∙◌}
+use Rattle.std.proofs.lemmas.Bool.{and_parts, or_parts}
+use Rattle.std.proofs.lemmas.List.{length-map}
+use Rattle.std.proofs.lemmas.List.Elements.{All-nil, All-cons}
+use Rattle.std.specs.List.{list_all, list_any}
+use Rattle.std.specs.Prelude.{is_some}
+use Rattle.xr_types.specs.declared.axis.Axis.{Axis}
+use Rattle.xr_types.specs.declared.kind.DType.{DType}
+use Rattle.xr_types.specs.declared.kind.DType.TheVariants as kinds
+use Rattle.xr_defs.specs.declared.value.Coord.{Coord}
+use Rattle.xr_defs.specs.Arrays.{IsCell}
+use Rattle.xr_defs.specs.Classic.{is_name}
+use Rattle.xr_defs.specs.Canonical.{are_distinct}
+use Rattle.xr_defs.specs.Points.{size}
+use Rattle.xr_defs.specs.Values.{shape_over}
+use Rattle.xr_defs.specs.Meanings as of
+use Rattle.xr_defs.specs.Meanings.{Value}
+use Rattle.xr_defs.specs.Building.{bare_axes, elements, element_cell, fits_kind, first_item, is_missing, is_nested, is_regular, is_truth_cell, is_whole_cell, nested_shape, suits}
+use Rattle.xr_values.specs.WellFormed.{AreSeen}
+use Rattle.xr_building.specs.declared.elements.Elements.{Elements}
+use Rattle.xr_building.specs.Frames.{IsFrame}
+use Rattle.xr_building.specs.Gathered.{gathered, suits_all}
+use Rattle.xr_building.proofs.Counted.{whole}
+use Rattle.xr_building.proofs.Kept.{cells_in}
+use Rattle.xr_building.proofs.Unlabelled.{bare_frame, bare_sizes}
+
+pub nested-length : (k : ℕ) (m : Value) → length (nested_shape k m) ≡ k
+nested-length zero m = refl
+nested-length (suc k) m = ap suc (nested-length k (first_item m))
+
+pub frame_from : (axes : List Axis) (coords : List Coord) (dims : List (List ℕ)) (shape : List ℕ) → axes ≡ bare_axes dims shape → coords ≡ [] → length dims ≡ length shape → list_all is_name dims ≡ true → are_distinct dims ≡ true → IsFrame axes coords
+frame_from axes coords dims shape is none long named distinct =
+    subst (λ (xs : List Axis). IsFrame xs coords) (sym is) (subst (λ (cs : List Coord). IsFrame (bare_axes dims shape) cs) (sym none) (bare_frame dims shape long named distinct))
+
+pub whole_from : (axes : List Axis) (dims : List (List ℕ)) (shape : List ℕ) (m : Value) (e : Elements) (cells : List (Option ℤ)) → axes ≡ bare_axes dims shape → length dims ≡ length shape → cells ≡ e.cells → e ≡ gathered (elements m)
+    → is_nested (length dims) m ≡ true → is_regular shape m ≡ true → length cells ≡ size (shape_over axes)
+whole_from axes dims shape m e cells is long look all deep even =
+    ap length (look ∙ ap (λ (x : Elements). x.cells) all) ∙ length-map (elements m) element_cell ∙ whole shape m (ap (λ k. is_nested k m) (sym long) ∙ deep) even ∙ ap size (sym (bare_sizes dims shape long)) ∙ ap (λ xs. size (shape_over xs)) (sym is)
+
+pub suits_same : (k : DType) (vs : List Value) → suits_all k (gathered vs) ≡ suits k vs
+suits_same kinds.Bool vs = refl
+suits_same kinds.Char vs = refl
+suits_same kinds.Int8 vs = refl
+suits_same kinds.Int16 vs = refl
+suits_same kinds.Int32 vs = refl
+suits_same kinds.Int64 vs = refl
+
+pub range_from : (k : DType) (e : Elements) (vs : List Value) (cells : List (Option ℤ)) → e ≡ gathered vs → cells ≡ e.cells → k ≢ kinds.Char → suits_all k e ≡ true → list_all (fits_kind k) cells ≡ true → All (IsCell k) cells
+range_from k e vs cells all look number suit fit =
+    let same : cells ≡ map element_cell vs = look ∙ ap (λ (x : Elements). x.cells) all in
+    subst (λ cs. All (IsCell k) cs) (sym same) (cells_in k vs number (sym (suits_same k vs) ∙ ap (suits_all k) (sym all) ∙ suit) (ap (list_all (fits_kind k)) (sym same) ∙ fit))
+
+seen_whole : (v : Value) → is_whole_cell v ≡ true → is_missing v ≡ false → is_some (element_cell v) ≡ true
+seen_whole (of.Number n) is there = refl
+seen_whole of.Missing is there = absurd cc
+seen_whole of.Absent is there = absurd cc
+seen_whole (of.Truth b) is there = absurd cc
+seen_whole (of.Text t) is there = absurd cc
+seen_whole (of.Sequence vs) is there = absurd cc
+seen_whole (of.Table es) is there = absurd cc
+seen_whole (of.Slice a b c) is there = absurd cc
+seen_whole (of.Array a) is there = absurd cc
+seen_whole (of.Set s) is there = absurd cc
+
+seen_truth : (v : Value) → is_truth_cell v ≡ true → is_missing v ≡ false → is_some (element_cell v) ≡ true
+seen_truth (of.Truth b) is there = refl
+seen_truth of.Missing is there = absurd cc
+seen_truth of.Absent is there = absurd cc
+seen_truth (of.Number n) is there = absurd cc
+seen_truth (of.Text t) is there = absurd cc
+seen_truth (of.Sequence vs) is there = absurd cc
+seen_truth (of.Table es) is there = absurd cc
+seen_truth (of.Slice a b c) is there = absurd cc
+seen_truth (of.Array a) is there = absurd cc
+seen_truth (of.Set s) is there = absurd cc
+
+all_seen : (test : Value → Bool) → ((v : Value) → test v ≡ true → is_missing v ≡ false → is_some (element_cell v) ≡ true) → (vs : List Value) → list_all test vs ≡ true → list_any is_missing vs ≡ false → All (λ c. is_some c ≡ true) (map element_cell vs)
+all_seen test each [] all none = All-nil (λ c. is_some c ≡ true)
+all_seen test each (v ∷ vs) all none =
+    let p = and_parts (test v) (list_all test vs) all in
+    let q = or_parts (is_missing v) (list_any is_missing vs) none in
+    All-cons (λ c. is_some c ≡ true) (element_cell v) (map element_cell vs) (each v p.0 q.0) (all_seen test each vs p.1 q.1)
+
+seen_gathered : (vs : List Value) (whole truths : Bool) → list_all is_whole_cell vs ≡ whole → list_all is_truth_cell vs ≡ truths → (whole || truths) ≡ true → AreSeen (list_any is_missing vs) (map element_cell vs)
+seen_gathered vs true truths w t either none = all_seen is_whole_cell seen_whole vs w none
+seen_gathered vs false true w t either none = all_seen is_truth_cell seen_truth vs t none
+seen_gathered vs false false w t either none = absurd cc
+
+pub seen_from : (e : Elements) (vs : List Value) (cells : List (Option ℤ)) → e ≡ gathered vs → cells ≡ e.cells → (e.whole || e.truths) ≡ true → AreSeen e.missing cells
+seen_from e vs cells all look either =
+    subst (λ cs. AreSeen e.missing cs) (sym look) (subst (λ (x : Elements). AreSeen x.missing x.cells) (sym all)
+    (seen_gathered vs (list_all is_whole_cell vs) (list_all is_truth_cell vs) refl refl (ap (λ (x : Elements). x.whole || x.truths) (sym all) ∙ either)))

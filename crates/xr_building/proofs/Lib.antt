@@ -1,0 +1,10 @@
+pub mod Checked
+pub mod Counted
+pub mod Described
+pub mod Items
+pub mod Kept
+pub mod Names
+pub mod Same
+pub mod Standing
+pub mod Steps
+pub mod Unlabelled

@@ -1,0 +1,89 @@
+-- Arrays whose cells are written out stand in the plan.
+use Rattle.std.proofs.Common.{◌≡◌, ◌≤◌, ◌&&◌, ℕ, suc, ℤ, true, List, [], ◌∷◌, length, Option, Ok, All, refl, sym, ap, subst, ◌∙◌, arith}
+use Rattle.std.proofs.lemmas.Bool.{and_parts, leb-true, le-leb}
+use Rattle.std.specs.List.{AllByRecursion, list_all}
+use Rattle.std.specs.Prelude.{nat_le, MatchOption, ⊤}
+use Rattle.xr_types.specs.declared.attr.Attr.{Attr}
+use Rattle.xr_types.specs.declared.axis.Axis.{Axis}
+use Rattle.xr_defs.specs.declared.node.Node.{Node}
+use Rattle.xr_defs.specs.declared.node.Node.TheVariants.{Source}
+use Rattle.xr_defs.specs.declared.value.Coord.{Coord}
+use Rattle.xr_defs.specs.Classic.{is_name}
+use Rattle.xr_defs.specs.Points.{size}
+use Rattle.xr_defs.specs.Arrays.{Array, IsCell}
+use Rattle.xr_defs.specs.Limits.{most_cells, most_dimensions}
+use Rattle.xr_defs.specs.Nodes.{IsNode, Pushes, values, node_value}
+use Rattle.xr_defs.specs.Selecting.{is_within, are_within, check_array}
+use Rattle.xr_defs.specs.Results.{unless}
+use Rattle.xr_defs.specs.Values.{shape_over}
+use Rattle.xr_values.specs.declared.data_array.DataArray.{DataArray}
+use Rattle.xr_values.specs.WellFormed.{AreSeen, IsDimension, IsDataArray}
+use Rattle.xr_values.specs.Stands.{array_in, with_cells, IsArrayIn}
+use Rattle.xr_values.proofs.Grown.{pushed_cells, pushed_array}
+use Rattle.xr_building.specs.declared.placed.Outline.{Outline}
+use Rattle.xr_building.specs.Placed.{with_written, limited}
+use Rattle.xr_building.specs.Frames.{IsOpenAxis, IsFrame}
+
+few_cells : (shape : List ℕ) → is_within shape ≡ true → size shape ≤ most_cells
+few_cells shape within = leb-true (size shape) most_cells (and_parts (list_all (λ n. nat_le n most_cells) shape) (nat_le (size shape) most_cells) within).1
+
+short_axes : (axes : List Axis) → list_all (λ n. nat_le n most_cells) (shape_over axes) ≡ true → AllByRecursion IsOpenAxis axes → AllByRecursion IsDimension axes
+short_axes [] short all = all
+short_axes (x ∷ axes) short all =
+    let p = and_parts (nat_le x.size most_cells) (list_all (λ n. nat_le n most_cells) (shape_over axes)) short in
+    (record { name = all.0.name; few = leb-true x.size most_cells p.0; index = all.0.index }, short_axes axes p.1 all.1)
+
+abbrev pub written : Outline → ℕ → DataArray
+written a n = record { name = a.name; axes = a.axes; kind = a.kind; masked = a.masked; attrs = []; coords = a.coords; node = n }
+
+module _ (a : Outline) (cells : List (Option ℤ)) (frame : IsFrame a.axes a.coords) (name : MatchOption a.name ⊤ (λ n. is_name n ≡ true)) (whole : length cells ≡ size (shape_over a.axes)) (range : All (IsCell a.kind) cells) (seen : AreSeen a.masked cells)
+    (rank : length a.axes ≤ most_dimensions) (within : (is_within (shape_over a.axes) && are_within a.coords) ≡ true) where
+  abbrev value : Array
+  value = record { kind = a.kind; shape = shape_over a.axes; cells = cells }
+
+  inside : is_within (shape_over a.axes) ≡ true
+  inside = (and_parts (is_within (shape_over a.axes)) (are_within a.coords) within).0
+
+  short : list_all (λ n. nat_le n most_cells) (shape_over a.axes) ≡ true
+  short = (and_parts (list_all (λ n. nat_le n most_cells) (shape_over a.axes)) (nat_le (size (shape_over a.axes)) most_cells) inside).0
+
+  shape-length : (axes : List Axis) → length (shape_over axes) ≡ length axes
+  shape-length [] = refl
+  shape-length (x ∷ axes) = ap suc (shape-length axes)
+
+  pub fits : (old : List Node) → IsNode (values old) (Source value)
+  unfolding node_value
+  fits old = record { fits = record { whole = whole; range = range }; small = let few = few_cells (shape_over a.axes) inside in omega arith }
+
+  formed : (n : ℕ) → IsDataArray (with_cells (written a n) cells)
+  formed n = record {
+    name = name;
+    axes = record { each = short_axes a.axes short frame.each; distinct = frame.axes_distinct };
+    coords = frame.over;
+    distinct = frame.distinct;
+    attrs = record { each = tt; distinct = refl };
+    cells = record { whole = whole; range = range; seen = seen; low_rank = (let r = shape-length a.axes in omega arith); few = few_cells (shape_over a.axes) inside };
+  }
+
+  pub stands : (old new : List Node) (n : ℕ) → Pushes old new (Source value) n → (array_in new (written a n) ≡ with_cells (written a n) cells) × IsArrayIn new (written a n)
+  unfolding node_value
+  stands old new n pushes = (pushed_cells old new (Source value) n value refl pushes (written a n) refl, pushed_array old new (Source value) n value refl pushes (written a n) refl refl refl (formed n))
+
+pub within_is : (axes seen : List Axis) (coords held : List Coord) → seen ≡ axes → held ≡ coords → true ≡ (is_within (shape_over seen) && are_within held) → (is_within (shape_over axes) && are_within coords) ≡ true
+within_is axes seen coords held same look within =
+    sym (within ∙ ap (λ xs. is_within (shape_over xs) && are_within held) same ∙ ap (λ cs. is_within (shape_over axes) && are_within cs) look)
+
+abbrev cells_of : Outline → List ℕ → List (Option ℤ) → Array
+cells_of a shape cells = record { kind = a.kind; shape = shape; cells = cells }
+
+pub value_is : (a : Outline) (cells : List (Option ℤ)) (v : Array) (shape : List ℕ) (seen : List Axis) → v ≡ cells_of a shape cells → shape ≡ shape_over seen → seen ≡ a.axes → v ≡ cells_of a (shape_over a.axes) cells
+value_is a cells v shape seen is sizes same = is ∙ ap (λ s. cells_of a s cells) (sizes ∙ ap shape_over same)
+
+pub limits_hold : (a : Outline) (cells : List (Option ℤ)) → length a.axes ≤ most_dimensions → (is_within (shape_over a.axes) && are_within a.coords) ≡ true → limited (with_written a cells) ≡ Ok (with_written a cells)
+unfolding check_array unless
+limits_hold a cells rank within = let few : nat_le (length a.axes) most_dimensions ≡ true = le-leb (length a.axes) most_dimensions rank in rw (few, within) refl
+
+pub answered : (a : Outline) (cells : List (Option ℤ)) (new : List Node) (n : ℕ) (attrs : List Attr) → attrs ≡ [] → limited (with_written a cells) ≡ Ok (with_written a cells) → (array_in new (written a n) ≡ with_cells (written a n) cells) × IsArrayIn new (written a n)
+    → (limited (with_written a cells) ≡ Ok (array_in new (record (written a n) { attrs = attrs }))) × IsArrayIn new (record (written a n) { attrs = attrs })
+answered a cells new n attrs none within s =
+    subst (λ (xs : List Attr). (limited (with_written a cells) ≡ Ok (array_in new (record (written a n) { attrs = xs }))) × IsArrayIn new (record (written a n) { attrs = xs })) (sym none) (within ∙ ap Ok (sym s.0), s.1)

@@ -1,0 +1,6 @@
+use Rattle.std.proofs.Common.{◌≡◌, map, take}
+use Rattle.xr_building.specs.Gathered.{mask_byte}
+use Rattle.xr_building.proofs.cells.mask_of.Given as goal
+
+abbrev pub invariant-loop-cell : goal.invariant-loop-cell
+invariant-loop-cell l = l.out ≡ map mask_byte (take l.cell-index l.cells)

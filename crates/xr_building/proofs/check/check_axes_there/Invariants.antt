@@ -1,0 +1,7 @@
+use Rattle.std.proofs.Common.{◌≡◌, drop}
+use Rattle.xr_defs.specs.Results.{all_of}
+use Rattle.xr_building.specs.Places.{is_there}
+use Rattle.xr_building.proofs.check.check_axes_there.Given as goal
+
+abbrev pub invariant-loop-axis : goal.invariant-loop-axis
+invariant-loop-axis l = all_of (is_there l.axes) (drop l.axis-index l.own) ≡ all_of (is_there l.axes) l.own

@@ -1,0 +1,6 @@
+use Rattle.std.proofs.Common.{◌≡◌, drop}
+use Rattle.xr_defs.specs.Canonical.{are_distinct}
+use Rattle.xr_building.proofs.given.are_distinct.Given as goal
+
+abbrev pub invariant-loop-at : goal.invariant-loop-at
+invariant-loop-at l = are_distinct (drop l.at l.names) ≡ are_distinct l.names

@@ -1,0 +1,8 @@
+use Rattle.std.proofs.Common.{sym, ap, length, ◌∙◌}
+use Rattle.xr_defs.specs.Building as of
+use Rattle.xr_arguments.proofs.Variants.{is_list}
+use Rattle.xr_building.proofs.Items.{item_count_list}
+use Rattle.xr_building.proofs.nesting.item_count.Goals as goal
+
+pub returns-in-List : goal.returns-in-List
+returns-in-List c = λ nodes. ap length c.as_slice.ensures.value ∙ sym (ap of.item_count (is_list nodes c.args.value.now c.in-List.items c.in-List.is) ∙ item_count_list nodes c.in-List.items.items)

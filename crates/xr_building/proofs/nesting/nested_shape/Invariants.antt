@@ -1,0 +1,9 @@
+use Rattle.std.proofs.Common.{◌≡◌, ◌-◌, List, ◌++◌, option_map}
+use Rattle.xr_defs.specs.declared.node.Node.{Node}
+use Rattle.xr_defs.specs.Building as of
+use Rattle.xr_values.specs.Meaning.{meaning}
+use Rattle.xr_building.specs.Nested.{or_absent}
+use Rattle.xr_building.proofs.nesting.nested_shape.Given as goal
+
+abbrev pub invariant-loop : goal.invariant-loop
+invariant-loop l = (nodes : List Node) → l.shape ++ of.nested_shape (l.depth - l.counter) (or_absent (option_map (λ v. meaning nodes v.now) l.at)) ≡ of.nested_shape l.depth (meaning nodes l.value)

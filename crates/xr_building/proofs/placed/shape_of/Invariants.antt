@@ -1,0 +1,6 @@
+use Rattle.std.proofs.Common.{◌≡◌, take}
+use Rattle.xr_defs.specs.Values.{shape_over}
+use Rattle.xr_building.proofs.placed.shape_of.Given as goal
+
+abbrev pub invariant-loop-axis : goal.invariant-loop-axis
+invariant-loop-axis l = l.shape ≡ shape_over (take l.axis-index l.axes)

@@ -1,0 +1,131 @@
+//! Whether an array's axis has the size and the labels of the one that it stands for.
+ghost use Rattle.std.specs.Prelude.{◌≡◌, ◌&&◌, ◌==◌, map};
+ghost use Rattle.xr_types.specs.declared.axis.Label.TheVariants as label;
+ghost use Rattle.xr_defs.specs.Labels.{labels_of};
+ghost use Rattle.xr_defs.specs.Results.{Answers};
+ghost use Rattle.xr_defs.specs.Building as of;
+ghost use Rattle.xr_building.specs.Aligned.{are_aligned, checked_axis};
+
+use xr_types::{Axis, CallFault, Fault, LabelList, Labels, TextBytes};
+
+fn same_numbers(a: &[i64], b: &[i64]) -> bool
+    ensures { result ≡ of.same_labels (map label.Int a.now) (map label.Int b.now) }
+{
+    if a.len() != b.len() {
+        return false;
+    }
+    for i in 0..a.len() {
+        if a[i] != b[i] {
+            return false;
+        }
+    }
+    true
+}
+
+fn same_times(a: &[i64], b: &[i64]) -> bool
+    ensures { result ≡ of.same_labels (map label.Time a.now) (map label.Time b.now) }
+{
+    if a.len() != b.len() {
+        return false;
+    }
+    for i in 0..a.len() {
+        if a[i] != b[i] {
+            return false;
+        }
+    }
+    true
+}
+
+#[tactic(auto, using(crate::proofs::Same::text_same))]
+fn same_texts(a: &[TextBytes], b: &[TextBytes]) -> bool
+    ensures { result ≡ of.same_labels (map label.Text a.now) (map label.Text b.now) }
+{
+    if a.len() != b.len() {
+        return false;
+    }
+    for i in 0..a.len() {
+        if !a[i].is(&b[i]) {
+            return false;
+        }
+    }
+    true
+}
+
+fn are_none(a: usize, b: usize) -> bool
+    ensures { result ≡ ((a == 0) && (b == 0)) }
+{
+    a == 0 && b == 0
+}
+
+// Labels of two kinds are the same where there are none.
+#[tactic(auto, using(crate::proofs::Same::int_time, crate::proofs::Same::int_text))]
+fn same_as_numbers(a: &[i64], b: &LabelList) -> bool
+    ensures { result ≡ of.same_labels (map label.Int a.now) (labels_of b.now) }
+{
+    match b {
+        LabelList::Numbers(_, b) => same_numbers(a, b.as_slice()),
+        LabelList::Times(_, b) => are_none(a.len(), b.as_slice().len()),
+        LabelList::Texts(b) => are_none(a.len(), b.as_slice().len()),
+    }
+}
+
+#[tactic(auto, using(crate::proofs::Same::time_int, crate::proofs::Same::time_text))]
+fn same_as_times(a: &[i64], b: &LabelList) -> bool
+    ensures { result ≡ of.same_labels (map label.Time a.now) (labels_of b.now) }
+{
+    match b {
+        LabelList::Numbers(_, b) => are_none(a.len(), b.as_slice().len()),
+        LabelList::Times(_, b) => same_times(a, b.as_slice()),
+        LabelList::Texts(b) => are_none(a.len(), b.as_slice().len()),
+    }
+}
+
+#[tactic(auto, using(crate::proofs::Same::text_int, crate::proofs::Same::text_time))]
+fn same_as_texts(a: &[TextBytes], b: &LabelList) -> bool
+    ensures { result ≡ of.same_labels (map label.Text a.now) (labels_of b.now) }
+{
+    match b {
+        LabelList::Numbers(_, b) => are_none(a.len(), b.as_slice().len()),
+        LabelList::Times(_, b) => are_none(a.len(), b.as_slice().len()),
+        LabelList::Texts(b) => same_texts(a, b.as_slice()),
+    }
+}
+
+fn same_labels(a: &LabelList, b: &LabelList) -> bool
+    ensures { result ≡ of.same_labels (labels_of a.now) (labels_of b.now) }
+{
+    match a {
+        LabelList::Numbers(_, a) => same_as_numbers(a.as_slice(), b),
+        LabelList::Times(_, a) => same_as_times(a.as_slice(), b),
+        LabelList::Texts(a) => same_as_texts(a.as_slice(), b),
+    }
+}
+
+// An axis without labels is aligned with any.
+fn are_aligned(given: &Option<Labels>, own: &Option<Labels>) -> bool
+    ensures { result ≡ are_aligned given.now own.now }
+{
+    match (given, own) {
+        (None, _) => true,
+        (Some(_), None) => false,
+        (Some(given), Some(own)) => same_labels(&given.list, &own.list),
+    }
+}
+
+/// Refuses an axis that can't stand for this one.
+///
+/// # Errors
+/// `SizeConflict` for another size, then `NotAligned` for other labels.
+#[tactic(auto, unfolding(xr_defs::specs::Results::unless))]
+pub fn check_aligned(given: &Axis, own: &Axis) -> Result<(), CallFault>
+    ensures { Answers (λ u. u) result (checked_axis given.now own.now) }
+{
+    if given.size != own.size {
+        return Err(CallFault::Refused(Fault::SizeConflict));
+    }
+    if are_aligned(&given.labels, &own.labels) {
+        Ok(())
+    } else {
+        Err(CallFault::Refused(Fault::NotAligned))
+    }
+}

@@ -1,0 +1,148 @@
+//! What an array is given: its dimensions, its name and its kind.
+ghost use Rattle.std.specs.Prelude.{◌≡◌, ◌≢◌, ◌&&◌, ◌==◌, List, true, not, option_map, length, All, IfOk, MatchOption, Some, ⊤};
+ghost use Rattle.std.specs.List.{list_all};
+ghost use Rattle.xr_types.specs.declared.kind.DType.TheVariants as kinds;
+ghost use Rattle.xr_defs.specs.declared.node.Node.{Node};
+ghost use Rattle.xr_defs.specs.Results.{Answers};
+ghost use Rattle.xr_defs.specs.Classic.{among, is_name};
+ghost use Rattle.xr_defs.specs.Canonical.{are_distinct};
+ghost use Rattle.xr_defs.specs.Building as of;
+ghost use Rattle.xr_defs.specs.Parts as parts;
+ghost use Rattle.xr_values.specs.Meaning.{meaning};
+
+use std::alloc::Global;
+use xr_arguments::{as_text, texts_in};
+use xr_types::{CallFault, DType, DeepCopy, Fault, Items, Name, TextBytes};
+use xr_values::Value;
+
+/// Whether a text is a name: it isn't empty.
+pub fn is_named(text: &TextBytes) -> bool
+    ensures value { result ≡ not (length text.now == 0) }
+    ensures name { result ≡ is_name text.now }
+{
+    !text.as_str().is_empty()
+}
+
+fn are_named(names: &[TextBytes]) -> bool
+    ensures value { result ≡ list_all (λ n. not (length n == 0)) names.now }
+    ensures names { result ≡ list_all is_name names.now }
+{
+    for name in names {
+        if !is_named(name) {
+            return false;
+        }
+    }
+    true
+}
+
+/// Whether the name is one of these.
+pub fn is_among(names: &[TextBytes], name: &TextBytes) -> bool
+    ensures { result ≡ among names.now name.now }
+{
+    for other in names {
+        if name.is(other) {
+            return true;
+        }
+    }
+    false
+}
+
+fn are_distinct(names: &[TextBytes]) -> bool
+    ensures { result ≡ are_distinct names.now }
+{
+    for at in 0..names.len() {
+        let (_, behind) = names.split_at(at + 1);
+        if is_among(behind, &names[at]) {
+            return false;
+        }
+    }
+    true
+}
+
+/// The names of the dimensions.
+///
+/// # Errors
+/// `WrongKind` unless it is a list of texts; `BadArgument` where one is empty or stands twice.
+#[tactic(auto, using(xr_arguments::proofs::Variants::is_list, xr_values::proofs::Meaning::meaning_out), unfolding(xr_defs::specs::Building::dims_given, xr_defs::specs::Results::unless))]
+pub fn dims_given(alloc: Global, value: &Value) -> Result<Items<Name>, CallFault>
+    ensures answers { (nodes : List Node) → Answers (λ ds. ds) result (of.dims_given (Some (meaning nodes value.now))) }
+    ensures distinct { IfOk result (λ ds. are_distinct ds ≡ true) }
+    ensures names { IfOk result (λ ds. list_all is_name ds ≡ true) }
+{
+    match value {
+        Value::List(items) => {
+            let names = texts_in(alloc, items.as_slice())?;
+            if are_distinct(names.as_slice()) && are_named(names.as_slice()) {
+                Ok(names)
+            } else {
+                Err(CallFault::Refused(Fault::BadArgument))
+            }
+        }
+        _ => Err(CallFault::Refused(Fault::WrongKind)),
+    }
+}
+
+#[tactic(auto, unfolding(xr_defs::specs::Parts::new_name, xr_defs::specs::Results::unless))]
+fn new_name(alloc: Global, value: &Value) -> Result<Name, CallFault>
+    ensures answers { (nodes : List Node) → Answers (λ t. t) result (parts.new_name (meaning nodes value.now)) }
+    ensures name { IfOk result (λ t. is_name t ≡ true) }
+{
+    let text = as_text(value)?;
+    if is_named(text) {
+        Ok(text.deep_copy(alloc)?)
+    } else {
+        Err(CallFault::Refused(Fault::BadArgument))
+    }
+}
+
+/// The name, where one is given.
+///
+/// # Errors
+/// `WrongKind` unless it is a text; `BadArgument` where it is empty.
+#[tactic(auto, unfolding(xr_defs::specs::Building::name_given))]
+pub fn name_given(alloc: Global, value: Option<&Value>) -> Result<Option<Name>, CallFault>
+    ensures answers { (nodes : List Node) → Answers (λ t. t) result (of.name_given (option_map (λ v. meaning nodes v.now) value.entry)) }
+    ensures name { IfOk result (λ t. MatchOption t ⊤ (λ n. is_name n ≡ true)) }
+{
+    match value {
+        None => Ok(None),
+        Some(value) => Ok(Some(new_name(alloc, value)?)),
+    }
+}
+
+fn kind_named(text: &str) -> Option<DType>
+    ensures value { result ≡ of.kind_named text.now of.kinds_named }
+    ensures number { MatchOption result ⊤ (λ k. k ≢ kinds.Char) }
+{
+    if "bool" == text {
+        Some(DType::Bool)
+    } else if "int8" == text {
+        Some(DType::Int8)
+    } else if "int16" == text {
+        Some(DType::Int16)
+    } else if "int32" == text {
+        Some(DType::Int32)
+    } else if "int64" == text {
+        Some(DType::Int64)
+    } else {
+        None
+    }
+}
+
+/// The kind, where one is given.
+///
+/// # Errors
+/// `WrongKind` unless it is a text; `BadArgument` unless it names a kind of numbers or truth values.
+#[tactic(auto, unfolding(xr_defs::specs::Building::kind_given))]
+pub fn kind_given(value: Option<&Value>) -> Result<Option<DType>, CallFault>
+    ensures answers { (nodes : List Node) → Answers (λ k. k) result (of.kind_given (option_map (λ v. meaning nodes v.now) value.entry)) }
+    ensures number { IfOk result (λ o. MatchOption o ⊤ (λ k. k ≢ kinds.Char)) }
+{
+    match value {
+        None => Ok(None),
+        Some(value) => match kind_named(as_text(value)?.as_str()) {
+            Some(kind) => Ok(Some(kind)),
+            None => Err(CallFault::Refused(Fault::BadArgument)),
+        },
+    }
+}

@@ -1,0 +1,82 @@
+//! Arrays whose cells are written out.
+ghost use Rattle.std.specs.Prelude.{◌≡◌, ◌≢◌, length, true, MatchOption, ⊤, All, IfOk};
+ghost use Rattle.xr_types.specs.declared.kind.DType.TheVariants as kinds;
+ghost use Rattle.xr_defs.specs.Classic.{is_name};
+ghost use Rattle.xr_defs.specs.Points.{size};
+ghost use Rattle.xr_defs.specs.Arrays.{IsCell};
+ghost use Rattle.xr_defs.specs.Values.{shape_over};
+ghost use Rattle.plan_core.specs.Plans.{Grows};
+ghost use Rattle.xr_values.specs.Answers.{AnswersArray};
+ghost use Rattle.xr_values.specs.WellFormed.{AreSeen};
+ghost use Rattle.xr_building.specs.Frames.{IsFrame};
+ghost use Rattle.xr_building.specs.Placed.{limited, with_written};
+
+use crate::cells::array_value;
+use crate::limits::is_frame_within;
+use plan_core::Plan;
+use std::alloc::{AllocError, Global};
+use xr_defs::{Coord, Node};
+use xr_types::{Axis, CallFault, DType, Fault, Items, MOST_DIMENSIONS, Name};
+use xr_values::DataArray;
+
+/// An array without its cells.
+#[derive(Drop)]
+pub struct Outline {
+    pub name: Option<Name>,
+    pub axes: Items<Axis>,
+    pub coords: Items<Coord>,
+    pub kind: DType,
+    /// Whether missing cells may stand in the array.
+    pub masked: bool,
+}
+
+fn shape_of(alloc: Global, axes: &[Axis]) -> Result<Items<u64>, AllocError>
+    ensures { IfOk result (λ s. s ≡ shape_over axes.now) }
+{
+    let mut shape = Items::new(alloc);
+    for axis in axes {
+        shape.push(axis.size)?;
+    }
+    Ok(shape)
+}
+
+/// The array of these cells, which are those of a node that is added to the plan.
+///
+/// # Errors
+/// `TooLarge` for more dimensions, positions or cells than an array may have.
+#[tactic(auto, unfolding(xr_defs::specs::Selecting::check_array, xr_defs::specs::Results::unless))]
+pub fn place(
+    alloc: Global,
+    plan: &mut Plan,
+    outline: Outline,
+    cells: &[Option<i128>],
+) -> Result<DataArray, CallFault>
+    requires frame { IsFrame outline.axes outline.coords }
+    requires name { MatchOption outline.name ⊤ (λ n. is_name n ≡ true) }
+    requires kind { outline.kind ≢ kinds.Char }
+    requires whole { length cells.now ≡ size (shape_over outline.axes) }
+    requires range { All (IsCell outline.kind) cells.now }
+    requires seen { AreSeen outline.masked cells.now }
+    ensures answers { AnswersArray plan.new result (limited (with_written outline cells.now)) }
+    ensures grows { Grows plan.old plan.new }
+{
+    let axes = outline.axes.as_slice();
+    if axes.len() > MOST_DIMENSIONS {
+        return Err(CallFault::Refused(Fault::TooLarge));
+    }
+    if !is_frame_within(axes, outline.coords.as_slice()) {
+        return Err(CallFault::Refused(Fault::TooLarge));
+    }
+    let shape = shape_of(alloc, axes)?;
+    let cells = array_value(alloc, outline.kind, shape, outline.masked, cells)?;
+    let node = plan.push(Node::Source { cells })?;
+    Ok(DataArray {
+        name: outline.name,
+        axes: outline.axes,
+        kind: outline.kind,
+        masked: outline.masked,
+        attrs: Items::new(alloc),
+        coords: outline.coords,
+        node,
+    })
+}

@@ -1,0 +1,19 @@
+use Rattle.std.proofs.Common.{◌∷◌, [], sym, subst}
+use Rattle.xr_decode.specs.declared.role.Role.TheVariants.{Data}
+use Rattle.xr_decode.specs.Held.{AreHeld}
+use Rattle.xr_decode.specs.Roles.{IsRole}
+use Rattle.xr_decode.proofs.OneByOne.{data_one}
+use Rattle.xr_decode.proofs.parts.add_variable.Goals as goal
+
+pub returns-in_ok-put-in-Data-clause-adds : goal.returns-in_ok-put-in-Data-clause-adds
+returns-in_ok-put-in-Data-clause-adds c =
+    let f = c.args.source.now in
+    let v = c.args.var.now in
+    let x = c.in_ok-variable-in-Data.variable in
+    let role : IsRole f v Data = subst (IsRole f v) c.in-Data.is c.in_ok-role_of.ensures in
+    record {
+      more = x ∷ [];
+      put = c.in_ok-put-in-Data.ensures.ok;
+      held = subst (AreHeld f c.args.mask c.variable_of.new.plan (x ∷ [])) (sym (data_one f v Data role))
+          (record { stands = c.in_ok-variable-in-Data.ensures.variable; node = c.in_ok-variable-in-Data.ensures.node }, tt);
+    }

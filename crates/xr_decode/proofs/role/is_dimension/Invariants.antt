@@ -1,0 +1,7 @@
+use Rattle.std.proofs.Common.{◌≡◌, drop, map}
+use Rattle.xr_defs.specs.declared.file.CdfDim.{CdfDim}
+use Rattle.xr_defs.specs.Classic.{among}
+use Rattle.xr_decode.proofs.role.is_dimension.Given as goal
+
+abbrev pub invariant-loop-dim : goal.invariant-loop-dim
+invariant-loop-dim l = among (map (λ (d : CdfDim). d.name) (drop l.dim-index l.dims)) l.name ≡ among (map (λ (d : CdfDim). d.name) l.dims) l.name

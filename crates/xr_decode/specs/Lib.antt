@@ -1,0 +1,6 @@
+pub mod Cells
+pub mod Held
+pub mod Listed
+pub mod Readable
+pub mod Roles
+pub mod Stored

@@ -1,0 +1,76 @@
+//! From a file, or from its bytes, to a dataset.
+ghost use Rattle.std.specs.Prelude.{◌≡◌};
+ghost use Rattle.xr_defs.specs.Decoding.{set_of};
+ghost use Rattle.xr_defs.specs.Calls.{set_in};
+ghost use Rattle.plan_core.specs.Plans.{Grows};
+ghost use Rattle.xr_values.specs.Answers.{AnswersSet};
+ghost use Rattle.xr_decode.specs.Readable.{IsReadable};
+
+use crate::stored::Source;
+use crate::whole::set_of;
+use cdf_reader::{CdfFault, read_head};
+use plan_core::{Compute, Plan};
+use std::alloc::Global;
+use xr_defs::CdfFile;
+use xr_types::{CallFault, Fault};
+use xr_values::{Cx, Dataset};
+
+/// The dataset of a file, with missing cells where `mask` asks for them (CF Conventions; xarray, `decode_cf`). The cells of its
+/// data variables become nodes of the plan.
+///
+/// The parts of the file have to fit together; the values of `float` and `double` variables aren't looked at.
+///
+/// # Errors
+/// `TooLarge` where there are more data variables and coordinates than a dataset may have, and want of memory.
+pub fn decode_into(
+    alloc: Global,
+    plan: &mut Plan,
+    file: &CdfFile,
+    mask: bool,
+) -> Result<Dataset, CallFault>
+    requires { IsReadable file.now }
+    ensures answers { AnswersSet plan.new result (set_of file.now mask) }
+    ensures grows { Grows plan.old plan.new }
+{
+    let source = Source::of_file(alloc, file)?;
+    set_of(alloc, plan, &source, mask)
+}
+
+/// The dataset of a file, as `decode_into` gives it.
+pub fn decode_set<C: Compute>(
+    alloc: Global,
+    cx: &mut Cx<C>,
+    file: &CdfFile,
+    mask: bool,
+) -> Result<Dataset, CallFault>
+    requires { IsReadable file.now }
+    ensures answers { AnswersSet cx.new.plan result (set_of file.now mask) }
+    ensures grows { Grows cx.old.plan cx.new.plan }
+{
+    decode_into(alloc, &mut cx.plan, file, mask)
+}
+
+/// The dataset of the file that the bytes spell, as `decode_into` gives it, without a copy of the file. Values of variables that
+/// have no records are read where they lie; those of a record variable are put together, one variable at a time.
+///
+/// # Errors
+/// `BadFile`, with the first fault and its byte, where the bytes spell no file; and what `decode_into` answers.
+#[tactic(auto, unfolding(xr_defs::specs::Calls::set_in))]
+pub fn decode_bytes(
+    alloc: Global,
+    plan: &mut Plan,
+    bytes: &[u8],
+    mask: bool,
+) -> Result<Dataset, CallFault>
+    ensures answers { AnswersSet plan.new result (set_in bytes.now mask) }
+    ensures grows { Grows plan.old plan.new }
+{
+    match read_head(alloc, bytes) {
+        Ok(head) => {
+            let source = Source::of_head(alloc, bytes, &head)?;
+            set_of(alloc, plan, &source, mask)
+        }
+        Err(CdfFault::At(kind, at)) => Err(CallFault::Refused(Fault::BadFile(kind, at))),
+        Err(CdfFault::NoMemory) => Err(CallFault::NoMemory),
+    }
+}

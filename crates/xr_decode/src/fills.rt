@@ -1,0 +1,92 @@
+//! Whole numbers in attributes, and those that stand for missing cells.
+ghost use Rattle.std.specs.Prelude.{◌≡◌, ◌++◌, ◌*◌, ◌/◌, ◌≤ℤ◌, [], map, length, IfOk, OnOk, if◌then◌else◌};
+ghost use Rattle.xr_types.specs.Kinds.{low, high};
+ghost use Rattle.xr_types.specs.declared.kind.DType.TheVariants as kinds;
+ghost use Rattle.xr_defs.specs.Arrays.{wide};
+ghost use Rattle.xr_defs.specs.Classic.{width};
+ghost use Rattle.xr_defs.specs.Decoding.{is_integer, attr_numbers, the_one, fill_numbers};
+ghost use Rattle.xr_defs.specs.Numbers.{numbers_of};
+ghost use Rattle.xr_values.specs.WellFormed.{AreAttributes};
+
+use crate::attributes::find_attr;
+use crate::kinds::is_integer;
+use cdf_reader::numbers_in;
+use std::alloc::Global;
+use xr_defs::Cells;
+use xr_types::{Attr, Elem, Items, NoMemory};
+
+fn push_row<T: Elem>(out: &mut Items<i64>, numbers: &[T]) -> Result<(), NoMemory>
+    requires least { low kinds.Int64 ≤ℤ low T.kind }
+    requires greatest { high T.kind ≤ℤ high kinds.Int64 }
+    ensures { OnOk result (out.new ≡ out.old ++ map T.number numbers.now) }
+{
+    for n in numbers {
+        out.push(i64::wrap_from(n.widen()))?;
+    }
+    Ok(())
+}
+
+/// Adds the numbers of cells.
+pub(crate) fn push_numbers(out: &mut Items<i64>, cells: &Cells) -> Result<(), NoMemory>
+    ensures { OnOk result (out.new ≡ out.old ++ wide cells.now) }
+{
+    match cells {
+        Cells::Bool(v) | Cells::Char(v) => push_row(out, v.as_slice()),
+        Cells::Int8(v) => push_row(out, v.as_slice()),
+        Cells::Int16(v) => push_row(out, v.as_slice()),
+        Cells::Int32(v) => push_row(out, v.as_slice()),
+        Cells::Int64(v) => push_row(out, v.as_slice()),
+    }
+}
+
+fn numbers_of_attr(alloc: Global, attr: &Attr) -> Result<Items<i64>, NoMemory>
+    requires whole { length attr.now.raw ≡ (length attr.now.raw / width attr.now.kind) * width attr.now.kind }
+    ensures { IfOk result (λ ns. ns ≡ (if is_integer attr.now.kind then numbers_of attr.now.kind attr.now.raw else [])) }
+{
+    let mut numbers = Items::new(alloc);
+    if !is_integer(attr.kind) {
+        return Ok(numbers);
+    }
+    let read = numbers_in(alloc, attr.kind, attr.raw.as_slice())?;
+    push_numbers(&mut numbers, &read.cells)?;
+    Ok(numbers)
+}
+
+/// The numbers of the first attribute of a name, where it holds whole numbers.
+pub(crate) fn attr_numbers(
+    alloc: Global,
+    name: &str,
+    attrs: &[Attr],
+) -> Result<Items<i64>, NoMemory>
+    requires { AreAttributes attrs.now }
+    ensures { IfOk result (λ ns. ns ≡ attr_numbers name.now attrs.now) }
+{
+    match find_attr(name, attrs) {
+        Some(attr) => numbers_of_attr(alloc, attr),
+        None => Ok(Items::new(alloc)),
+    }
+}
+
+/// The numbers that stand for missing cells: the one of `_FillValue`, and all of `missing_value`.
+pub(crate) fn fill_numbers(alloc: Global, attrs: &[Attr]) -> Result<Items<i64>, NoMemory>
+    requires { AreAttributes attrs.now }
+    ensures { IfOk result (λ ns. ns ≡ fill_numbers attrs.now) }
+{
+    let own = attr_numbers(alloc, "_FillValue", attrs)?;
+    let others = attr_numbers(alloc, "missing_value", attrs)?;
+    with_the_one(own.as_slice(), others)
+}
+
+// The numbers behind the own one. Of several own ones none counts.
+fn with_the_one(own: &[i64], others: Items<i64>) -> Result<Items<i64>, NoMemory>
+    ensures { IfOk result (λ ns. ns ≡ the_one own.now ++ others) }
+{
+    match own {
+        [one] => {
+            let mut all = others.into_vec();
+            all.insert(0, *one)?;
+            Ok(Items::of(all))
+        }
+        _ => Ok(others),
+    }
+}

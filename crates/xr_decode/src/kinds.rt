@@ -1,0 +1,43 @@
+//! Kinds of types of values.
+ghost use Rattle.std.specs.Prelude.{◌≡◌};
+ghost use Rattle.xr_defs.specs.Decoding.{is_byte, is_char, is_integer};
+ghost use Rattle.xr_defs.specs.Numbers.{cells_kind, is_whole};
+
+use xr_types::{DType, NcType};
+
+pub(crate) fn is_whole(kind: NcType) -> bool
+    ensures { result ≡ is_whole kind }
+{
+    !matches!(kind, NcType::Float | NcType::Double)
+}
+
+pub(crate) fn is_char(kind: NcType) -> bool
+    ensures { result ≡ is_char kind }
+{
+    matches!(kind, NcType::Char)
+}
+
+pub(crate) fn is_byte(kind: NcType) -> bool
+    ensures { result ≡ is_byte kind }
+{
+    matches!(kind, NcType::Byte)
+}
+
+/// Whether the values are whole numbers, which texts aren't.
+pub(crate) fn is_integer(kind: NcType) -> bool
+    ensures { result ≡ is_integer kind }
+{
+    matches!(kind, NcType::Byte | NcType::Short | NcType::Int)
+}
+
+/// The kind of the cells that hold a type's numbers.
+pub(crate) fn cells_kind(kind: NcType) -> DType
+    ensures { result ≡ cells_kind kind }
+{
+    match kind {
+        NcType::Byte => DType::Int8,
+        NcType::Char => DType::Char,
+        NcType::Short => DType::Int16,
+        NcType::Int | NcType::Float | NcType::Double => DType::Int32,
+    }
+}

@@ -1,0 +1,100 @@
+-- A variable that was checked, with its values.
+use Rattle.std.proofs.Common.{◌≡◌, ℕ, ℤ, pos, Bool, true, false, List, [], ◌∷◌, ◌++◌, map, Option, Some, refl, sym, ap, ◌∙◌}
+use Rattle.std.specs.Prelude.{◌&&◌, ◌||◌, not, unwrap_or, flat_map, Ok, Err}
+use Rattle.std.specs.List.{list_all}
+use Rattle.xr_types.specs.declared.kind.DType.TheVariants as kinds
+use Rattle.xr_types.specs.declared.attr.NcType.{NcType}
+use Rattle.xr_types.specs.declared.fault.Fault.TheVariants.{CannotHold}
+use Rattle.xr_defs.specs.declared.file.CdfDim.{CdfDim}
+use Rattle.xr_defs.specs.declared.file.CdfVar.{CdfVar}
+use Rattle.xr_defs.specs.declared.write_options.WriteOptions.{WriteOptions}
+use Rattle.xr_defs.specs.Results.{◌>>=◌, unless}
+use Rattle.xr_defs.specs.Encoding.{Stored, holds_cell, type_of, fill_for, check_fill, check_fit, check_cells, text_cells, text_width, filled_up, var_of, value_bytes}
+use Rattle.xr_encode.specs.declared.outline.Outline.{Outline}
+use Rattle.xr_encode.specs.Outlines.{filled_with, without_cells, outline_of}
+use Rattle.xr_encode.specs.Rows.{cells_bytes}
+use Rattle.xr_encode.specs.Texts.{AreBytes}
+use Rattle.xr_encode.specs.Walk.{var_with, written_bytes, cells_if, var_checked}
+use Rattle.xr_encode.proofs.Bytes.{texts_hold, texts_again}
+
+-- ---- where no cell may be missing
+
+two_pass : {E : Type 0} (masked a b : Bool) (e f : E) → masked ≡ false → (unless (not (masked && a && b)) e >>= λ u. unless (not masked || b) f) ≡ Ok tt
+unfolding unless
+two_pass true a b e f m = cc
+two_pass false a b e f m = refl
+
+fit_by : {E : Type 0} (masked a b c d : Bool) (e f : E) → masked ≡ false → (unless (not (masked && a && b) || c) e >>= λ u. unless (not masked || d) f) ≡ Ok tt
+unfolding unless
+fit_by true a b c d e f m = cc
+fit_by false a b c d e f m = refl
+
+pub plain_fit : (options : WriteOptions) (o : Stored) → o.masked ≡ false → check_fit options o ≡ Ok tt
+unfolding check_fit
+plain_fit options o m = fit_by o.masked _ _ _ _ _ _ m
+
+check_by : {E : Type 0} (masked a b : Bool) (e f : E) → masked ≡ false → (unless a e >>= λ u. unless (not (masked && b)) f) ≡ unless a e
+unfolding unless
+check_by true a b e f m = cc
+check_by false true b e f m = refl
+check_by false false b e f m = refl
+
+pub plain_check : (options : WriteOptions) (o : Stored) → o.masked ≡ false → check_cells options o ≡ unless (list_all (holds_cell (type_of o.kind)) o.cells) CannotHold
+unfolding check_cells
+plain_check options o m = check_by o.masked _ _ _ _ m
+
+ok_where : {E : Type 0} (a : Bool) (e : E) → a ≡ true → unless a e ≡ Ok tt
+unfolding unless
+ok_where true e h = refl
+ok_where false e h = cc
+
+err_where : {E : Type 0} (a : Bool) (e : E) → a ≡ false → unless a e ≡ Err e
+unfolding unless
+err_where true e h = cc
+err_where false e h = refl
+
+-- ---- what is told of a variable
+
+pub told_fault : (small : Bool) (dims : List CdfDim) (options : WriteOptions) (o : Outline) (cells : List (Option ℤ)) → o.masked ≡ false → list_all (holds_cell (type_of o.kind)) cells ≡ false → var_checked small dims options (filled_with cells o) ≡ Err CannotHold
+unfolding var_checked
+told_fault small dims options o cells m h = ap (λ r. r >>= λ u. Ok (var_of dims options (cells_if small (filled_with cells o)))) (plain_check options (filled_with cells o) m ∙ err_where _ CannotHold h)
+
+told : (small : Bool) (dims : List CdfDim) (options : WriteOptions) (o : Outline) (cells : List (Option ℤ)) → o.masked ≡ false → list_all (holds_cell (type_of o.kind)) cells ≡ true → var_checked small dims options (filled_with cells o) ≡ Ok (var_of dims options (cells_if small (filled_with cells o)))
+unfolding var_checked
+told small dims options o cells m h = ap (λ r. r >>= λ u. Ok (var_of dims options (cells_if small (filled_with cells o)))) (plain_check options (filled_with cells o) m ∙ ok_where _ CannotHold h)
+
+pub told_unwritten : (small : Bool) (dims : List CdfDim) (options : WriteOptions) (o : Outline) (cells : List (Option ℤ)) (v : CdfVar) (raw : List ℕ) → small ≡ false → o.masked ≡ false → list_all (holds_cell (type_of o.kind)) cells ≡ true → raw ≡ [] → v ≡ var_with dims options o raw
+    → var_checked small dims options (filled_with cells o) ≡ Ok v
+told_unwritten small dims options o cells v raw s m h none is =
+    told small dims options o cells m h ∙ ap (λ b. Ok (var_of dims options (cells_if b (filled_with cells o)))) s ∙ sym (ap Ok (is ∙ ap (var_with dims options o) none))
+
+pub told_written : (small : Bool) (dims : List CdfDim) (options : WriteOptions) (o : Outline) (cells : List (Option ℤ)) (v : CdfVar) (raw : List ℕ) → small ≡ true → o.masked ≡ false → list_all (holds_cell (type_of o.kind)) cells ≡ true → raw ≡ written_bytes options (filled_with cells o)
+    → v ≡ var_with dims options o raw → var_checked small dims options (filled_with cells o) ≡ Ok v
+told_written small dims options o cells v raw s m h bytes is =
+    told small dims options o cells m h ∙ ap (λ b. Ok (var_of dims options (cells_if b (filled_with cells o)))) s ∙ sym (ap Ok (is ∙ ap (var_with dims options o) bytes))
+
+-- ---- bytes of labels and of texts
+
+same_bytes : (t : NcType) (f g : ℤ) (ns : List ℤ) → cells_bytes t f (map Some ns) ≡ cells_bytes t g (map Some ns)
+same_bytes t f g [] = refl
+same_bytes t f g (n ∷ ns) = ap (λ l. value_bytes t n ++ l) (same_bytes t f g ns)
+
+pub labels_written : (options : WriteOptions) (o : Outline) (ns : List ℤ) → cells_bytes (type_of o.kind) (pos 0) (map Some ns) ≡ written_bytes options (filled_with (map Some ns) o)
+labels_written options o ns = same_bytes (type_of o.kind) (pos 0) (unwrap_or (fill_for options (without_cells o)) (pos 0)) ns
+
+pub texts_checked : (o : Outline) (texts : List (List ℕ)) → o.kind ≡ kinds.Char → AreBytes texts → list_all (holds_cell (type_of o.kind)) (text_cells texts) ≡ true
+texts_checked o texts k bytes = ap (λ t. list_all (holds_cell (type_of t)) (text_cells texts)) k ∙ texts_hold texts bytes
+
+pub texts_written : (options : WriteOptions) (o : Outline) (texts : List (List ℕ)) → o.kind ≡ kinds.Char → AreBytes texts → flat_map (filled_up (text_width texts)) texts ≡ written_bytes options (filled_with (text_cells texts) o)
+texts_written options o texts k bytes =
+    let fill : ℤ = unwrap_or (fill_for options (without_cells o)) (pos 0) in
+    sym (ap (λ t. cells_bytes (type_of t) fill (text_cells texts)) k ∙ texts_again fill texts bytes)
+
+-- the check of fill numbers looks at no cells
+pub same_fit : (options : WriteOptions) (o : Stored) → check_fit options (without_cells (outline_of o)) ≡ check_fit options o
+unfolding check_fit
+same_fit options o = refl
+
+pub same_fill : (options : WriteOptions) (o : Stored) → check_fill options (without_cells (outline_of o)) ≡ check_fill options o
+unfolding check_fill
+same_fill options o = refl

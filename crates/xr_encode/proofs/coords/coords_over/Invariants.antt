@@ -1,0 +1,7 @@
+use Rattle.std.proofs.Common.{◌≡◌, ◌-◌, drop, length, map}
+use Rattle.xr_defs.specs.Printing.{by_name}
+use Rattle.xr_defs.specs.Encoding.{coords_over}
+use Rattle.xr_encode.proofs.coords.coords_over.Given as goal
+
+abbrev pub invariant-loop-i : goal.invariant-loop-i
+invariant-loop-i l = map (λ c. c.now) l.sorted.items ≡ by_name (coords_over l.dims (drop (length l.coords - l.i) l.coords))

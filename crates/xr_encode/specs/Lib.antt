@@ -1,0 +1,12 @@
+pub mod Outlines
+pub mod Widths
+pub mod Numbers
+pub mod Attributes
+pub mod Checks
+pub mod Dimensions
+pub mod Rows
+pub mod Walk
+pub mod Texts
+pub mod Sets
+pub mod Encoded
+pub mod Frames

@@ -1,0 +1,27 @@
+//! From datasets to classic netCDF files (CF Conventions; xarray, `Dataset.to_netcdf`).
+#![tactic(auto)]
+
+mod array;
+mod attrs;
+mod check;
+mod computed;
+mod coords;
+mod dims;
+mod encode;
+mod fill;
+mod filled;
+mod frame;
+mod held;
+mod label;
+mod name;
+mod number;
+mod outline;
+mod parts;
+mod plain;
+mod run;
+mod set;
+mod size;
+mod text;
+mod widths;
+
+pub use encode::encode_set;

@@ -1,0 +1,5 @@
+pub mod Choices
+pub mod Unbounded
+pub mod Labels
+pub mod Selections
+pub mod Limits

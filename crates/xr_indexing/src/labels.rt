@@ -1,0 +1,123 @@
+//! Labels at positions of an axis.
+ghost use Rattle.std.specs.Prelude.{◌≡◌, ◌<◌, length, pos, true, All, IfOk, MatchOption, ⊤, [], ◌∷◌, Some};
+ghost use Rattle.xr_types.specs.Kinds.{InRange};
+ghost use Rattle.xr_defs.specs.Values.{label_count, chosen, chosen_list, chosen_axis};
+ghost use Rattle.xr_defs.specs.Selecting.{label_content};
+ghost use Rattle.xr_defs.specs.Building.{is_integer_kind};
+ghost use Rattle.xr_values.specs.WellFormed.{AreLabels, IsIndex};
+ghost use Rattle.xr_indexing.specs.Labels.{scalar};
+ghost use Rattle.std.specs.Option.{option_map};
+ghost use Rattle.xr_types.specs.declared.axis.Labels.{Labels as Index};
+
+use std::alloc::{AllocError, Global};
+use xr_defs::{ArrayValue, Cells, Content};
+use xr_types::{Axis, DType, DeepCopy, Items, LabelList, Labels, TextBytes};
+
+/// An array without dimensions.
+pub fn scalar(alloc: Global, kind: DType, n: i64) -> Result<ArrayValue, AllocError>
+    requires integer { is_integer_kind kind ≡ true }
+    requires range { InRange kind n }
+    ensures { IfOk result (λ a. a ≡ scalar kind n) }
+{
+    let cells = match kind {
+        DType::Bool => Cells::Bool(Items::of(vec![in alloc; 0]?)),
+        DType::Char => Cells::Char(Items::of(vec![in alloc; 0]?)),
+        DType::Int8 => Cells::Int8(Items::of(vec![in alloc; n as i8]?)),
+        DType::Int16 => Cells::Int16(Items::of(vec![in alloc; n as i16]?)),
+        DType::Int32 => Cells::Int32(Items::of(vec![in alloc; n as i32]?)),
+        DType::Int64 => Cells::Int64(Items::of(vec![in alloc; n]?)),
+    };
+    Ok(ArrayValue::of(Items::new(alloc), cells, None))
+}
+
+/// The label at a position, as a coordinate without dimensions holds it.
+pub fn label_content(alloc: Global, list: &LabelList, p: u32) -> Result<Content, AllocError>
+    requires inside { p < label_count list.now }
+    requires range { AreLabels list.now }
+    ensures { IfOk result (λ c. c ≡ label_content list.now p) }
+{
+    Ok(match list {
+        LabelList::Numbers(kind, numbers) => Content::Cells(
+            scalar(alloc, *kind, numbers.as_slice()[p as usize])?,
+            false,
+        ),
+        LabelList::Times(coding, times) => {
+            Content::Time(coding.deep_copy(alloc)?, times.as_slice()[p as usize])
+        }
+        LabelList::Texts(texts) => Content::Text(texts.as_slice()[p as usize].deep_copy(alloc)?),
+    })
+}
+
+fn chosen_numbers(alloc: Global, list: &[i64], ps: &[u32]) -> Result<Items<i64>, AllocError>
+    requires { All (λ p. p < length list.now) ps.now }
+    ensures { IfOk result (λ s. s ≡ chosen (pos 0) list.now ps.now) }
+{
+    let mut out = Items::new(alloc);
+    for p in ps {
+        out.push(list[*p as usize])?;
+    }
+    Ok(out)
+}
+
+fn chosen_texts(
+    alloc: Global,
+    list: &[TextBytes],
+    ps: &[u32],
+) -> Result<Items<TextBytes>, AllocError>
+    requires { All (λ p. p < length list.now) ps.now }
+    ensures { IfOk result (λ s. s ≡ chosen [] list.now ps.now) }
+{
+    let mut out = Items::new(alloc);
+    for p in ps {
+        out.push(list[*p as usize].deep_copy(alloc)?)?;
+    }
+    Ok(out)
+}
+
+fn chosen_list(alloc: Global, list: &LabelList, ps: &[u32]) -> Result<LabelList, AllocError>
+    requires { All (λ p. p < label_count list.now) ps.now }
+    ensures { IfOk result (λ l. l ≡ chosen_list list.now ps.now) }
+{
+    Ok(match list {
+        LabelList::Numbers(kind, numbers) => {
+            LabelList::Numbers(*kind, chosen_numbers(alloc, numbers.as_slice(), ps)?)
+        }
+        LabelList::Times(coding, times) => LabelList::Times(
+            coding.deep_copy(alloc)?,
+            chosen_numbers(alloc, times.as_slice(), ps)?,
+        ),
+        LabelList::Texts(texts) => LabelList::Texts(chosen_texts(alloc, texts.as_slice(), ps)?),
+    })
+}
+
+fn chosen_labels(
+    alloc: Global,
+    labels: &Option<Labels>,
+    size: u64,
+    ps: &[u32],
+) -> Result<Option<Labels>, AllocError>
+    requires index { MatchOption labels.now ⊤ (IsIndex size) }
+    requires inside { All (λ p. p < size) ps.now }
+    ensures { IfOk result (λ l. l ≡ option_map (λ (m : Index). record m { list = chosen_list m.list ps.now }) labels.now) }
+{
+    match labels {
+        Some(labels) => Ok(Some(Labels {
+            list: chosen_list(alloc, &labels.list, ps)?,
+            attrs: labels.attrs.deep_copy(alloc)?,
+        })),
+        None => Ok(None),
+    }
+}
+
+/// An axis at these positions, with its labels there.
+pub fn chosen_axis(alloc: Global, axis: &Axis, ps: &[u32]) -> Result<Axis, AllocError>
+    requires index { MatchOption axis.now.labels ⊤ (IsIndex axis.now.size) }
+    requires inside { All (λ p. p < axis.now.size) ps.now }
+    ensures { IfOk result (λ x. x ≡ chosen_axis axis.now ps.now) }
+{
+    Ok(Axis {
+        name: axis.name.deep_copy(alloc)?,
+        size: ps.len() as u64,
+        labels: chosen_labels(alloc, &axis.labels, axis.size, ps)?,
+    })
+}

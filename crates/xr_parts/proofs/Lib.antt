@@ -1,0 +1,14 @@
+pub mod Naming
+pub mod Words
+pub mod Axes
+pub mod Alone
+pub mod Described
+pub mod Summed
+pub mod Picked
+pub mod Behind
+pub mod Dropped
+pub mod Left
+pub mod Rest
+pub mod Permuted
+pub mod Turned
+pub mod Backward

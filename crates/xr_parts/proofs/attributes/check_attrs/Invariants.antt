@@ -1,0 +1,9 @@
+use Rattle.std.proofs.Common.{◌≡◌, List, map, drop}
+use Rattle.xr_defs.specs.declared.node.Node.{Node}
+use Rattle.xr_defs.specs.Results.{all_of}
+use Rattle.xr_defs.specs.Parts.{check_attr}
+use Rattle.xr_values.specs.Meaning.{with_key}
+use Rattle.xr_parts.proofs.attributes.check_attrs.Given as goal
+
+abbrev pub invariant-loop-argument : goal.invariant-loop-argument
+invariant-loop-argument l = (nodes : List Node) → all_of check_attr (map (with_key nodes) (drop l.argument-index l.keyed)) ≡ all_of check_attr (map (with_key nodes) l.keyed)

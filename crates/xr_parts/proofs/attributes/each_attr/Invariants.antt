@@ -1,0 +1,12 @@
+use Rattle.std.proofs.Common.{◌≡◌, List, map, drop}
+use Rattle.xr_defs.specs.declared.node.Node.{Node}
+use Rattle.xr_defs.specs.Parts.{each_attr}
+use Rattle.xr_values.specs.Meaning.{with_key}
+use Rattle.xr_values.specs.WellFormed.{AreAttributes}
+use Rattle.xr_parts.proofs.attributes.each_attr.Given as goal
+
+abbrev pub invariant-loop-argument : goal.invariant-loop-argument
+invariant-loop-argument l = record {
+  so_far : (nodes : List Node) → each_attr l.attrs (map (with_key nodes) (drop l.argument-index l.keyed)) ≡ each_attr l.fn.attrs (map (with_key nodes) l.keyed);
+  formed : AreAttributes l.fn.attrs → AreAttributes l.attrs;
+}

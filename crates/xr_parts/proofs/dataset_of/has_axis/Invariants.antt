@@ -1,0 +1,7 @@
+use Rattle.std.proofs.Common.{◌≡◌, drop}
+use Rattle.xr_defs.specs.Classic.{among}
+use Rattle.xr_defs.specs.Values.{axis_names}
+use Rattle.xr_parts.proofs.dataset_of.has_axis.Given as goal
+
+abbrev pub invariant-loop-axis : goal.invariant-loop-axis
+invariant-loop-axis l = among (axis_names (drop l.axis-index l.axes)) l.name ≡ among (axis_names l.axes) l.name

@@ -1,0 +1,10 @@
+use Rattle.xr_parts.proofs.Picked.{cells_fit, cells_made}
+use Rattle.xr_parts.proofs.picks.cells_as_array.Goals as goal
+
+pub push-requires : goal.push-requires
+push-requires c = cells_fit _ c.args.frame.now.axes.now c.args.coord.now c.args.cells.now c.in_ok-source.source c.args.masked c.requires.formed c.requires.content c.in_ok-source.ensures
+
+pub returns-clause-array : goal.returns-clause-array
+returns-clause-array c =
+    cells_made c.args.plan.now c.push.new.self c.args.frame.now.axes.now c.args.frame.now.coords.now c.args.coord.now c.args.cells.now c.in_ok-source.source c.args.masked c.in_ok-node.node c.in_ok-name.name c.in_ok-axes.axes c.as_slice.result.now c.kind.result c.in_ok-attrs.attrs c.in_ok-coords.coords
+    c.requires.frame c.requires.formed c.requires.content c.in_ok-source.ensures c.in_ok-node.ensures.ok c.in_ok-name.ensures c.in_ok-axes.ensures c.kind.ensures c.in_ok-attrs.ensures c.as_slice.ensures c.in_ok-coords.ensures

@@ -1,0 +1,57 @@
+-- A variable or a coordinate of a name, as an array.
+use Rattle.std.specs.Prelude.{◌≡◌, ℕ, ℤ, ⊤, false, List, [], ◌∷◌, map, find, Bool, Option, Some, None, Result, Ok, Err, if◌then◌else◌}
+use Rattle.xr_types.specs.declared.attr.Attr.{Attr}
+use Rattle.xr_types.specs.declared.axis.Axis.{Axis}
+use Rattle.xr_types.specs.declared.kind.DType.{DType}
+use Rattle.xr_types.specs.declared.fault.Fault.{Fault}
+use Rattle.xr_types.specs.declared.fault.CallFault.{CallFault}
+use Rattle.xr_types.specs.declared.fault.CallFault.TheVariants.{Refused, Declined, NoMemory}
+use Rattle.xr_defs.specs.declared.node.Node.{Node}
+use Rattle.xr_defs.specs.declared.value.Coord.{Coord}
+use Rattle.xr_defs.specs.Arrays.{Array}
+use Rattle.xr_defs.specs.Encoding.{coords_over}
+use Rattle.xr_defs.specs.Parts.{axes_called, coordinate_of, index_as_array, is_labelled_as}
+use Rattle.xr_defs.specs.Classic.{among}
+use Rattle.xr_types.specs.declared.fault.Fault.TheVariants.{NotLoaded, NoVariable}
+use Rattle.xr_defs.specs.Values as of
+use Rattle.xr_defs.specs.Values.{axis_names}
+use Rattle.xr_values.specs.declared.data_array.DataArray.{DataArray}
+use Rattle.xr_values.specs.declared.variable.Variable.{Variable}
+use Rattle.xr_values.specs.declared.dataset.Dataset.{Dataset}
+use Rattle.xr_values.specs.Stands.{array_in, IsArrayIn}
+
+-- what a search for an array of a name answers; it may find none
+abbrev pub AnswersFound : List Node → Result (Option DataArray) CallFault → Option (Result of.DataArray Fault) → Type 0
+AnswersFound nodes (Ok None) means = means ≡ None
+AnswersFound nodes (Ok (Some a)) means = (means ≡ Some (Ok (array_in nodes a))) × IsArrayIn nodes a
+AnswersFound nodes (Err (Refused f)) means = means ≡ Some (Err f)
+AnswersFound nodes (Err (Declined n)) means = ⊥
+AnswersFound nodes (Err NoMemory) means = ⊤
+
+-- a data variable over its node
+abbrev pub array_over : Dataset → Variable → DataArray
+array_over s v =
+    let axes = axes_called s.axes v.dims in
+    record { name = Some v.name; axes = axes; kind = v.kind; masked = v.masked; attrs = v.attrs; coords = coords_over (axis_names axes) s.coords; node = v.node }
+
+-- an array of the plan that is this one
+abbrev pub IsMade : List Node → of.DataArray → DataArray → Type 0
+IsMade nodes a b = (array_in nodes b ≡ a) × IsArrayIn nodes b
+
+-- a coordinate of these cells
+abbrev pub cells_array : List Coord → Coord → Array → Bool → of.DataArray
+cells_array coords c a masked =
+    record { name = Some c.name; axes = c.axes; kind = a.kind; masked = masked; attrs = c.attrs; coords = coords_over (axis_names c.axes) coords; cells = a.cells }
+
+-- an axis of these labels
+abbrev pub labels_array : List Coord → Axis → List Attr → DType → List ℤ → of.DataArray
+labels_array coords x attrs kind ns =
+    record { name = Some x.name; axes = x ∷ []; kind = kind; masked = false; attrs = attrs; coords = coords_over (x.name ∷ []) coords; cells = map Some ns }
+
+-- the index of a name
+abbrev pub index_found : List Axis → List Coord → List ℕ → Option (Result of.DataArray Fault)
+index_found axes coords name = elim (find (is_labelled_as name) axes) [ None ↦ None | Some x ↦ Some (index_as_array coords x) ]
+
+-- what isn't a data variable of a dataset
+abbrev pub other_part : Dataset → List ℕ → Result of.DataArray Fault
+other_part s name = elim (coordinate_of s.axes s.coords name) [ None ↦ Err (if among s.skipped name then NotLoaded name else NoVariable name) | Some r ↦ r ]

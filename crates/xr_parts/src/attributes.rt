@@ -1,0 +1,179 @@
+//! `assign_attrs(name=value)`: attributes of arrays and datasets.
+ghost use Rattle.std.specs.Prelude.{◌≡◌, ◌<◌, List, length, map, IfOk, IfSome, OnOk};
+ghost use Rattle.xr_defs.specs.declared.node.Node.{Node};
+ghost use Rattle.xr_defs.specs.Results.{Answers, all_of};
+ghost use Rattle.xr_defs.specs.Parts as of;
+ghost use Rattle.xr_defs.specs.Calls as calls;
+ghost use Rattle.xr_values.specs.Answers.{AnswersArray, AnswersSet};
+ghost use Rattle.xr_values.specs.Meaning.{given, meaning, with_key};
+ghost use Rattle.xr_values.specs.Stands.{array_in, dataset_in, IsArrayIn, IsDatasetIn};
+ghost use Rattle.xr_values.specs.WellFormed.{AreAttributes, IsAttribute};
+ghost use Rattle.xr_parts.specs.Numbered.{attr_place, in_four_bytes, number_attr};
+
+use std::alloc::{AllocError, Global};
+use xr_types::{Attr, CallFault, DeepCopy, Fault, Items, NcType, TextBytes};
+use xr_values::{Args, DataArray, Dataset, Value};
+
+#[tactic(auto, using(xr_arguments::proofs::Variants::is_text, xr_arguments::proofs::Variants::is_number, xr_values::proofs::Meaning::meaning_out), unfolding(xr_defs::specs::Parts::check_attr))]
+fn check_attr(argument: &(TextBytes, Value)) -> Result<(), CallFault>
+    ensures { (nodes : List Node) → Answers (λ u. u) result (of.check_attr (with_key nodes argument.now)) }
+{
+    match &argument.1 {
+        Value::Text(_) => Ok(()),
+        Value::Number(_) => Ok(()),
+        _ => Err(CallFault::Refused(Fault::WrongKind)),
+    }
+}
+
+fn check_attrs(keyed: &[(TextBytes, Value)]) -> Result<(), CallFault>
+    ensures { (nodes : List Node) → Answers (λ u. u) result (all_of of.check_attr (map (with_key nodes) keyed.now)) }
+{
+    for argument in keyed {
+        check_attr(argument)?;
+    }
+    Ok(())
+}
+
+// A number in the four bytes of type int, where they hold it.
+fn int_bytes(alloc: Global, n: i128) -> Result<Option<Items<u8>>, AllocError>
+    ensures { IfOk result (λ raw. raw ≡ in_four_bytes n) }
+{
+    if n < -(1 << 31) || n >= 1 << 31 {
+        return Ok(None);
+    }
+    let bytes = (n as i32).cast_unsigned().to_be_bytes();
+    Ok(Some(Items::from_slice(alloc, &bytes)?))
+}
+
+#[tactic(auto, using(crate::proofs::Described::number_attr_is))]
+fn number_attr(alloc: Global, name: &TextBytes, n: &i128) -> Result<Attr, CallFault>
+    ensures { Answers (λ a. a) result (number_attr name.now n.now) }
+{
+    match int_bytes(alloc, *n)? {
+        Some(raw) => Ok(Attr {
+            name: name.deep_copy(alloc)?,
+            kind: NcType::Int,
+            raw,
+        }),
+        None => Err(CallFault::Refused(Fault::DoesNotFit)),
+    }
+}
+
+// The attribute of a keyword and its value.
+#[tactic(auto, using(xr_arguments::proofs::Variants::is_text, xr_arguments::proofs::Variants::is_number, xr_values::proofs::Meaning::meaning_out), unfolding(xr_defs::specs::Parts::attr_given, crate::specs::Numbered::number_attr))]
+fn attr_of(alloc: Global, name: &TextBytes, value: &Value) -> Result<Attr, CallFault>
+    ensures { (nodes : List Node) → Answers (λ a. a) result (of.attr_given (name.now, meaning nodes value.now)) }
+{
+    match value {
+        Value::Text(text) => Ok(Attr {
+            name: name.deep_copy(alloc)?,
+            kind: NcType::Char,
+            raw: Items::from_slice(alloc, text.as_bytes())?,
+        }),
+        Value::Number(n) => number_attr(alloc, name, n),
+        _ => Err(CallFault::Refused(Fault::WrongKind)),
+    }
+}
+
+#[tactic(auto, using(crate::proofs::Described::answer_formed))]
+fn attr_given(alloc: Global, argument: &(TextBytes, Value)) -> Result<Attr, CallFault>
+    ensures answers { (nodes : List Node) → Answers (λ a. a) result (of.attr_given (with_key nodes argument.now)) }
+    ensures formed { IfOk result IsAttribute }
+{
+    if argument.0.as_str().len() == 0 {
+        // No script has an empty keyword.
+        return Err(CallFault::NoMemory);
+    }
+    attr_of(alloc, &argument.0, &argument.1)
+}
+
+fn attr_place(attrs: &[Attr], name: &TextBytes) -> Option<usize>
+    ensures place { result ≡ attr_place attrs.now name.now }
+    ensures inside { IfSome result (λ k. k < length attrs.now) }
+{
+    match attrs {
+        [] => None,
+        [attr, rest @ ..] => {
+            if attr.name.is(name) {
+                return Some(0);
+            }
+            match attr_place(rest, name) {
+                Some(n) => Some(n + 1),
+                None => None,
+            }
+        }
+    }
+}
+
+// In the place of the one of its name, or at the end.
+#[tactic(auto, using(crate::proofs::Described::put_there, crate::proofs::Described::put_behind))]
+fn put_attr(attrs: &mut Items<Attr>, attr: Attr) -> Result<(), AllocError>
+    ensures { OnOk result (attrs.new ≡ of.with_attr attrs.old attr) }
+{
+    match attr_place(attrs.as_slice(), &attr.name) {
+        Some(k) => {
+            attrs.set(k, attr);
+            Ok(())
+        }
+        None => attrs.push(attr),
+    }
+}
+
+#[tactic(auto, unfolding(xr_defs::specs::Parts::each_attr))]
+fn each_attr(
+    alloc: Global,
+    attrs: Items<Attr>,
+    keyed: &[(TextBytes, Value)],
+) -> Result<Items<Attr>, CallFault>
+    ensures answers { (nodes : List Node) → Answers (λ a. a) result (of.each_attr attrs (map (with_key nodes) keyed.now)) }
+    ensures formed { AreAttributes attrs → IfOk result AreAttributes }
+{
+    let mut attrs = attrs;
+    for argument in keyed {
+        put_attr(&mut attrs, attr_given(alloc, argument)?)?;
+    }
+    Ok(attrs)
+}
+
+// The attributes with those that a call gives.
+#[tactic(auto, unfolding(xr_defs::specs::Parts::attrs_assigned, xr_defs::specs::Results::unless, xr_values::specs::Meaning::given))]
+fn attrs_assigned(alloc: Global, attrs: &Items<Attr>, args: &Args) -> Result<Items<Attr>, CallFault>
+    ensures answers { (nodes : List Node) → Answers (λ a. a) result (of.attrs_assigned attrs.now (given nodes args.now)) }
+    ensures formed { AreAttributes attrs.now → IfOk result AreAttributes }
+{
+    if args.plain.len() != 0 {
+        return Err(CallFault::Refused(Fault::BadArgument));
+    }
+    let keyed = args.keyed.as_slice();
+    check_attrs(keyed)?;
+    each_attr(alloc, attrs.deep_copy(alloc)?, keyed)
+}
+
+/// An array with more attributes, each a text or a whole number of type int.
+///
+/// # Errors
+/// `BadArgument` for a plain argument; then `WrongKind` for a value that is neither a text nor a number; then `DoesNotFit`
+/// for a number that isn't one of 32 bits.
+#[tactic(auto, using(crate::proofs::Described::array_described), unfolding(xr_defs::specs::Calls::array_with_attrs))]
+pub fn array_with_attrs(alloc: Global, on: &DataArray, args: &Args) -> Result<DataArray, CallFault>
+    ensures { (nodes : List Node) → IsArrayIn nodes on.now → AnswersArray nodes result (calls.array_with_attrs (given nodes args.now) (array_in nodes on.now)) }
+{
+    let attrs = attrs_assigned(alloc, &on.attrs, args)?;
+    let mut array = on.deep_copy(alloc)?;
+    array.attrs = attrs;
+    Ok(array)
+}
+
+/// A dataset with more attributes of its own, each a text or a whole number of type int.
+///
+/// # Errors
+/// As of `array_with_attrs`.
+#[tactic(auto, using(crate::proofs::Described::set_described), unfolding(xr_defs::specs::Calls::set_with_attrs))]
+pub fn set_with_attrs(alloc: Global, on: &Dataset, args: &Args) -> Result<Dataset, CallFault>
+    ensures { (nodes : List Node) → IsDatasetIn nodes on.now → AnswersSet nodes result (calls.set_with_attrs (given nodes args.now) (dataset_in nodes on.now)) }
+{
+    let attrs = attrs_assigned(alloc, &on.attrs, args)?;
+    let mut set = on.deep_copy(alloc)?;
+    set.attrs = attrs;
+    Ok(set)
+}

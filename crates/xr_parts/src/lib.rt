@@ -1,0 +1,20 @@
+//! Parts of arrays and datasets over a plan: names, attributes, single variables, dimensions in another order, what is
+//! dropped, and the sum of all cells.
+#![tactic(auto)]
+
+mod attributes;
+mod dataset_of;
+mod drops;
+mod names;
+mod orders;
+mod picks;
+mod sums;
+mod texts;
+
+pub use attributes::{array_with_attrs, set_with_attrs};
+pub use dataset_of::{as_set, to_dataset};
+pub use drops::{dropped_of_array, dropped_of_set};
+pub use names::{own_name, renamed};
+pub use orders::transposed;
+pub use picks::{pick_of_array, pick_of_set};
+pub use sums::sum_called;

@@ -1,0 +1,444 @@
+//! `x["v"]`: a data variable or a coordinate as an array.
+ghost use Rattle.std.specs.Prelude.{◌≡◌, ◌∷◌, [], false, true, length, map, find, IfOk, MatchOption, Some, option_copied, if◌then◌else◌};
+ghost use Rattle.std.specs.Str.{bytes_eq};
+ghost use Rattle.std.specs.List.{All, AllByRecursion};
+ghost use Rattle.xr_types.specs.Kinds.{InRange};
+ghost use Rattle.xr_types.specs.declared.axis.Axis.{Axis as Dimension};
+ghost use Rattle.xr_types.specs.declared.fault.Fault.TheVariants.{NoVariable, NotLoaded};
+ghost use Rattle.xr_types.specs.declared.kind.DType.TheVariants.{Int8, Int16, Int32};
+ghost use Rattle.xr_types.specs.declared.axis.LabelList.TheVariants.{Numbers};
+ghost use Rattle.xr_defs.specs.declared.value.Content.TheVariants as contents;
+ghost use Rattle.xr_defs.specs.declared.value.Coord.{Coord as Other};
+ghost use Rattle.xr_defs.specs.Arrays.{Array};
+ghost use Rattle.xr_defs.specs.Building.{is_integer_kind};
+ghost use Rattle.xr_defs.specs.Classic.{among};
+ghost use Rattle.xr_defs.specs.Encoding.{all_among, coords_over};
+ghost use Rattle.xr_defs.specs.Selecting.{axis_called};
+ghost use Rattle.xr_defs.specs.Values.{axis_names};
+ghost use Rattle.xr_defs.specs.Parts as of;
+ghost use Rattle.plan_core.specs.Plans.{Grows};
+ghost use Rattle.xr_values.specs.Answers.{AnswersArray};
+ghost use Rattle.xr_values.specs.Stands.{array_in, dataset_in, IsArrayIn, IsDatasetIn};
+ghost use Rattle.xr_values.specs.WellFormed.{AreAttributes, AreLabels, IsCoordinate, IsDimension, IsIndex};
+ghost use Rattle.xr_parts.specs.Frames.{IsFrame, IsThere};
+ghost use Rattle.xr_parts.specs.Pieces.{array_over, cells_array, index_found, labels_array, other_part, AnswersFound, IsMade};
+
+use crate::dataset_of::has_axis;
+use crate::orders::axis_place;
+use crate::texts::is_among;
+use plan_core::Plan;
+use std::alloc::{AllocError, Global};
+use xr_defs::{ArrayValue, Cells, Content, Coord, Node};
+use xr_types::{
+    Attr, Axis, CallFault, DType, DeepCopy, Fault, Items, LabelList, Labels, Name, NoMemory,
+    TextBytes,
+};
+use xr_values::{DataArray, Dataset, Variable, copy_coord};
+
+/// Axes with the coordinates over them.
+#[derive(Clone, Copy)]
+pub(crate) struct Frame<'a> {
+    pub axes: &'a [Axis],
+    pub coords: &'a [Coord],
+}
+
+fn have_axes(axes: &[Axis], some: &[Axis]) -> bool
+    ensures { result ≡ all_among (axis_names axes.now) (axis_names some.now) }
+{
+    for axis in some {
+        if !has_axis(axes, &axis.name) {
+            return false;
+        }
+    }
+    true
+}
+
+// The coordinates whose dimensions are all among these axes.
+fn coords_over(alloc: Global, axes: &[Axis], coords: &[Coord]) -> Result<Items<Coord>, AllocError>
+    ensures { IfOk result (λ cs. cs ≡ coords_over (axis_names axes.now) coords.now) }
+{
+    let mut out = Items::new(alloc);
+    for coord in coords {
+        if have_axes(axes, coord.axes.as_slice()) {
+            out.push(copy_coord(alloc, coord)?)?;
+        }
+    }
+    Ok(out)
+}
+
+#[tactic(auto, using(crate::proofs::Axes::none_called, crate::proofs::Axes::place_called))]
+fn find_axis<'a>(axes: &'a [Axis], name: &TextBytes) -> Option<&'a Axis>
+    ensures { MatchOption result (among (axis_names axes.now) name.now ≡ false) (λ x. x.now ≡ axis_called axes.now name.now) }
+{
+    match axis_place(axes, name) {
+        Some(k) => Some(&axes[k]),
+        None => None,
+    }
+}
+
+fn axes_called(alloc: Global, axes: &[Axis], dims: &[Name]) -> Result<Items<Axis>, AllocError>
+    requires { AllByRecursion (λ d. among (axis_names axes.now) d ≡ true) dims.now }
+    ensures { IfOk result (λ xs. xs ≡ of.axes_called axes.now dims.now) }
+{
+    let mut out = Items::new(alloc);
+    for dim in dims {
+        match find_axis(axes, dim) {
+            Some(axis) => out.push(axis.deep_copy(alloc)?)?,
+            None => unreachable!(),
+        }
+    }
+    Ok(out)
+}
+
+fn variable_as_array(
+    alloc: Global,
+    on: &Dataset,
+    variable: &Variable,
+) -> Result<DataArray, AllocError>
+    requires { AllByRecursion (λ d. among (axis_names on.now.axes) d ≡ true) variable.now.dims }
+    ensures { IfOk result (λ a. a ≡ array_over on.now variable.now) }
+{
+    let axes = axes_called(alloc, on.axes.as_slice(), variable.dims.as_slice())?;
+    let coords = coords_over(alloc, axes.as_slice(), on.coords.as_slice())?;
+    Ok(DataArray {
+        name: Some(variable.name.deep_copy(alloc)?),
+        axes,
+        kind: variable.kind,
+        masked: variable.masked,
+        attrs: variable.attrs.deep_copy(alloc)?,
+        coords,
+        node: variable.node,
+    })
+}
+
+fn int8_cells(alloc: Global, numbers: &[i64]) -> Result<Items<i8>, AllocError>
+    requires { All (InRange Int8) numbers.now }
+    ensures { IfOk result (λ cells. cells ≡ numbers.now) }
+{
+    let mut out = Items::new(alloc);
+    for n in numbers {
+        out.push(*n as i8)?;
+    }
+    Ok(out)
+}
+
+fn int16_cells(alloc: Global, numbers: &[i64]) -> Result<Items<i16>, AllocError>
+    requires { All (InRange Int16) numbers.now }
+    ensures { IfOk result (λ cells. cells ≡ numbers.now) }
+{
+    let mut out = Items::new(alloc);
+    for n in numbers {
+        out.push(*n as i16)?;
+    }
+    Ok(out)
+}
+
+fn int32_cells(alloc: Global, numbers: &[i64]) -> Result<Items<i32>, AllocError>
+    requires { All (InRange Int32) numbers.now }
+    ensures { IfOk result (λ cells. cells ≡ numbers.now) }
+{
+    let mut out = Items::new(alloc);
+    for n in numbers {
+        out.push(*n as i32)?;
+    }
+    Ok(out)
+}
+
+// Numbers of a kind along one dimension.
+fn numbers_array(alloc: Global, kind: DType, numbers: &Items<i64>) -> Result<ArrayValue, AllocError>
+    requires integer { is_integer_kind kind ≡ true }
+    requires range { All (InRange kind) numbers.now }
+    ensures { IfOk result (λ a. a ≡ record { kind = kind; shape = length numbers.now ∷ []; cells = map Some numbers.now }) }
+{
+    let numbers = numbers.as_slice();
+    let cells = match kind {
+        DType::Int8 => Cells::Int8(int8_cells(alloc, numbers)?),
+        DType::Int16 => Cells::Int16(int16_cells(alloc, numbers)?),
+        DType::Int32 => Cells::Int32(int32_cells(alloc, numbers)?),
+        DType::Int64 => Cells::Int64(Items::from_slice(alloc, numbers)?),
+        DType::Bool | DType::Char => unreachable!(),
+    };
+    let shape = Items::of(vec![in alloc; numbers.len() as u64]?);
+    Ok(ArrayValue::of(shape, cells, None))
+}
+
+// The cells of a coordinate, with those beside it.
+fn cells_as_array(
+    alloc: Global,
+    plan: &mut Plan,
+    frame: &Frame<'_>,
+    coord: &Coord,
+    cells: &ArrayValue,
+    masked: bool,
+) -> Result<DataArray, NoMemory>
+    requires frame { IsFrame frame.now.axes.now frame.now.coords.now }
+    requires formed { IsCoordinate frame.now.axes.now coord.now }
+    requires content { coord.now.content ≡ contents.Cells cells.now masked }
+    ensures array { IfOk result (IsMade plan.new (cells_array frame.now.coords.now coord.now cells.now masked)) }
+    ensures grows { Grows plan.old plan.new }
+{
+    let name = coord.name.deep_copy(alloc)?;
+    let axes = coord.axes.deep_copy(alloc)?;
+    let attrs = coord.attrs.deep_copy(alloc)?;
+    let coords = coords_over(alloc, coord.axes.as_slice(), frame.coords)?;
+    let source = cells.copy(alloc)?;
+    let node = plan.push(Node::Source { cells: source })?;
+    Ok(DataArray {
+        name: Some(name),
+        axes,
+        kind: cells.kind(),
+        masked,
+        attrs,
+        coords,
+        node,
+    })
+}
+
+// Texts and times have no cells.
+fn coord_as_array(
+    alloc: Global,
+    plan: &mut Plan,
+    frame: &Frame<'_>,
+    coord: &Coord,
+) -> Result<DataArray, CallFault>
+    requires frame { IsFrame frame.now.axes.now frame.now.coords.now }
+    requires formed { IsCoordinate frame.now.axes.now coord.now }
+    ensures answers { AnswersArray plan.new result (of.coord_as_array frame.now.coords.now coord.now) }
+    ensures grows { Grows plan.old plan.new }
+{
+    match &coord.content {
+        Content::Cells(cells, masked) => {
+            Ok(cells_as_array(alloc, plan, frame, coord, cells, *masked)?)
+        }
+        _ => Err(CallFault::Refused(Fault::WrongKind)),
+    }
+}
+
+fn alone(alloc: Global, axis: &Axis) -> Result<Items<Axis>, AllocError>
+    ensures { IfOk result (λ axes. axes ≡ axis.now ∷ []) }
+{
+    let mut axes = Items::new(alloc);
+    axes.push(axis.deep_copy(alloc)?)?;
+    Ok(axes)
+}
+
+// The labels of an axis, with the coordinates along it.
+fn numbers_as_array(
+    alloc: Global,
+    plan: &mut Plan,
+    frame: &Frame<'_>,
+    axis: &Axis,
+    attrs: &Items<Attr>,
+    kind: DType,
+    numbers: &Items<i64>,
+) -> Result<DataArray, NoMemory>
+    requires frame { IsFrame frame.now.axes.now frame.now.coords.now }
+    requires there { IsThere frame.now.axes.now axis.now }
+    requires formed { IsDimension axis.now }
+    requires whole { length numbers.now ≡ axis.now.size }
+    requires labels { AreLabels (Numbers kind numbers.now) }
+    requires attrs { AreAttributes attrs.now }
+    ensures array { IfOk result (IsMade plan.new (labels_array frame.now.coords.now axis.now attrs.now kind numbers.now)) }
+    ensures grows { Grows plan.old plan.new }
+{
+    let name = axis.name.deep_copy(alloc)?;
+    let axes = alone(alloc, axis)?;
+    let attrs = attrs.deep_copy(alloc)?;
+    let coords = coords_over(alloc, axes.as_slice(), frame.coords)?;
+    let source = numbers_array(alloc, kind, numbers)?;
+    let node = plan.push(Node::Source { cells: source })?;
+    Ok(DataArray {
+        name: Some(name),
+        axes,
+        kind,
+        masked: false,
+        attrs,
+        coords,
+        node,
+    })
+}
+
+fn list_as_array(
+    alloc: Global,
+    plan: &mut Plan,
+    frame: &Frame<'_>,
+    axis: &Axis,
+    labels: &Labels,
+) -> Result<DataArray, CallFault>
+    requires frame { IsFrame frame.now.axes.now frame.now.coords.now }
+    requires there { IsThere frame.now.axes.now axis.now }
+    requires formed { IsDimension axis.now }
+    requires index { IsIndex axis.now.size labels.now }
+    ensures answers { AnswersArray plan.new result (of.list_as_array frame.now.coords.now axis.now labels.now labels.now.list) }
+    ensures grows { Grows plan.old plan.new }
+{
+    match &labels.list {
+        LabelList::Numbers(kind, numbers) => {
+            Ok(numbers_as_array(alloc, plan, frame, axis, &labels.attrs, *kind, numbers)?)
+        }
+        _ => Err(CallFault::Refused(Fault::WrongKind)),
+    }
+}
+
+fn index_as_array(
+    alloc: Global,
+    plan: &mut Plan,
+    frame: &Frame<'_>,
+    axis: &Axis,
+) -> Result<DataArray, CallFault>
+    requires frame { IsFrame frame.now.axes.now frame.now.coords.now }
+    requires there { IsThere frame.now.axes.now axis.now }
+    requires formed { IsDimension axis.now }
+    ensures answers { AnswersArray plan.new result (of.index_as_array frame.now.coords.now axis.now) }
+    ensures grows { Grows plan.old plan.new }
+{
+    match &axis.labels {
+        Some(labels) => list_as_array(alloc, plan, frame, axis, labels),
+        None => Err(CallFault::Refused(Fault::NoVariable(axis.name.deep_copy(alloc)?))),
+    }
+}
+
+fn find_coord<'a>(coords: &'a [Coord], name: &TextBytes) -> Option<&'a Coord>
+    ensures { option_copied result ≡ find (λ (c : Other). bytes_eq c.name name.now) coords.now }
+{
+    match coords {
+        [] => None,
+        [coord, rest @ ..] => {
+            if coord.name.is(name) {
+                Some(coord)
+            } else {
+                find_coord(rest, name)
+            }
+        }
+    }
+}
+
+fn find_index<'a>(axes: &'a [Axis], name: &TextBytes) -> Option<&'a Axis>
+    ensures { option_copied result ≡ find (of.is_labelled_as name.now) axes.now }
+{
+    match axes {
+        [] => None,
+        [axis, rest @ ..] => {
+            if axis.name.is(name) && axis.labels.is_some() {
+                Some(axis)
+            } else {
+                find_index(rest, name)
+            }
+        }
+    }
+}
+
+// The index of a name, where there is one.
+fn index_of(
+    alloc: Global,
+    plan: &mut Plan,
+    frame: &Frame<'_>,
+    name: &TextBytes,
+) -> Result<Option<DataArray>, CallFault>
+    requires { IsFrame frame.now.axes.now frame.now.coords.now }
+    ensures answers { AnswersFound plan.new result (index_found frame.now.axes.now frame.now.coords.now name.now) }
+    ensures grows { Grows plan.old plan.new }
+{
+    match find_index(frame.axes, name) {
+        Some(axis) => Ok(Some(index_as_array(alloc, plan, frame, axis)?)),
+        None => Ok(None),
+    }
+}
+
+// The coordinate of a name or the index, where there is one.
+fn coordinate_of(
+    alloc: Global,
+    plan: &mut Plan,
+    frame: &Frame<'_>,
+    name: &TextBytes,
+) -> Result<Option<DataArray>, CallFault>
+    requires { IsFrame frame.now.axes.now frame.now.coords.now }
+    ensures answers { AnswersFound plan.new result (of.coordinate_of frame.now.axes.now frame.now.coords.now name.now) }
+    ensures grows { Grows plan.old plan.new }
+{
+    match find_coord(frame.coords, name) {
+        Some(coord) => Ok(Some(coord_as_array(alloc, plan, frame, coord)?)),
+        None => index_of(alloc, plan, frame, name),
+    }
+}
+
+// What isn't loaded has a fault of its own.
+fn not_there(alloc: Global, skipped: &[Name], name: &TextBytes) -> Result<Fault, AllocError>
+    ensures { IfOk result (λ f. f ≡ (if among skipped.now name.now then NotLoaded name.now else NoVariable name.now)) }
+{
+    let name_again = name.deep_copy(alloc)?;
+    if is_among(skipped, name) {
+        Ok(Fault::NotLoaded(name_again))
+    } else {
+        Ok(Fault::NoVariable(name_again))
+    }
+}
+
+// What isn't a data variable.
+fn other_of_set(
+    alloc: Global,
+    plan: &mut Plan,
+    on: &Dataset,
+    name: &TextBytes,
+) -> Result<DataArray, CallFault>
+    requires { IsDatasetIn plan.old on.now }
+    ensures answers { AnswersArray plan.new result (other_part on.now name.now) }
+    ensures grows { Grows plan.old plan.new }
+{
+    let frame = Frame {
+        axes: on.axes.as_slice(),
+        coords: on.coords.as_slice(),
+    };
+    match coordinate_of(alloc, plan, &frame, name)? {
+        Some(array) => Ok(array),
+        None => Err(CallFault::Refused(not_there(alloc, on.skipped.as_slice(), name)?)),
+    }
+}
+
+/// A data variable, a coordinate or an index of a dataset as an array, with the coordinates whose dimensions are all among
+/// its own. A coordinate's cells are those of a node that is added to the plan.
+///
+/// # Errors
+/// `WrongKind` for a coordinate or an index of texts or times; `NotLoaded` for a variable that wasn't loaded, and
+/// `NoVariable` for any other name.
+pub fn pick_of_set(
+    alloc: Global,
+    plan: &mut Plan,
+    on: &Dataset,
+    name: &TextBytes,
+) -> Result<DataArray, CallFault>
+    requires { IsDatasetIn plan.old on.now }
+    ensures answers { AnswersArray plan.new result (of.picked_of_set (dataset_in plan.old on.now) name.now) }
+    ensures grows { Grows plan.old plan.new }
+{
+    match on.vars.named(name) {
+        Some(variable) => Ok(variable_as_array(alloc, on, variable)?),
+        None => other_of_set(alloc, plan, on, name),
+    }
+}
+
+/// A coordinate or an index of an array as an array, with the coordinates whose dimensions are all among its own. Its cells
+/// are those of a node that is added to the plan.
+///
+/// # Errors
+/// `WrongKind` for one of texts or times; `NoVariable` for any other name.
+#[tactic(auto, unfolding(xr_defs::specs::Parts::picked_of_array))]
+pub fn pick_of_array(
+    alloc: Global,
+    plan: &mut Plan,
+    on: &DataArray,
+    name: &TextBytes,
+) -> Result<DataArray, CallFault>
+    requires { IsArrayIn plan.old on.now }
+    ensures answers { AnswersArray plan.new result (of.picked_of_array (array_in plan.old on.now) name.now) }
+    ensures grows { Grows plan.old plan.new }
+{
+    let frame = Frame {
+        axes: on.axes.as_slice(),
+        coords: on.coords.as_slice(),
+    };
+    match coordinate_of(alloc, plan, &frame, name)? {
+        Some(array) => Ok(array),
+        None => Err(CallFault::Refused(Fault::NoVariable(name.deep_copy(alloc)?))),
+    }
+}

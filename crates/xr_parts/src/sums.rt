@@ -1,0 +1,96 @@
+//! `sum()`: the sum of all cells.
+ghost use Rattle.std.specs.Prelude.{◌≡◌, List, filter, length, replicate, IfOk};
+ghost use Rattle.xr_defs.specs.declared.node.Node.{Node};
+ghost use Rattle.xr_defs.specs.declared.node.Feed.TheVariants as feed;
+ghost use Rattle.xr_defs.specs.Values.{is_scalar};
+ghost use Rattle.xr_defs.specs.Calls as calls;
+ghost use Rattle.plan_core.specs.Plans.{Grows};
+ghost use Rattle.xr_values.specs.Meaning.{given};
+ghost use Rattle.xr_values.specs.Stands.{array_in, IsArrayIn};
+ghost use Rattle.xr_parts.specs.Totals.{AnswersAsValue, IsTotal};
+
+use plan_core::Plan;
+use std::alloc::{AllocError, Global};
+use xr_arguments::nothing_given;
+use xr_defs::{Coord, Feed, FoldKind, Node};
+use xr_types::{CallFault, DType, DeepCopy, Fault, Items, NoMemory};
+use xr_values::{Args, DataArray, copy_coord};
+
+fn is_chars(kind: DType) -> bool
+    ensures { result ≡ calls.is_chars kind }
+{
+    match kind {
+        DType::Char => true,
+        _ => false,
+    }
+}
+
+fn scalars(alloc: Global, on: &DataArray) -> Result<Items<Coord>, AllocError>
+    ensures { IfOk result (λ cs. cs ≡ filter is_scalar on.now.coords) }
+{
+    let mut out = Items::new(alloc);
+    let coords = on.coords.as_slice();
+    for coord in coords {
+        if coord.axes.as_slice().len() == 0 {
+            out.push(copy_coord(alloc, coord)?)?;
+        }
+    }
+    Ok(out)
+}
+
+// Every axis is folded.
+fn all_feeds(alloc: Global, on: &DataArray) -> Result<Items<Feed>, AllocError>
+    ensures { IfOk result (λ feeds. feeds ≡ replicate (length on.now.axes) feed.All) }
+{
+    let feeds = Vec::from_elem(alloc, Feed::All, on.axes.as_slice().len())?;
+    Ok(Items::of(feeds))
+}
+
+// The array of one cell, which is that of a node that is added to the plan.
+fn total(alloc: Global, plan: &mut Plan, on: &DataArray) -> Result<DataArray, NoMemory>
+    requires { IsArrayIn plan.old on.now }
+    ensures total { IfOk result (IsTotal plan.new (array_in plan.old on.now)) }
+    ensures grows { Grows plan.old plan.new }
+{
+    let name = on.name.deep_copy(alloc)?;
+    let coords = scalars(alloc, on)?;
+    let axes = Items::new(alloc);
+    let attrs = Items::new(alloc);
+    let feeds = all_feeds(alloc, on)?;
+    let node = plan.push(Node::Fold {
+        fold: FoldKind::Sum,
+        input: on.node,
+        feeds,
+    })?;
+    Ok(DataArray {
+        name,
+        axes,
+        kind: DType::Int64,
+        masked: false,
+        attrs,
+        coords,
+        node,
+    })
+}
+
+/// The sum of all cells of an array that aren't missing, in 64 bits, with its name and its coordinates without dimensions.
+///
+/// # Errors
+/// `WrongKind` for an array of chars; then `BadArgument` for any argument.
+#[tactic(auto, unfolding(xr_defs::specs::Calls::sum_called, xr_defs::specs::Results::unless))]
+pub fn sum_called(
+    alloc: Global,
+    plan: &mut Plan,
+    on: &DataArray,
+    args: &Args,
+) -> Result<DataArray, CallFault>
+    requires { IsArrayIn plan.old on.now }
+    ensures answers { (nodes : List Node) → AnswersAsValue plan.new result (calls.sum_called (given nodes args.now) (array_in plan.old on.now)) }
+    ensures grows { Grows plan.old plan.new }
+{
+    if is_chars(on.kind) {
+        return Err(CallFault::Refused(Fault::WrongKind));
+    }
+    nothing_given(args)?;
+    Ok(total(alloc, plan, on)?)
+}

@@ -1,0 +1,66 @@
+//! The texts that values are.
+ghost use Rattle.std.specs.Prelude.{◌≡◌, List, map};
+ghost use Rattle.xr_defs.specs.declared.node.Node.{Node};
+ghost use Rattle.xr_defs.specs.Classic.{among};
+ghost use Rattle.xr_defs.specs.Results.{Answers};
+ghost use Rattle.xr_defs.specs.Parts as of;
+ghost use Rattle.xr_values.specs.Meaning.{meaning, given};
+
+use std::alloc::Global;
+use xr_arguments::as_text;
+use xr_types::{CallFault, DeepCopy, Fault, Items, TextBytes};
+use xr_values::{Args, Value};
+
+/// Whether a name is one of these.
+pub(crate) fn is_among(names: &[TextBytes], name: &TextBytes) -> bool
+    ensures { result ≡ among names.now name.now }
+{
+    for other in names {
+        if name.is(other) {
+            return true;
+        }
+    }
+    false
+}
+
+/// The texts of values.
+#[tactic(auto, using(crate::proofs::Behind::behind_both), unfolding(xr_defs::specs::Parts::as_texts))]
+pub(crate) fn as_texts(alloc: Global, values: &[Value]) -> Result<Items<TextBytes>, CallFault>
+    ensures { (nodes : List Node) → Answers (λ ts. ts) result (of.as_texts (map (meaning nodes) values.now)) }
+{
+    let mut out = Items::new(alloc);
+    for value in values {
+        out.push(as_text(value)?.deep_copy(alloc)?)?;
+    }
+    Ok(out)
+}
+
+// The names that a text or a list of texts gives.
+#[tactic(auto, using(xr_arguments::proofs::Variants::is_text, xr_arguments::proofs::Variants::is_list, xr_values::proofs::Meaning::meaning_out, crate::proofs::Behind::names_listed), unfolding(xr_defs::specs::Parts::as_names))]
+fn as_names(alloc: Global, value: &Value) -> Result<Items<TextBytes>, CallFault>
+    ensures { (nodes : List Node) → Answers (λ ts. ts) result (of.as_names (meaning nodes value.now)) }
+{
+    match value {
+        Value::Text(text) => {
+            let mut names = Items::new(alloc);
+            names.push(text.deep_copy(alloc)?)?;
+            Ok(names)
+        }
+        Value::List(values) => as_texts(alloc, values.as_slice()),
+        _ => Err(CallFault::Refused(Fault::WrongKind)),
+    }
+}
+
+/// The names of a call whose one argument gives them.
+#[tactic(auto, unfolding(xr_defs::specs::Parts::names_given, xr_defs::specs::Results::unless, xr_values::specs::Meaning::given))]
+pub(crate) fn names_given(alloc: Global, args: &Args) -> Result<Items<TextBytes>, CallFault>
+    ensures { (nodes : List Node) → Answers (λ ts. ts) result (of.names_given (given nodes args.now)) }
+{
+    if args.keyed.len() != 0 {
+        return Err(CallFault::Refused(Fault::BadArgument));
+    }
+    match args.plain.as_slice() {
+        [value] => as_names(alloc, value),
+        _ => Err(CallFault::Refused(Fault::BadArgument)),
+    }
+}
