@@ -73,7 +73,6 @@ kind_words cdf.Repeated = codes "Repeated"
 kind_words cdf.BadDimension = codes "BadDimension"
 kind_words cdf.BadType = codes "BadType"
 kind_words cdf.CutData = codes "CutData"
-kind_words cdf.NotBuilt = codes "NotBuilt"
 
 abbrev pub script_words : ScriptKind → List ℕ
 script_words scripts.BadToken = codes "bad token"

@@ -47,8 +47,6 @@ pub enum CdfKind {
     BadType,
     /// A variable's values pass the file's end.
     CutData,
-    /// A file of a form that this program doesn't read yet.
-    NotBuilt,
 }
 
 impl CdfKind {
@@ -66,7 +64,6 @@ impl CdfKind {
             CdfKind::BadDimension => "BadDimension",
             CdfKind::BadType => "BadType",
             CdfKind::CutData => "CutData",
-            CdfKind::NotBuilt => "NotBuilt",
         }
     }
 }
