@@ -1,11 +1,11 @@
 #!/usr/bin/env python3
-"""Runs the examples of docs/LANGUAGE.md over a built program, each in a folder with the files of examples.
+"""Runs the examples of the pages in docs over a built program, each in a folder with the files of examples.
 
     docs.py PROGRAM
 
 A block `script` is run, and must print the block `output` behind it, with a line on standard error at its end where the
-run is refused. The table of faults has the texts of crates/xr_types/src/fault.rt, and a script that stands in a row must
-meet its fault; so with the faults of scripts.
+run is refused. The table of faults in docs/LANGUAGE.md has the texts of crates/xr_types/src/fault.rt, and a script that
+stands in a row must meet its fault; so with the faults of scripts.
 The last line is 'N passed, M failed'.
 """
 import os
@@ -37,14 +37,21 @@ def faults_in_code():
     return {int(number): words[fault] for fault, number in numbers.items()}
 
 
+def page(name):
+    with open(os.path.join(TOP, "docs", name)) as f:
+        return f.read()
+
+
 def main():
     program = os.path.abspath(sys.argv[1])
-    with open(os.path.join(TOP, "docs", "LANGUAGE.md")) as f:
-        text = f.read()
+    text = page("LANGUAGE.md")
     passed, wrong = 0, []
-    wanted = re.findall(r"```script\n(.*?)```\n```output\n(.*?)```", text, re.S)
-    if not wanted:
-        wrong.append("no example was found")
+    wanted = []
+    for name in ("LANGUAGE.md", "FROM_XARRAY.md"):
+        examples = re.findall(r"```script\n(.*?)```\n```output\n(.*?)```", page(name), re.S)
+        if not examples:
+            wrong.append(f"no example was found in {name}")
+        wanted += examples
     for fault, script in re.findall(r"^\| `([a-z][^`]*)` \| [^|]* \| `([^`]*)` \|$", text, re.M):
         wanted.append((script + "\n", f"xrs: line 1: {fault}\n"))
     for script, output in wanted:
