@@ -5,6 +5,8 @@ mod find;
 mod found;
 mod gather;
 mod line;
+#[cfg(test)]
+mod line_tests;
 mod partial;
 mod row;
 mod run;
