@@ -95,13 +95,55 @@ pub(crate) fn rest(x: i128, y: i128) -> i128
     }
 }
 
+// What is left of x by whole multiples of y, in 64 bits.
+#[tactic(auto, using(crate::proofs::Bounds::floor_rest))]
+fn rest_long(x: i64, y: i64) -> i64
+    requires from { negsuc 9223372036854775806 ≤ℤ x }
+    requires divisor { negsuc 9223372036854775806 ≤ℤ y }
+    requires some { y ≢ pos 0 }
+    ensures { result ≡ x -ℤ y *ℤ floor_quotient x y }
+{
+    if y > 0 {
+        x.rem_euclid(y)
+    } else {
+        -(-x).rem_euclid(-y)
+    }
+}
+
+// What is left of x by whole multiples of y, by a division of 64 bits.
+fn rest_by_long(x: i128, y: i128) -> i128
+    requires from { (negsuc 9223372036854775806 ≤ℤ x) × (x ≤ℤ pos 9223372036854775807) }
+    requires divisor { (negsuc 9223372036854775806 ≤ℤ y) × (y ≤ℤ pos 9223372036854775807) }
+    requires some { y ≢ pos 0 }
+    ensures { result ≡ x -ℤ y *ℤ floor_quotient x y }
+{
+    let dividend = to_long(x);
+    let divisor = to_long(y);
+    let left = rest_long(dividend, divisor);
+    i128::from(left)
+}
+
+// What is left of x by whole multiples of y, by the shortest division that holds both.
+fn rest_shortest(x: i128, y: i128) -> i128
+    requires from { (negsuc 9223372036854775807 ≤ℤ x) × (x ≤ℤ pos 9223372036854775807) }
+    requires divisor { (negsuc 9223372036854775807 ≤ℤ y) × (y ≤ℤ pos 9223372036854775807) }
+    requires some { y ≢ pos 0 }
+    ensures { result ≡ x -ℤ y *ℤ floor_quotient x y }
+{
+    if is_long(x) && is_long(y) {
+        rest_by_long(x, y)
+    } else {
+        rest(x, y)
+    }
+}
+
 /// What is left of x by whole multiples of y, with the sign of y, and 0 for a y of 0.
 pub(crate) fn rest_or_zero(x: i128, y: i128) -> i128
     requires from { (negsuc 9223372036854775807 ≤ℤ x) × (x ≤ℤ pos 9223372036854775807) }
     requires divisor { (negsuc 9223372036854775807 ≤ℤ y) × (y ≤ℤ pos 9223372036854775807) }
     ensures { result ≡ unless_zero y (x -ℤ y *ℤ floor_quotient x y) }
 {
-    if y == 0 { 0 } else { rest(x, y) }
+    if y == 0 { 0 } else { rest_shortest(x, y) }
 }
 
 /// The negated number.

@@ -19,6 +19,8 @@ mod signs;
 mod tests;
 mod truths;
 mod typed;
+#[cfg(test)]
+mod view_tests;
 
 pub use calls::{binary, cast, choose, compare, fill, unary};
 pub use cell::one_cell;
