@@ -7,3 +7,5 @@ pub mod Kept
 pub mod Ones
 pub mod Scans
 pub mod Lines
+pub mod MaskBytes
+pub mod Halves

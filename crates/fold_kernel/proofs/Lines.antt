@@ -1,5 +1,5 @@
 -- Running sums along a line, from one step to all.
-use Rattle.std.proofs.Common.{◌≡◌, ◌<◌, ◌+◌, ◌++◌, ℕ, ℤ, zero, suc, pos, List, [], ◌∷◌, length, map, take, get_or, refl, sym, ap, subst, ◌∙◌, arith}
+use Rattle.std.proofs.Common.{◌≡◌, ◌<◌, ◌+◌, ◌++◌, ℕ, ℤ, zero, suc, List, [], ◌∷◌, length, map, take, get_or, refl, sym, ap, subst, ◌∙◌, arith}
 use Rattle.std.specs.Prelude.{Option, Some, None, option_map, slice_set}
 use Rattle.std.specs.List.{fold, range_with_len}
 use Rattle.std.proofs.lemmas.List.{get_or-map, length-map}
@@ -12,7 +12,6 @@ use Rattle.strided_block.specs.Lines.{prior, Follows}
 use Rattle.strided_block.specs.Typed.{unless_hidden}
 use Rattle.fold_kernel.specs.Lines.{line_cells, with_number, SumsUp}
 use Rattle.fold_kernel.specs.Partials.{Folded, StandsFor}
-use Rattle.fold_kernel.specs.Rows.{placed}
 use Rattle.fold_kernel.proofs.Scans.{scan_sum}
 
 -- ---- a byte of a mask

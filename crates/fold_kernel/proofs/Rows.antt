@@ -1,8 +1,8 @@
 -- The cells of a masked run.
-use Rattle.std.proofs.Common.{◌≡◌, ◌==◌, ◌≢◌, ◌<◌, ◌+◌, ℕ, ℤ, suc, zero, min, Bool, true, false, List, [], ◌∷◌, map, length, get_or, Option, Some, None, option_map, if◌then◌else◌, arith, ap, refl, sym, ◌∙◌}
+use Rattle.std.proofs.Common.{◌≡◌, ◌==◌, ◌≢◌, ◌<◌, ◌+◌, ℕ, ℤ, suc, zero, min, Bool, true, false, List, [], ◌∷◌, map, length, take, get_or, Option, Some, None, option_map, if◌then◌else◌, arith, ap, refl, sym, ◌∙◌}
 use Rattle.std.proofs.Math.Dec.{eqb-suc-zero}
 use Rattle.xr_defs.specs.Arrays.{hidden}
-use Rattle.fold_kernel.specs.Rows.{shown, filled, placed}
+use Rattle.fold_kernel.specs.Rows.{shown, filled, placed, count_shown, zeros}
 
 pub length_shown : {T : Type 0} (xs : List T) (mask : List ℕ) → length (shown xs mask) ≡ min (length xs) (length mask)
 length_shown [] mask = omega arith
@@ -78,3 +78,26 @@ pub whole_there : {T : Type 0} (o : T) (xs : List T) (i : ℕ) (e : T) → i < l
 whole_there o [] i e h = absurd (omega arith)
 whole_there o (x ∷ xs) zero e h = refl
 whole_there o (x ∷ xs) (suc i) e h = whole_there o xs i e (omega arith)
+
+-- ---- how many cells are present
+
+pub count_filled : {T : Type 0} (o : T) (items : List (Option T)) → count_shown (filled o items) ≡ length items
+count_filled o [] = refl
+count_filled o (None ∷ items) = ap suc (count_filled o items)
+count_filled o (Some x ∷ items) = ap suc (count_filled o items)
+
+pub count_whole : {T : Type 0} (xs : List T) → count_shown (map Some xs) ≡ length xs
+count_whole [] = refl
+count_whole (x ∷ xs) = ap suc (count_whole xs)
+
+count_if : {T : Type 0} (b : Bool) (x : T) (cells : List (Option T)) → count_shown ((if b then Some x else None) ∷ cells) ≡ (if b then 1 else 0) + count_shown cells
+count_if true x cells = omega arith
+count_if false x cells = omega arith
+
+pub count_masked : {T : Type 0} (xs : List T) (mask : List ℕ) (n : ℕ) → n ≡ length (shown xs mask) → count_shown (shown xs mask) ≡ zeros (take n mask)
+count_masked [] mask zero e = refl
+count_masked [] mask (suc n) e = absurd (omega arith)
+count_masked (x ∷ xs) [] zero e = refl
+count_masked (x ∷ xs) [] (suc n) e = absurd (omega arith)
+count_masked (x ∷ xs) (m ∷ mask) zero e = absurd (omega arith)
+count_masked (x ∷ xs) (m ∷ mask) (suc n) e = count_if (m == 0) x (shown xs mask) ∙ ap (λ k. (if m == 0 then 1 else 0) + k) (count_masked xs mask n (omega arith))

@@ -1,18 +1,21 @@
 -- What loops over a run gather, in the words of folds.
-use Rattle.std.proofs.Common.{◌≡◌, ◌+◌, ℕ, ℤ, pos, ◌+ℤ◌, ◌*ℤ◌, int_lt, Bool, true, false, ◌||◌, ◌&&◌, if◌then◌else◌, List, [], ◌∷◌, length, Option, Some, None, arith, ap, refl, sym, ◌∙◌}
+use Rattle.std.proofs.Common.{◌≡◌, ◌+◌, ℕ, ℤ, suc, pos, ◌+ℤ◌, ◌*ℤ◌, int_lt, Bool, true, false, ◌||◌, ◌&&◌, if◌then◌else◌, List, [], ◌∷◌, length, Option, Some, None, arith, ap, refl, sym, ◌∙◌}
 use Rattle.std.specs.Int.{int_wrap, int_min, int_max, w64}
 use Rattle.std.specs.List.{list_any, list_all}
 use Rattle.std.proofs.lemmas.Int.{ints, clamps, by_lt_z, int_wrap-add_left, int_wrap-mul_left}
+use Rattle.xr_types.specs.Kinds.{wrap_to}
+use Rattle.xr_types.specs.Cells.{again_int8, again_int16, again_int32, again_int64}
+use Rattle.xr_types.specs.declared.kind.DType.{DType}
+use Rattle.xr_types.specs.declared.kind.DType.TheVariants.{Bool as Truths, Char, Int8, Int16, Int32, Int64}
 use Rattle.xr_defs.specs.Folds.{present, numbers, sum_of, product_of, of_both, least, greatest, is_nonzero}
 use Rattle.xr_defs.proofs.Folds.{add_assoc_ℤ, mul_assoc_ℤ, min_assoc, max_assoc}
 use Rattle.fold_kernel.specs.declared.gather.Total.{Total}
 use Rattle.fold_kernel.specs.declared.gather.Product.{Product}
-use Rattle.fold_kernel.specs.declared.gather.Tally.{Tally}
 use Rattle.fold_kernel.specs.declared.gather.AnyNonzero.{AnyNonzero}
 use Rattle.fold_kernel.specs.declared.gather.AllNonzero.{AllNonzero}
 use Rattle.fold_kernel.specs.declared.gather.Least.{Least}
 use Rattle.fold_kernel.specs.declared.gather.Greatest.{Greatest}
-use Rattle.fold_kernel.specs.Rows.{placed, gathered, filled, first_shown}
+use Rattle.fold_kernel.specs.Rows.{placed, gathered, filled, first_shown, count_shown}
 
 wrapped_zero : pos 0 ≡ int_wrap w64 (pos 0)
 unfolding int_wrap
@@ -27,18 +30,33 @@ wrapped_one = refl
 abbrev add_cell : {T : Type 0} → (T → ℤ) → Total → T → Total
 add_cell number s x = record { 0 = int_wrap w64 (s.0 +ℤ number x) }
 
-total_from : {T : Type 0} (number : T → ℤ) (first : ℕ) (a : ℤ) (items : List (Option T)) → (gathered (add_cell number) (record { 0 = int_wrap w64 a }) items).0 ≡ int_wrap w64 (a +ℤ sum_of (numbers (present (placed number first items))))
-total_from number first a [] = ap (int_wrap w64) (omega (arith, ints))
-total_from number first a (None ∷ items) = total_from number (first + 1) a items
-total_from number first a (Some x ∷ items) =
+total_filled_from : {T : Type 0} (number : T → ℤ) (first : ℕ) (a : ℤ) (o : T) (items : List (Option T)) → number o ≡ pos 0
+    → (gathered (add_cell number) (record { 0 = int_wrap w64 a }) (filled o items)).0 ≡ int_wrap w64 (a +ℤ sum_of (numbers (present (placed number first items))))
+total_filled_from number first a o [] e = ap (int_wrap w64) (omega (arith, ints))
+total_filled_from number first a o (None ∷ items) e =
+    let step : ℤ → ℤ = λ v. (gathered (add_cell number) (record { 0 = v }) (filled o items)).0 in
+    let same : a +ℤ number o ≡ a = rw e (omega (arith, ints)) in
+    ap step (int_wrap-add_left w64 a (number o) ∙ ap (int_wrap w64) same) ∙ total_filled_from number (first + 1) a o items e
+total_filled_from number first a o (Some x ∷ items) e =
     let rest = sum_of (numbers (present (placed number (first + 1) items))) in
-    let step : ℤ → ℤ = λ v. (gathered (add_cell number) (record { 0 = v }) items).0 in
-    ap step (int_wrap-add_left w64 a (number x)) ∙ total_from number (first + 1) (a +ℤ number x) items ∙ ap (int_wrap w64) (sym (add_assoc_ℤ a (number x) rest))
+    let step : ℤ → ℤ = λ v. (gathered (add_cell number) (record { 0 = v }) (filled o items)).0 in
+    ap step (int_wrap-add_left w64 a (number x)) ∙ total_filled_from number (first + 1) (a +ℤ number x) o items e ∙ ap (int_wrap w64) (sym (add_assoc_ℤ a (number x) rest))
 
-pub total_is : {T : Type 0} (number : T → ℤ) (first : ℕ) (items : List (Option T)) → (gathered (add_cell number) (record { 0 = pos 0 }) items).0 ≡ int_wrap w64 (sum_of (numbers (present (placed number first items))))
-total_is number first items =
-    let step : ℤ → ℤ = λ v. (gathered (add_cell number) (record { 0 = v }) items).0 in
-    ap step wrapped_zero ∙ total_from number first (pos 0) items ∙ ap (int_wrap w64) (omega (arith, ints))
+-- where a cell that holds 0 stands in the place of each missing one
+pub total_filled : {T : Type 0} (number : T → ℤ) (first : ℕ) (o : T) (items : List (Option T)) → number o ≡ pos 0
+    → (gathered (add_cell number) (record { 0 = pos 0 }) (filled o items)).0 ≡ int_wrap w64 (sum_of (numbers (present (placed number first items))))
+total_filled number first o items e =
+    let step : ℤ → ℤ = λ v. (gathered (add_cell number) (record { 0 = v }) (filled o items)).0 in
+    ap step wrapped_zero ∙ total_filled_from number first (pos 0) o items e ∙ ap (int_wrap w64) (omega (arith, ints))
+
+-- a kind leaves 0 as it is
+pub zero_left : (t : DType) → wrap_to t (pos 0) ≡ pos 0
+zero_left Truths = refl
+zero_left Char = refl
+zero_left Int8 = again_int8 (pos 0) (omega (arith, ints)) (omega (arith, ints))
+zero_left Int16 = again_int16 (pos 0) (omega (arith, ints)) (omega (arith, ints))
+zero_left Int32 = again_int32 (pos 0) (omega (arith, ints)) (omega (arith, ints))
+zero_left Int64 = again_int64 (pos 0) (omega (arith, ints)) (omega (arith, ints))
 
 -- ---- products
 
@@ -60,21 +78,10 @@ product_is number first items =
 
 -- ---- counts
 
-abbrev count_cell : {T : Type 0} → Tally → T → Tally
-count_cell s x = record { 0 = int_wrap w64 (s.0 +ℤ pos 1) }
-
-count_from : {T : Type 0} (number : T → ℤ) (first : ℕ) (a : ℤ) (items : List (Option T)) → (gathered (count_cell {T = T}) (record { 0 = int_wrap w64 a }) items).0 ≡ int_wrap w64 (a +ℤ pos (length (present (placed number first items))))
-count_from number first a [] = ap (int_wrap w64) (omega (arith, ints))
-count_from number first a (None ∷ items) = count_from number (first + 1) a items
-count_from {T} number first a (Some x ∷ items) =
-    let rest = length (present (placed number (first + 1) items)) in
-    let step : ℤ → ℤ = λ v. (gathered (count_cell {T = T}) (record { 0 = v }) items).0 in
-    ap step (int_wrap-add_left w64 a (pos 1)) ∙ count_from number (first + 1) (a +ℤ pos 1) items ∙ ap (int_wrap w64) (omega (arith, ints))
-
-pub count_is : {T : Type 0} (number : T → ℤ) (first : ℕ) (items : List (Option T)) → (gathered (count_cell {T = T}) (record { 0 = pos 0 }) items).0 ≡ int_wrap w64 (pos (length (present (placed number first items))))
-count_is {T} number first items =
-    let step : ℤ → ℤ = λ v. (gathered (count_cell {T = T}) (record { 0 = v }) items).0 in
-    ap step wrapped_zero ∙ count_from number first (pos 0) items ∙ ap (int_wrap w64) (omega (arith, ints))
+pub count_is : {T : Type 0} (number : T → ℤ) (first : ℕ) (items : List (Option T)) → length (present (placed number first items)) ≡ count_shown items
+count_is number first [] = refl
+count_is number first (None ∷ items) = count_is number (first + 1) items
+count_is number first (Some x ∷ items) = ap suc (count_is number (first + 1) items)
 
 -- ---- truth values
 
@@ -116,7 +123,7 @@ all_is number first items = all_from number first true items
 
 -- ---- the least cell
 
-abbrev least_cell : {T : Type 0} → (T → ℤ) → Least T → T → Least T
+abbrev pub least_cell : {T : Type 0} → (T → ℤ) → Least T → T → Least T
 least_cell number s x = if int_lt (number x) (number s.0) then record { 0 = x } else s
 
 lesser : {T : Type 0} (number : T → ℤ) (s : Least T) (x : T) → number (least_cell number s x).0 ≡ int_min (number s.0) (number x)
@@ -124,7 +131,7 @@ lesser number s x = by_lt_z (number x) (number s.0)
     (λ lt. let e : int_lt (number x) (number s.0) ≡ true = grind (arith, ints) in rw e (omega (arith, ints, clamps)))
     (λ le. let e : int_lt (number x) (number s.0) ≡ false = grind (arith, ints) in rw e (omega (arith, ints, clamps)))
 
-least_from : {T : Type 0} (number : T → ℤ) (first : ℕ) (s : Least T) (items : List (Option T)) → Some (number (gathered (least_cell number) s items).0) ≡ of_both int_min (Some (number s.0)) (least (numbers (present (placed number first items))))
+pub least_from : {T : Type 0} (number : T → ℤ) (first : ℕ) (s : Least T) (items : List (Option T)) → Some (number (gathered (least_cell number) s items).0) ≡ of_both int_min (Some (number s.0)) (least (numbers (present (placed number first items))))
 least_from number first s [] = refl
 least_from number first s (None ∷ items) = least_from number (first + 1) s items
 least_from number first s (Some x ∷ items) =
@@ -173,7 +180,7 @@ no_least number first (Some x ∷ items) e = absurd (cc)
 
 -- ---- the greatest cell
 
-abbrev greatest_cell : {T : Type 0} → (T → ℤ) → Greatest T → T → Greatest T
+abbrev pub greatest_cell : {T : Type 0} → (T → ℤ) → Greatest T → T → Greatest T
 greatest_cell number s x = if int_lt (number s.0) (number x) then record { 0 = x } else s
 
 greater : {T : Type 0} (number : T → ℤ) (s : Greatest T) (x : T) → number (greatest_cell number s x).0 ≡ int_max (number s.0) (number x)
@@ -181,7 +188,7 @@ greater number s x = by_lt_z (number s.0) (number x)
     (λ lt. let e : int_lt (number s.0) (number x) ≡ true = grind (arith, ints) in rw e (omega (arith, ints, clamps)))
     (λ le. let e : int_lt (number s.0) (number x) ≡ false = grind (arith, ints) in rw e (omega (arith, ints, clamps)))
 
-greatest_from : {T : Type 0} (number : T → ℤ) (first : ℕ) (s : Greatest T) (items : List (Option T)) → Some (number (gathered (greatest_cell number) s items).0) ≡ of_both int_max (Some (number s.0)) (greatest (numbers (present (placed number first items))))
+pub greatest_from : {T : Type 0} (number : T → ℤ) (first : ℕ) (s : Greatest T) (items : List (Option T)) → Some (number (gathered (greatest_cell number) s items).0) ≡ of_both int_max (Some (number s.0)) (greatest (numbers (present (placed number first items))))
 greatest_from number first s [] = refl
 greatest_from number first s (None ∷ items) = greatest_from number (first + 1) s items
 greatest_from number first s (Some x ∷ items) =

@@ -1,5 +1,5 @@
 -- Runs of cells as they lie in memory, and what a loop over one gathers.
-use Rattle.std.specs.Prelude.{◌==◌, ℕ, ℤ, ◌+ℤ◌, List, [], ◌∷◌, map, zip, Option, Some, None, option_map, if◌then◌else◌}
+use Rattle.std.specs.Prelude.{◌==◌, ◌+◌, ◌/◌, ℕ, suc, ℤ, ◌+ℤ◌, List, [], ◌∷◌, map, zip, Option, Some, None, option_map, if◌then◌else◌}
 use Rattle.std.specs.Int.{int_wrap, w64}
 use Rattle.xr_defs.specs.Folds.{numbered}
 
@@ -33,3 +33,17 @@ first_shown (Some x ∷ cells) = Some x
 abbrev pub with_cell : {T : Type 0} → (T → ℤ) → ℤ → Option T → ℤ
 with_cell number sum None = sum
 with_cell number sum (Some x) = int_wrap w64 (sum +ℤ number x)
+
+-- how many cells are present
+abbrev pub count_shown : {T : Type 0} → List (Option T) → ℕ
+count_shown [] = 0
+count_shown (None ∷ cells) = count_shown cells
+count_shown (Some x ∷ cells) = suc (count_shown cells)
+
+-- how many bytes are 0
+abbrev pub zeros : List ℕ → ℕ
+zeros [] = 0
+zeros (b ∷ bytes) = (if b == 0 then 1 else 0) + zeros bytes
+
+abbrev pub half : ℕ → ℕ
+half n = n / 2

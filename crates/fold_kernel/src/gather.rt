@@ -1,8 +1,8 @@
 //! One loop over a run for every fold that takes the cells in turn.
-ghost use Rattle.std.specs.Prelude.{◌≡◌, ◌||◌, ◌&&◌, ℤ, pos, ◌+ℤ◌, ◌*ℤ◌, int_lt, if◌then◌else◌};
+ghost use Rattle.std.specs.Prelude.{◌≡◌, ◌||◌, ◌&&◌, [], ◌∷◌, take, drop, length, ℤ, pos, ◌+ℤ◌, ◌*ℤ◌, int_lt, if◌then◌else◌};
 ghost use Rattle.std.specs.Int.{int_wrap, w64};
 ghost use Rattle.xr_defs.specs.Folds.{is_nonzero, truth};
-ghost use Rattle.fold_kernel.specs.Rows.{gathered};
+ghost use Rattle.fold_kernel.specs.Rows.{gathered, half};
 
 use crate::row::Row;
 use xr_types::Elem;
@@ -51,6 +51,34 @@ pub fn gather<T: Copy, R: Row<T>, G: Gathering<T>>(start: G, row: R) -> G
     all
 }
 
+/// Gathers the present cells of the first half of a run, and beside them those of the second: two streams come from
+/// memory faster than one.
+pub fn gather_halves<T: Copy, R: Row<T>, G: Gathering<T>>(start: G, row: R) -> (G, G)
+    ensures first { result.0 ≡ gathered G.with start (take (half (length (R.items row))) (R.items row)) }
+    ensures second { result.1 ≡ gathered G.with start (drop (half (length (R.items row))) (R.items row)) }
+{
+    let half = row.len() / 2;
+    let mut first = start;
+    let mut second = start;
+    for i in 0..half {
+        first = with_next(first, row.get(i));
+        second = with_next(second, row.get(half + i));
+    }
+    for i in half + half..row.len() {
+        second = with_next(second, row.get(i));
+    }
+    (first, second)
+}
+
+fn with_next<T: Copy, G: Gathering<T>>(all: G, cell: Option<T>) -> G
+    ensures { result ≡ gathered G.with all (cell ∷ []) }
+{
+    match cell {
+        Some(cell) => all.with(cell),
+        None => all,
+    }
+}
+
 /// The sum so far, wrapped at 64 bits.
 #[derive(Clone, Copy)]
 pub struct Total(pub i64);
@@ -74,18 +102,6 @@ impl<T: Elem> Gathering<T> for Product {
     #[tactic(auto, using(std::proofs::lemmas::Int::wraps))]
     fn with(self, cell: T) -> Product {
         Product(multiplied(self.0, i64::wrap_from(cell.widen())))
-    }
-}
-
-/// The number of cells so far, wrapped at 64 bits.
-#[derive(Clone, Copy)]
-pub struct Tally(pub i64);
-
-impl<T: Elem> Gathering<T> for Tally {
-    ghost with = { λ s x. record { 0 = int_wrap w64 (s.0 +ℤ pos 1) } };
-
-    fn with(self, _cell: T) -> Tally {
-        Tally(added(self.0, 1))
     }
 }
 

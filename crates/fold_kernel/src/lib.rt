@@ -13,6 +13,7 @@ mod run;
 mod running;
 #[cfg(test)]
 mod tests;
+mod zeros;
 
 pub use line::scan;
 pub use partial::Partial;

@@ -1,6 +1,8 @@
 //! Runs of neighbouring cells, with a mask or without one.
 ghost use Rattle.std.specs.Prelude.{◌≡◌, ◌<◌, ℕ, List, Option, Some, map, length, get_or};
-ghost use Rattle.fold_kernel.specs.Rows.{shown, filled};
+ghost use Rattle.fold_kernel.specs.Rows.{shown, filled, count_shown};
+
+use crate::zeros::zeros;
 
 /// A run of cells, some of which may be missing.
 pub trait Row<T>: Copy + Drop {
@@ -18,6 +20,10 @@ pub trait Row<T>: Copy + Drop {
     fn cell_or(self, index: usize, other: T) -> T
         requires { index < length (items self) }
         ensures { Some result ≡ get_or (filled other (items self)) index (Some result) };
+
+    /// How many cells are present.
+    fn present(self) -> usize
+        ensures { result ≡ count_shown (items self) };
 }
 
 /// A run with another cell in the place of each missing one, so that a loop over it has no branch.
@@ -44,6 +50,11 @@ impl<T: Copy + Drop, R: Row<T>> Row<T> for Filled<T, R> {
     fn cell_or(self, index: usize, _other: T) -> T {
         self.row.cell_or(index, self.other)
     }
+
+    #[tactic(auto, using(crate::proofs::Rows::count_filled))]
+    fn present(self) -> usize {
+        self.row.len()
+    }
 }
 
 /// A run without a mask.
@@ -65,6 +76,11 @@ impl<'a, T: Copy> Row<T> for Whole<'a, T> {
 
     fn cell_or(self, index: usize, _other: T) -> T {
         self.cells[index]
+    }
+
+    #[tactic(auto, using(crate::proofs::Rows::count_whole))]
+    fn present(self) -> usize {
+        self.cells.len()
     }
 }
 
@@ -97,5 +113,10 @@ impl<'a, T: Copy> Row<T> for Masked<'a, T> {
     fn cell_or(self, index: usize, other: T) -> T {
         let cell = self.cells[index];
         if self.mask[index] == 0 { cell } else { other }
+    }
+
+    #[tactic(auto, using(crate::proofs::Rows::length_shown, crate::proofs::Rows::count_masked))]
+    fn present(self) -> usize {
+        zeros(&self.mask[..self.len()])
     }
 }

@@ -1,13 +1,15 @@
 //! What a partial keeps of a whole run: one choice of the fold a run, and plain loops over its cells.
-ghost use Rattle.std.specs.Prelude.{◌≡◌, ◌≤◌, ◌+◌, ◌^◌, ℕ, length, option_map, option_and_then};
-ghost use Rattle.xr_defs.specs.Folds.{present, numbers, least, greatest};
+ghost use Rattle.std.specs.Prelude.{◌≡◌, ◌≤◌, ◌+◌, ◌^◌, ℕ, pos, length, option_map, option_and_then};
+ghost use Rattle.xr_types.specs.Kinds.{wrap_to};
+ghost use Rattle.xr_types.specs.declared.kind.DType.TheVariants.{Int64};
+ghost use Rattle.xr_defs.specs.Folds.{present, numbers, sum_of, least, greatest};
 ghost use Rattle.fold_kernel.specs.Partials.{number_of, found_with, IsChosen};
 ghost use Rattle.fold_kernel.specs.Rows.{placed, first_shown};
 
 use crate::find::{first_present, first_with, last_present};
 use crate::found::Found;
 use crate::gather::{
-    AllNonzero, AnyNonzero, Greatest, Least, Product, Tally, Total, gather, truth,
+    AllNonzero, AnyNonzero, Greatest, Least, Product, Total, gather, gather_halves, truth,
 };
 use crate::row::{Filled, Row};
 use xr_defs::FoldKind;
@@ -18,9 +20,9 @@ pub fn run_number<T: Elem, R: Row<T>>(kind: FoldKind, row: R) -> i64
     ensures { (first : ℕ) → result ≡ number_of kind (present (placed T.number first (R.items row))) }
 {
     match kind {
-        FoldKind::Sum => gather(Total(0), row).0,
+        FoldKind::Sum => sum_of(row),
         FoldKind::Prod => gather(Product(1), row).0,
-        FoldKind::Count => gather(Tally(0), row).0,
+        FoldKind::Count => wrapped(row.present()),
         FoldKind::Any => truth(gather(AnyNonzero(false), row).0),
         FoldKind::All => truth(gather(AllNonzero(true), row).0),
         _ => 0,
@@ -42,6 +44,21 @@ pub fn run_found<T: Elem, R: Row<T>>(kind: FoldKind, first: u64, row: R) -> Opti
         FoldKind::ArgMax => first_at(first, row, greatest_of(row)),
         _ => None,
     }
+}
+
+// A count, wrapped at 64 bits.
+fn wrapped(count: usize) -> i64
+    ensures { result ≡ wrap_to Int64 (pos count) }
+{
+    i64::wrap_from(count as i128)
+}
+
+// The sum of the present cells, wrapped at 64 bits. A 0 in the place of each missing cell leaves the loop no branch.
+fn sum_of<T: Elem, R: Row<T>>(row: R) -> i64
+    ensures { (first : ℕ) → result ≡ wrap_to Int64 (sum_of (numbers (present (placed T.number first (R.items row))))) }
+{
+    let zero = T::wrap_from(0);
+    gather(Total(0), Filled { row, other: zero }).0
 }
 
 fn at_first(first: u64, number: Option<i128>) -> Option<Found>
@@ -82,7 +99,10 @@ fn least_of<T: Elem, R: Row<T>>(row: R) -> Option<i128>
     ensures { (first : ℕ) → result ≡ least (numbers (present (placed T.number first (R.items row)))) }
 {
     match first_cell(row) {
-        Some(cell) => Some(gather(Least(cell), Filled { row, other: cell }).0.widen()),
+        Some(cell) => {
+            let (first, second) = gather_halves(Least(cell), Filled { row, other: cell });
+            Some(first.0.widen().min(second.0.widen()))
+        }
         None => None,
     }
 }
@@ -91,11 +111,10 @@ fn greatest_of<T: Elem, R: Row<T>>(row: R) -> Option<i128>
     ensures { (first : ℕ) → result ≡ greatest (numbers (present (placed T.number first (R.items row)))) }
 {
     match first_cell(row) {
-        Some(cell) => Some(
-            gather(Greatest(cell), Filled { row, other: cell })
-                .0
-                .widen(),
-        ),
+        Some(cell) => {
+            let (first, second) = gather_halves(Greatest(cell), Filled { row, other: cell });
+            Some(first.0.widen().max(second.0.widen()))
+        }
         None => None,
     }
 }

@@ -1,15 +1,22 @@
-use Rattle.std.proofs.Common.{SFits, Some, ap, ◌∙◌}
-use Rattle.std.specs.Int.{w128}
+use Rattle.std.proofs.Common.{SFits, Some, length, ap, ◌∙◌}
+use Rattle.std.specs.Int.{w128, int_min}
 use Rattle.std.proofs.lemmas.Int.{to_z-of_z}
-use Rattle.fold_kernel.proofs.Runs.{least_filled, no_least}
+use Rattle.fold_kernel.specs.Rows.{filled, half}
+use Rattle.fold_kernel.proofs.Runs.{no_least}
+use Rattle.fold_kernel.proofs.Halves.{least_halves}
 use Rattle.fold_kernel.proofs.run.least_of.Goals as goal
 
 pub returns-in-Some : goal.returns-in-Some
 returns-in-Some g c first =
-    let fits : SFits w128 c.widen.result = record { sfits = c.widen.type_inv } in
-    let kept = to_z-of_z w128 c.widen.result fits in
-    let least = least_filled g.T.Elem.number first c.in-Some.cell (g.R.Row.items c.args.row) c.in-Some.ensures in
-    ap Some (kept ∙ c.widen.ensures.value ∙ ap (λ s. g.T.Elem.number s.0) c.gather.ensures) ∙ least
+    let a = c.widen.result in let b = c.widen-in-Some.result in let r = c.min.result in
+    let fa : SFits w128 a = record { sfits = c.widen.type_inv } in
+    let fb : SFits w128 b = record { sfits = c.widen-in-Some.type_inv } in
+    let fr : SFits w128 r = record { sfits = c.min.type_inv } in
+    let cells = filled c.in-Some.cell (g.R.Row.items c.args.row) in
+    let is_a = to_z-of_z w128 a fa ∙ c.widen.ensures.value ∙ ap (λ s. g.T.Elem.number s.0) c.gather_halves-first.ensures.first in
+    let is_b = to_z-of_z w128 b fb ∙ c.widen-in-Some.ensures.value ∙ ap (λ s. g.T.Elem.number s.0) c.gather_halves-first.ensures.second in
+    ap Some (to_z-of_z w128 r fr ∙ c.min.ensures.value ∙ (λ i. int_min (is_a i) (is_b i)))
+    ∙ least_halves g.T.Elem.number first (half (length cells)) c.in-Some.cell (g.R.Row.items c.args.row) c.in-Some.ensures
 
 pub returns-in-None : goal.returns-in-None
 returns-in-None g c first = no_least g.T.Elem.number first (g.R.Row.items c.args.row) c.in-None.ensures
