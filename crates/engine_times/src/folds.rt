@@ -40,6 +40,8 @@ impl Fold {
             FoldKind::Sum
         } else if job.ends_with("max") {
             FoldKind::Max
+        } else if job.ends_with("min") {
+            FoldKind::Min
         } else {
             FoldKind::Count
         };

@@ -2,6 +2,7 @@
 //! many times, in nanoseconds, and a number that depends on what was computed.
 #![tactic(auto)]
 
+mod elements;
 mod folds;
 mod labels;
 mod times;
@@ -45,11 +46,11 @@ fn timed<C: Clock>(
     times: u32,
 ) -> Result<(u128, i128)> {
     match job {
-        "sum" | "max" | "count" => {
+        "sum" | "max" | "min" | "count" => {
             let mut work = folds::Fold::new(alloc, job, cells, false)?;
             least(clock, alloc, times, &mut work)
         }
-        "masked sum" | "masked max" | "masked count" => {
+        "masked sum" | "masked max" | "masked min" | "masked count" => {
             let mut work = folds::Fold::new(alloc, job, cells, true)?;
             least(clock, alloc, times, &mut work)
         }
@@ -82,7 +83,28 @@ fn timed<C: Clock>(
         "hour" => times::field_timed(clock, alloc, Field::Hour, cells, times),
         "bins of 6h" => times::bins_timed(clock, alloc, Freq::Seconds(21_600), cells, times),
         "bins of months" => times::bins_timed(clock, alloc, Freq::Months, cells, times),
-        _ => Ok((0, 0)),
+        _ => elements_timed(clock, alloc, job, cells, times),
+    }
+}
+
+// A job on the cells of blocks of one row. If its name begins so, the cells are masked, stand in rows of three, or are
+// the first three of four in each row.
+fn elements_timed<C: Clock>(
+    clock: &C,
+    alloc: Global,
+    job: &str,
+    cells: u32,
+    times: u32,
+) -> Result<(u128, i128)> {
+    let count = u64::from(cells);
+    if let Some(plain) = job.strip_prefix("masked ") {
+        elements::timed(clock, alloc, plain, 1, count, count, true, times)
+    } else if let Some(plain) = job.strip_prefix("rows of 3: ") {
+        elements::timed(clock, alloc, plain, count / 3, 3, 3, false, times)
+    } else if let Some(plain) = job.strip_prefix("3 columns of 4: ") {
+        elements::timed(clock, alloc, plain, count / 3, 4, 3, false, times)
+    } else {
+        elements::timed(clock, alloc, job, 1, count, count, false, times)
     }
 }
 
