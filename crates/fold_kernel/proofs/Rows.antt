@@ -58,21 +58,14 @@ filled_again p o [] = refl
 filled_again p o (None ∷ items) = ap (λ c. Some o ∷ c) (filled_again p o items)
 filled_again p o (Some x ∷ items) = ap (λ c. Some x ∷ c) (filled_again p o items)
 
-pub filled_there : {T : Type 0} (o : T) (xs : List T) (mask : List ℕ) (i : ℕ) (e : T) (n : ℕ) → i < length (shown xs mask) → get_or mask i n ≡ 0 → Some (get_or xs i e) ≡ get_or (filled o (shown xs mask)) i (Some (get_or xs i e))
-filled_there o [] mask i e n h z = absurd (omega arith)
-filled_there o (x ∷ xs) [] i e n h z = absurd (omega arith)
-filled_there o (x ∷ xs) (zero ∷ mask) zero e n h z = refl
-filled_there o (x ∷ xs) (suc m ∷ mask) zero e n h z = absurd (omega arith)
-filled_there o (x ∷ xs) (zero ∷ mask) (suc i) e n h z = filled_there o xs mask i e n (omega arith) z
-filled_there o (x ∷ xs) (suc m ∷ mask) (suc i) e n h z = let b : (suc m == 0) ≡ false = eqb-suc-zero m in rw b (filled_there o xs mask i e n (omega arith) z)
-
-pub filled_missing : {T : Type 0} (o : T) (xs : List T) (mask : List ℕ) (i : ℕ) → i < length (shown xs mask) → get_or mask i 0 ≢ 0 → Some o ≡ get_or (filled o (shown xs mask)) i (Some o)
-filled_missing o [] mask i h z = absurd (omega arith)
-filled_missing o (x ∷ xs) [] i h z = absurd (omega arith)
-filled_missing o (x ∷ xs) (zero ∷ mask) zero h z = absurd (z refl)
-filled_missing o (x ∷ xs) (suc m ∷ mask) zero h z = let b : (suc m == 0) ≡ false = eqb-suc-zero m in rw b refl
-filled_missing o (x ∷ xs) (zero ∷ mask) (suc i) h z = filled_missing o xs mask i (omega arith) z
-filled_missing o (x ∷ xs) (suc m ∷ mask) (suc i) h z = let b : (suc m == 0) ≡ false = eqb-suc-zero m in rw b (filled_missing o xs mask i (omega arith) z)
+pub filled_at : {T : Type 0} (o : T) (xs : List T) (mask : List ℕ) (i : ℕ) (e : T) (n : ℕ) → i < length (shown xs mask)
+    → Some (if get_or mask i n == 0 then get_or xs i e else o) ≡ get_or (filled o (shown xs mask)) i (Some (if get_or mask i n == 0 then get_or xs i e else o))
+filled_at o [] mask i e n h = absurd (omega arith)
+filled_at o (x ∷ xs) [] i e n h = absurd (omega arith)
+filled_at o (x ∷ xs) (zero ∷ mask) zero e n h = refl
+filled_at o (x ∷ xs) (suc m ∷ mask) zero e n h = let b : (suc m == 0) ≡ false = eqb-suc-zero m in rw b refl
+filled_at o (x ∷ xs) (zero ∷ mask) (suc i) e n h = filled_at o xs mask i e n (omega arith)
+filled_at o (x ∷ xs) (suc m ∷ mask) (suc i) e n h = let b : (suc m == 0) ≡ false = eqb-suc-zero m in rw b (filled_at o xs mask i e n (omega arith))
 
 pub whole_there : {T : Type 0} (o : T) (xs : List T) (i : ℕ) (e : T) → i < length (map Some xs) → Some (get_or xs i e) ≡ get_or (filled o (map Some xs)) i (Some (get_or xs i e))
 whole_there o [] i e h = absurd (omega arith)

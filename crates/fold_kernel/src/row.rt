@@ -1,5 +1,5 @@
 //! Runs of neighbouring cells, with a mask or without one.
-ghost use Rattle.std.specs.Prelude.{◌≡◌, ◌<◌, ℕ, List, Option, Some, map, length, get_or};
+ghost use Rattle.std.specs.Prelude.{◌≡◌, ◌==◌, ◌<◌, if◌then◌else◌, ℕ, List, Option, Some, map, length, get_or};
 ghost use Rattle.fold_kernel.specs.Rows.{shown, filled, count_shown};
 
 use crate::zeros::zeros;
@@ -84,6 +84,13 @@ impl<'a, T: Copy> Row<T> for Whole<'a, T> {
     }
 }
 
+// The cell if its byte of the mask is 0, else the other one. Both are at hand, so the choice needs no branch.
+fn if_shown<T: Copy>(byte: u8, cell: T, other: T) -> T
+    ensures { result ≡ if byte == 0 then cell else other }
+{
+    if byte == 0 { cell } else { other }
+}
+
 /// A run with a mask, in which 0 marks a present cell.
 #[derive(Clone, Copy)]
 pub struct Masked<'a, T> {
@@ -108,11 +115,9 @@ impl<'a, T: Copy> Row<T> for Masked<'a, T> {
         }
     }
 
-    // The cell is read first, so that no load hangs on the mask.
-    #[tactic(auto, using(crate::proofs::Rows::length_shown, crate::proofs::Rows::filled_there, crate::proofs::Rows::filled_missing))]
+    #[tactic(auto, using(crate::proofs::Rows::length_shown))]
     fn cell_or(self, index: usize, other: T) -> T {
-        let cell = self.cells[index];
-        if self.mask[index] == 0 { cell } else { other }
+        if_shown(self.mask[index], self.cells[index], other)
     }
 
     #[tactic(auto, using(crate::proofs::Rows::length_shown, crate::proofs::Rows::count_masked))]
