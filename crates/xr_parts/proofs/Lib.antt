@@ -12,3 +12,4 @@ pub mod Rest
 pub mod Permuted
 pub mod Turned
 pub mod Backward
+pub mod TestGrid
