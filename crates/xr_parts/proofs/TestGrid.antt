@@ -11,6 +11,7 @@ use Rattle.xr_types.specs.declared.kind.DType.TheVariants.{Int64}
 use Rattle.xr_defs.specs.declared.node.Node.{Node}
 use Rattle.xr_defs.specs.declared.node.Node.TheVariants.{Source}
 use Rattle.xr_defs.specs.Arrays.{Array, IsCell}
+use Rattle.xr_defs.specs.Classic.{is_name}
 use Rattle.xr_defs.specs.Nodes.{node_value, value, IsNode}
 use Rattle.xr_values.specs.WellFormed.{AreCells, AreDimensions, IsDimension}
 use Rattle.xr_values.specs.Stands.{IsArrayIn, IsNodeOf}
@@ -87,3 +88,7 @@ grid_formed nodes n node cells =
         cells = subst (AreCells (2 ∷ 3 ∷ []) Int64 false) (sym cells) six_are_cells;
       };
     }
+
+pub a_is_name : is_name (97 ∷ []) ≡ true
+unfolding is_utf8 chars Utf8.encode
+a_is_name = refl

@@ -2,11 +2,11 @@ ghost use Rattle.std.specs.Prelude.{◌≡◌, ◌∷◌, [], pos, IfOk, None, S
 ghost use Rattle.xr_types.specs.declared.axis.LabelList.TheVariants.{Numbers};
 ghost use Rattle.xr_types.specs.declared.kind.DType.TheVariants.{Int64};
 ghost use Rattle.xr_defs.specs.Nodes.{value};
-ghost use Rattle.xr_values.specs.Stands.{IsArrayIn, IsNodeOf};
+ghost use Rattle.xr_values.specs.Stands.{IsArrayIn, IsDatasetIn, IsNodeOf};
 
 use crate::{
-    array_with_attrs, as_set, dropped_of_array, dropped_of_set, own_name, pick_of_array, renamed,
-    set_with_attrs, sum_called, to_dataset, transposed,
+    array_with_attrs, as_set, dropped_of_array, dropped_of_set, own_name, pick_of_array,
+    pick_of_set, renamed, set_with_attrs, sum_called, to_dataset, transposed,
 };
 use plan_core::Plan;
 use std::alloc::{AllocError, Global};
@@ -276,6 +276,17 @@ fn grid(alloc: Global, plan: &mut Plan) -> Result<DataArray, AllocError>
     })
 }
 
+fn grid_set(alloc: Global, plan: &mut Plan) -> Result<Dataset, Fail>
+    ensures { IfOk result (IsDatasetIn plan.new) }
+{
+    let a = grid(alloc, plan)?;
+    let own = name(alloc, "a")?;
+    match as_set(alloc, &own, &a) {
+        Ok(s) => Ok(s),
+        Err(_) => Err("no dataset".into()),
+    }
+}
+
 // The cells of the last node, where it is a source of 64 bits along one dimension.
 fn last_numbers(plan: &Plan) -> &[i64] {
     match plan.nodes() {
@@ -311,6 +322,21 @@ fn an_axis_without_labels_is_no_array(rt: HostRuntime) -> Result<(), Fail> {
         Err(CallFault::Refused(Fault::NoVariable(y))) => assert_eq!(rt; y.as_str(), "y"),
         _ => return Err("no labels".into()),
     }
+    Ok(())
+}
+
+#[test]
+fn a_variable_of_a_dataset_is_an_array(rt: HostRuntime) -> Result<(), Fail> {
+    let alloc = rt.alloc();
+    let mut plan = Plan::new(alloc);
+    let s = grid_set(alloc, &mut plan)?;
+    let a = pick_of_set(alloc, &mut plan, &s, &name(alloc, "a")?)
+        .ok()
+        .ok_or("no variable")?;
+    assert!(rt; is_called(&a.name, "a"));
+    assert_eq!(rt; a.axes.as_slice().len(), 2);
+    assert_eq!(rt; a.node, 0);
+    assert_eq!(rt; plan.nodes().len(), 1);
     Ok(())
 }
 
