@@ -2,17 +2,25 @@
 #![tactic(auto)]
 
 mod aligned;
+mod assigned;
 mod axes;
 mod bare;
 mod cells;
 mod check;
+mod computed;
+mod coordinates;
+mod draft;
 mod elements;
 mod given;
+mod labels;
 mod limits;
 mod nesting;
 mod placed;
+mod placing;
+mod put;
 mod written;
 
+pub use assigned::assign_to_array;
 pub use written::array_written_out;
 
 #[cfg(test)]

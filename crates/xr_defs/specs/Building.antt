@@ -18,7 +18,7 @@ use Rattle.xr_defs.specs.Classic.{among}
 use Rattle.xr_defs.specs.Canonical.{are_distinct}
 use Rattle.xr_defs.specs.Labels as labels
 use Rattle.xr_defs.specs.Labels.{labels_of}
-use Rattle.xr_defs.specs.Values.{DataArray, Dataset, Variable, array_of, axis_names, axis_position}
+use Rattle.xr_defs.specs.Values.{DataArray, Dataset, Variable, array_of, axis_names, axis_position, present}
 use Rattle.xr_defs.specs.Limits.{most_dimensions}
 use Rattle.xr_defs.specs.Encoding.{may_fill}
 use Rattle.xr_defs.specs.Selecting.{axis_called, check_array, check_set}
@@ -124,12 +124,7 @@ check_axis axes x =
 
 abbrev pub labels_given : Value → Result Labels Fault
 labels_given (Sequence vs) = as_labels vs >>= λ l. Ok (record { list = l; attrs = [] })
-labels_given (Array a) = Ok (record { list = Numbers a.kind (numbers_of_cells a.cells); attrs = a.attrs })
-  where
-    numbers_of_cells : List (Option ℤ) → List ℤ
-    numbers_of_cells [] = []
-    numbers_of_cells (None ∷ cs) = numbers_of_cells cs
-    numbers_of_cells (Some n ∷ cs) = n ∷ numbers_of_cells cs
+labels_given (Array a) = Ok (record { list = Numbers a.kind (present a.cells); attrs = a.attrs })
 labels_given v = wrong
 
 -- ---- coordinates assigned

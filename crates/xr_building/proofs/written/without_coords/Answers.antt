@@ -1,4 +1,4 @@
-use Rattle.std.proofs.Common.{Bor, sym, subst, map, option_map, ◌∙◌}
+use Rattle.std.proofs.Common.{sym, subst, map, option_map}
 use Rattle.xr_values.specs.Answers.{AnswersArray}
 use Rattle.xr_values.specs.Meaning.{meaning}
 use Rattle.xr_building.proofs.Steps.{with_some, with_none}

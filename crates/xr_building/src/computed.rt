@@ -1,0 +1,34 @@
+//! The cells of arrays that become coordinates.
+ghost use Rattle.std.specs.Prelude.{◌≡◌, ◌<◌, ℕ, List, length};
+ghost use denote.Param.Send.{IsSync};
+ghost use Rattle.xr_defs.specs.declared.node.Node.{Node};
+ghost use Rattle.xr_building.specs.Entries.{Follows};
+ghost use Rattle.xr_building.specs.Walk.{node_cells};
+
+use plan_core::Compute;
+use std::alloc::Global;
+use std::thread::Threads;
+use xr_defs::ArrayValue;
+use xr_types::{CallFault, ComputeFault, NodeId};
+use xr_values::Cx;
+
+/// The cells of a node, or the node itself where it is declined.
+#[tactic(auto, unfolding(crate::specs::Walk::node_cells, xr_defs::specs::Results::unless))]
+pub fn node_cells<R: Threads + Sync, C: Compute>(
+    rt: &R,
+    alloc: Global,
+    cx: &mut Cx<C>,
+    node: NodeId,
+) -> Result<ArrayValue, CallFault>
+    requires sync { IsSync R.row }
+    requires inside { node < length cx.old.plan }
+    ensures told { Follows (λ a. a) result (node_cells (C.declines cx.old.compute cx.old.plan) cx.old.plan node) }
+    ensures plan { cx.new.plan ≡ cx.old.plan }
+    ensures keeps { (nodes : List Node) (n : ℕ) → C.declines cx.new.compute nodes n ≡ C.declines cx.old.compute nodes n }
+{
+    match cx.compute.cells(rt, alloc, &cx.plan, node) {
+        Ok(array) => Ok(array),
+        Err(ComputeFault::Declined(node)) => Err(CallFault::Declined(node)),
+        Err(ComputeFault::NoMemory) => Err(CallFault::NoMemory),
+    }
+}
