@@ -1,6 +1,7 @@
 //! The functions and methods of scripts, found by their names.
 #![tactic(auto)]
 
+mod coords;
 mod frames;
 mod function;
 mod held;

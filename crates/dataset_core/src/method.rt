@@ -3,13 +3,15 @@ ghost use Rattle.std.specs.Prelude.{◌≡◌, ℕ, List, false, IfOk};
 ghost use denote.Param.Send.{IsSync};
 ghost use Rattle.xr_defs.specs.declared.node.Node.{Node};
 ghost use Rattle.xr_defs.specs.Classic.{among};
-ghost use Rattle.xr_defs.specs.Calls.{method_called, other_method as other_method_called, is_labelled_data as is_labelled, promoting};
+ghost use Rattle.xr_defs.specs.Calls.{method_called, uncomputed_method as uncomputed, other_method as other_method_called, is_labelled_data as is_labelled, promoting};
 ghost use Rattle.plan_core.specs.Plans.{Grows};
 ghost use Rattle.xr_values.specs.Meaning.{meaning, given, IsValueIn, AreArgsIn};
 ghost use Rattle.dataset_core.specs.Answers.{AnswersValue, RefusesValue};
+ghost use Rattle.dataset_core.specs.Assigned.{method_told, FollowsValue};
 
+use crate::coords::assign_coords;
 use crate::frames::{assign_attrs, drop_vars, isel, rename, sum, to_dataset, transpose};
-use plan_core::Compute;
+use plan_core::{Compute, Plan};
 use std::alloc::Global;
 use std::thread::Threads;
 use xr_types::{CallFault, DeepCopy, Fault, TextBytes};
@@ -59,16 +61,50 @@ fn other_method(alloc: Global, on: &Value, name: &TextBytes) -> CallFault
     }
 }
 
+// The methods that compute no cells.
+#[tactic(auto, using(plan_core::proofs::Plans::grows_by_none), unfolding(xr_defs::specs::Calls::uncomputed_method))]
+fn uncomputed_method(
+    alloc: Global,
+    plan: &mut Plan,
+    on: &Value,
+    name: &TextBytes,
+    args: &Args,
+) -> Result<Value, CallFault>
+    requires { IsValueIn plan.old on.now }
+    ensures answers { AnswersValue plan.new result (uncomputed (meaning plan.old on.now) name.now (given plan.old args.now)) }
+    ensures inside { IfOk result (IsValueIn plan.new) }
+    ensures grows { Grows plan.old plan.new }
+{
+    let called = name.as_str();
+    if called == "isel" {
+        isel(alloc, plan, on, args)
+    } else if called == "transpose" {
+        transpose(alloc, plan, on, args)
+    } else if called == "drop_vars" {
+        drop_vars(alloc, plan, on, args)
+    } else if called == "assign_attrs" {
+        assign_attrs(alloc, plan, on, args)
+    } else if called == "rename" {
+        rename(alloc, plan, on, args)
+    } else if called == "to_dataset" {
+        to_dataset(alloc, plan, on, args)
+    } else if called == "sum" {
+        sum(alloc, plan, on, args)
+    } else {
+        Err(other_method(alloc, on, name))
+    }
+}
+
 /// The value of a call of a method: `isel`, `drop_vars` and `assign_attrs` of arrays and datasets, and
-/// `transpose`, `rename`, `to_dataset` and `sum` of arrays.
+/// `transpose`, `assign_coords`, `rename`, `to_dataset` and `sum` of arrays.
 ///
 /// # Errors
 /// `UnknownName` for any other method, but `WouldPromote` for those of arrays and datasets whose answers aren't whole
 /// numbers, `mean` and its like; then `WrongKind` for a receiver that hasn't the method; then those of the method. Where
-/// cells that the call needs are declined, it is that.
-#[tactic(auto, using(plan_core::proofs::Plans::grows_by_none), unfolding(xr_defs::specs::Calls::method_called))]
+/// cells that the call needs are declined, it is that: `assign_coords` needs those of each array that it makes a coordinate.
+#[tactic(auto, using(plan_core::proofs::Plans::grows_by_none, crate::proofs::Labelling::follows_value), unfolding(xr_defs::specs::Calls::method_called, crate::specs::Assigned::method_told))]
 pub fn call_method<R: Threads + Sync, C: Compute>(
-    _rt: &R,
+    rt: &R,
     alloc: Global,
     cx: &mut Cx<C>,
     on: &Value,
@@ -78,27 +114,15 @@ pub fn call_method<R: Threads + Sync, C: Compute>(
     requires sync { IsSync R.row }
     requires inside { IsValueIn cx.old.plan on.now }
     requires given { AreArgsIn cx.old.plan args.now }
+    ensures told { FollowsValue cx.new.plan result (method_told (C.declines cx.old.compute cx.old.plan) cx.old.plan on.now name.now args.now) }
     ensures undeclined { ((n : ℕ) → C.declines cx.old.compute cx.old.plan n ≡ false) → AnswersValue cx.new.plan result (method_called (meaning cx.old.plan on.now) name.now (given cx.old.plan args.now)) }
     ensures inside { IfOk result (IsValueIn cx.new.plan) }
     ensures grows { Grows cx.old.plan cx.new.plan }
     ensures keeps { (nodes : List Node) (n : ℕ) → C.declines cx.new.compute nodes n ≡ C.declines cx.old.compute nodes n }
 {
-    let called = name.as_str();
-    if called == "isel" {
-        isel(alloc, &mut cx.plan, on, args)
-    } else if called == "transpose" {
-        transpose(alloc, &mut cx.plan, on, args)
-    } else if called == "drop_vars" {
-        drop_vars(alloc, &mut cx.plan, on, args)
-    } else if called == "assign_attrs" {
-        assign_attrs(alloc, &mut cx.plan, on, args)
-    } else if called == "rename" {
-        rename(alloc, &mut cx.plan, on, args)
-    } else if called == "to_dataset" {
-        to_dataset(alloc, &mut cx.plan, on, args)
-    } else if called == "sum" {
-        sum(alloc, &mut cx.plan, on, args)
+    if name.as_str() == "assign_coords" {
+        assign_coords(rt, alloc, cx, on, args)
     } else {
-        Err(other_method(alloc, on, name))
+        uncomputed_method(alloc, &mut cx.plan, on, name, args)
     }
 }

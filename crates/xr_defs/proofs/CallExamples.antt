@@ -6,7 +6,7 @@ use Rattle.xr_defs.specs.Results.{unless}
 use Rattle.xr_defs.specs.Meanings.{Value, Text, Number, Set, Given}
 use Rattle.xr_defs.specs.Arguments.{as_text}
 use Rattle.xr_defs.specs.Building.{bound}
-use Rattle.xr_defs.specs.Calls.{open_asked, open_dataset, opened_set, mask_given, text_printed, write_asked, set_written, method_called, other_method, of_array, options_given, format_given, fill_given, unlimited_given, format_named}
+use Rattle.xr_defs.specs.Calls.{open_asked, open_dataset, opened_set, mask_given, text_printed, write_asked, set_written, method_called, uncomputed_method, other_method, of_array, options_given, format_given, fill_given, unlimited_given, format_named}
 
 -- a dataset of nothing is printed as its first line
 printed : text_printed (Set (record { axes = []; coords = []; vars = []; attrs = []; skipped = [] })) ≡ Ok (codes "Dataset\n")
@@ -34,11 +34,11 @@ no_name = refl
 
 -- methods that need fractions are told as such on datasets, and arrays alone are renamed
 mean : method_called (Set (record { axes = []; coords = []; vars = []; attrs = []; skipped = [] })) (codes "mean") (record { plain = []; keyed = [] }) ≡ Err WouldPromote
-unfolding method_called other_method
+unfolding method_called uncomputed_method other_method
 mean = refl
 
 renamed_set : method_called (Set (record { axes = []; coords = []; vars = []; attrs = []; skipped = [] })) (codes "rename") (one (Text (codes "v"))) ≡ Err WrongKind
-unfolding method_called of_array
+unfolding method_called uncomputed_method of_array
 renamed_set = refl
 
 -- an unknown format is a bad argument, and it comes before a fill of another kind

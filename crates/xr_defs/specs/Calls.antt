@@ -19,7 +19,7 @@ use Rattle.xr_defs.specs.Encoding.{file_of}
 use Rattle.xr_defs.specs.Printing.{array_text, set_text}
 use Rattle.xr_defs.specs.Selecting.{isel_array, isel_set}
 use Rattle.xr_defs.specs.Parts.{picked_of_set, picked_of_array, renamed, to_dataset, own_name, as_set, attrs_assigned, transposed, dropped_of_array, dropped_of_set}
-use Rattle.xr_defs.specs.Building.{bound, argument, option, required, parameters, data_array}
+use Rattle.xr_defs.specs.Building.{bound, argument, option, required, parameters, data_array, assigned_to_array}
 use Rattle.xr_defs.specs.Meanings.{Value, Truth, Number, Text, Array, Set, Given}
 use Rattle.xr_defs.specs.Arguments.{wrong, unfit, as_text, slice_given, nothing_given}
 
@@ -108,8 +108,9 @@ promoting = codes "mean" ∷ codes "std" ∷ codes "var" ∷ codes "median" ∷ 
 unfoldable pub other_method : Value → List ℕ → Result Value Fault
 other_method v name = if among promoting name then Err (if is_labelled_data v then WouldPromote else WrongKind) else Err (UnknownName name)
 
-unfoldable pub method_called : Value → List ℕ → Given → Result Value Fault
-method_called v name g =
+-- those that compute no cells
+unfoldable pub uncomputed_method : Value → List ℕ → Given → Result Value Fault
+uncomputed_method v name g =
     if bytes_eq name (codes "isel") then of_both (λ a. isel_array a g) (λ s. isel_set s g) v
     else if bytes_eq name (codes "transpose") then of_array (λ a. transposed a g >>= λ b. Ok (Array b)) v
     else if bytes_eq name (codes "drop_vars") then of_both (λ a. dropped_of_array a g) (λ s. dropped_of_set s g) v
@@ -118,6 +119,11 @@ method_called v name g =
     else if bytes_eq name (codes "to_dataset") then of_array (λ a. to_dataset a g >>= λ s. Ok (Set s)) v
     else if bytes_eq name (codes "sum") then of_array (sum_called g) v
     else other_method v name
+
+-- coordinates are assigned to arrays alone so far
+unfoldable pub method_called : Value → List ℕ → Given → Result Value Fault
+method_called v name g =
+    if bytes_eq name (codes "assign_coords") then of_array (λ a. assigned_to_array a g >>= λ b. Ok (Array b)) v else uncomputed_method v name g
 
 -- ---- to_netcdf(name, format="NETCDF3_CLASSIC", fill_value?, unlimited_dims?)
 

@@ -1,0 +1,38 @@
+-- What methods answer where nodes may be declined: `assign_coords` computes the arrays that become coordinates, the others compute
+-- nothing.
+use Rattle.std.specs.Prelude.{◌≡◌, ℕ, Bool, List, Result, Ok, Err, ⊤, if◌then◌else◌, codes}
+use Rattle.std.specs.Str.{bytes_eq}
+use Rattle.xr_types.specs.declared.fault.Fault.TheVariants.{WrongKind}
+use Rattle.xr_types.specs.declared.fault.CallFault.{CallFault}
+use Rattle.xr_types.specs.declared.fault.CallFault.TheVariants.{Refused, Declined, NoMemory}
+use Rattle.xr_defs.specs.declared.node.Node.{Node}
+use Rattle.xr_defs.specs.Results.{◌>>=◌}
+use Rattle.xr_defs.specs.Meanings as of
+use Rattle.xr_defs.specs.Calls.{uncomputed_method}
+use Rattle.xr_values.specs.declared.value.Value.{Value}
+use Rattle.xr_values.specs.declared.value.Value.TheOpen as held
+use Rattle.xr_values.specs.declared.value.Value.TheOpen.{Value-F}
+use Rattle.xr_values.specs.declared.value.Value.TheViews.{out-Value}
+use Rattle.xr_values.specs.declared.args.Args.{Args}
+use Rattle.xr_values.specs.Meaning.{meaning, given, IsValueIn}
+use Rattle.xr_building.specs.Entries.{array_assigned, refused}
+
+-- by the outermost layer of the receiver
+abbrev pub coords_of_layer : (ℕ → Bool) → List Node → Args → Value-F Value → Result of.Value CallFault
+coords_of_layer declines nodes args (held.Array a) = array_assigned declines nodes a.value args >>= λ b. Ok (of.Array b)
+coords_of_layer declines nodes args v = Err (Refused WrongKind)
+
+unfoldable pub coords_told : (ℕ → Bool) → List Node → Value → Args → Result of.Value CallFault
+coords_told declines nodes v args = coords_of_layer declines nodes args (out-Value v)
+
+-- the value of a method, the first fault, or the first declined node that the call comes to
+unfoldable pub method_told : (ℕ → Bool) → List Node → Value → List ℕ → Args → Result of.Value CallFault
+method_told declines nodes v name args =
+    if bytes_eq name (codes "assign_coords") then coords_told declines nodes v args else refused (uncomputed_method (meaning nodes v) name (given nodes args))
+
+-- a call answers what is told, unless memory runs out
+abbrev pub FollowsValue : List Node → Result Value CallFault → Result of.Value CallFault → Type 0
+FollowsValue nodes (Ok v) told = (told ≡ Ok (meaning nodes v)) × IsValueIn nodes v
+FollowsValue nodes (Err (Refused f)) told = told ≡ Err (Refused f)
+FollowsValue nodes (Err (Declined n)) told = told ≡ Err (Declined n)
+FollowsValue nodes (Err NoMemory) told = ⊤
