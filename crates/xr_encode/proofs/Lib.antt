@@ -16,3 +16,4 @@ pub mod Looked
 pub mod Fits
 pub mod Formed
 pub mod Whole
+pub mod TestSets

@@ -25,3 +25,6 @@ mod text;
 mod widths;
 
 pub use encode::encode_set;
+
+#[cfg(test)]
+mod tests;
