@@ -40,7 +40,7 @@ use Rattle.xr_building.proofs.Fitting.{fit_in_range, fits_in_range, present_in}
 
 -- ---- labels of one axis
 
-called_cons : (x : Axis) (xs : List Axis) (name : List ℕ) → axis_called (x ∷ xs) name ≡ (if bytes_eq x.name name then x else axis_called xs name)
+pub called_cons : (x : Axis) (xs : List Axis) (name : List ℕ) → axis_called (x ∷ xs) name ≡ (if bytes_eq x.name name then x else axis_called xs name)
 called_cons x xs name = by (bytes_eq x.name name) (axis_position name xs)
   where
     by : (b : Bool) (o : Option ℕ) → elim (if b then Some 0 else option_map (λ n. n + 1) o) as (λ o. Axis) [ None ↦ no_axis | Some k ↦ get_or (x ∷ xs) k no_axis ] ≡ (if b then x else elim o as (λ o. Axis) [ None ↦ no_axis | Some k ↦ get_or xs k no_axis ])
@@ -111,7 +111,7 @@ module _ (name : List ℕ) (labels : Option Labels) where
   coords_on axes [] all = tt
   coords_on axes (c ∷ coords) all = (coord_on axes c all.0, coords_on axes coords all.1)
 
-  names_on : (coords : List Coord) → names_of (map (coord_with_index name labels) coords) ≡ names_of coords
+  pub names_on : (coords : List Coord) → names_of (map (coord_with_index name labels) coords) ≡ names_of coords
   names_on [] = refl
   names_on (c ∷ coords) = ap (λ ns. c.name ∷ ns) (names_on coords)
 
@@ -170,12 +170,12 @@ module _ (d : Coord) where
 
 -- ---- what an entry gives
 
-unless_holds : (b : Bool) (f : Fault) → unless b f ≡ Ok (tt {0}) → b ≡ true
+pub unless_holds : (b : Bool) (f : Fault) → unless b f ≡ Ok (tt {0}) → b ≡ true
 unfolding unless
 unless_holds true f is = refl
 unless_holds false f is = absurd cc
 
-first_passes : (r s : Result (Unit {0}) Fault) → (r >>= λ u. s) ≡ Ok (tt {0}) → (r ≡ Ok tt) × (s ≡ Ok tt)
+pub first_passes : (r s : Result (Unit {0}) Fault) → (r >>= λ u. s) ≡ Ok (tt {0}) → (r ≡ Ok tt) × (s ≡ Ok tt)
 first_passes (Ok u) s is = (refl, is)
 first_passes (Err e) s is = absurd cc
 

@@ -1,29 +1,25 @@
 -- An array with the axes and the coordinates that a call leaves stands in the plan.
-use Rattle.std.proofs.Common.{◌≡◌, ◌≤◌, ℕ, Bool, true, false, List, [], ◌∷◌, map, Option, Some, None, Result, Ok, Err, refl, sym, ap, subst, ◌∙◌}
+use Rattle.std.proofs.Common.{◌≡◌, ◌≤◌, ℕ, Bool, true, false, List, [], ◌∷◌, Option, Some, None, Ok, Err, refl, sym, ap, subst, ◌∙◌}
 use Rattle.std.specs.Prelude.{if◌then◌else◌}
 use Rattle.std.specs.List.{AllByRecursion}
-use Rattle.xr_types.specs.declared.text.TextBytes.{TextBytes}
 use Rattle.xr_types.specs.declared.axis.Axis.{Axis}
-use Rattle.xr_types.specs.declared.fault.Fault.{Fault}
 use Rattle.xr_types.specs.declared.fault.CallFault.{CallFault}
 use Rattle.xr_defs.specs.declared.node.Node.{Node}
 use Rattle.xr_defs.specs.declared.value.Coord.{Coord}
-use Rattle.xr_defs.specs.Results.{◌>>=◌, unless, all_of}
+use Rattle.xr_defs.specs.Results.{◌>>=◌}
 use Rattle.xr_defs.specs.Values.{axis_names, shape_over}
 use Rattle.xr_defs.specs.Meanings.{Value}
-use Rattle.xr_defs.specs.Building.{Frame, check_entry, check_place, check_numbers, frame_of_array, is_dimension}
-use Rattle.xr_values.specs.declared.value.Value.{Value as Held}
+use Rattle.xr_defs.specs.Building.{Frame, frame_of_array, is_dimension}
 use Rattle.xr_values.specs.declared.data_array.DataArray.{DataArray}
 use Rattle.xr_values.specs.declared.args.Args.{Args}
-use Rattle.xr_values.specs.Meaning.{with_key}
 use Rattle.xr_values.specs.Stands.{array_in, IsArrayIn, IsNodeOf}
 use Rattle.xr_values.specs.WellFormed.{AreCells, IsDimension}
 use Rattle.xr_building.specs.Frames.{with_index, IsFrame, IsOpenAxis}
-use Rattle.xr_building.specs.Entries.{refused, computed, array_assigned, entries_in, frame_in}
-use Rattle.xr_building.specs.Walk.{check_put, coord_given, indexed, labels_in, put, with_another}
+use Rattle.xr_building.specs.Entries.{array_assigned, frame_in}
+use Rattle.xr_building.specs.Walk.{coord_given, indexed, labels_in, put, with_another}
 use Rattle.xr_building.proofs.Called.{names_kept, sizes_kept}
 use Rattle.xr_building.proofs.Framed.{index_name, index_size}
-use Rattle.xr_building.proofs.Walked.{in_is}
+use Rattle.xr_building.proofs.Keeping.{frame_keeps}
 
 -- ---- names and sizes stay
 
@@ -46,38 +42,9 @@ spans_put f kv = by (is_dimension f.axes kv.0)
         }
     by false = another (coord_given f.axes kv.0 kv.1)
 
-module _ (declines : ℕ → Bool) (nodes : List Node) (variables : List (List ℕ)) where
-  pub entries_span : (f g : Frame) (kvs : List (TextBytes × Held)) → entries_in declines nodes variables f kvs ≡ Ok g → Spans g f
-  unfolding entries_in
-  entries_span f g [] is = let same : f ≡ g = cc in subst (λ h. Spans h f) same (record { names = refl; sizes = refl })
-  entries_span f g (kv ∷ kvs) is =
-      let m = with_key nodes kv in
-      by (check_put variables f.axes m) (computed declines kv.1) (sym (ap (λ r. r >>= λ h. entries_in declines nodes variables h kvs) (in_is declines nodes variables f kv)) ∙ is) (λ e. entries_span (put f m) g kvs e)
-    where
-      by : (r : Result (Unit {0}) Fault) (c : Result (Unit {0}) CallFault) → ((refused r >>= λ u. c >>= λ w. Ok (put f (with_key nodes kv))) >>= λ h. entries_in declines nodes variables h kvs) ≡ Ok g
-          → (entries_in declines nodes variables (put f (with_key nodes kv)) kvs ≡ Ok g → Spans g (put f (with_key nodes kv))) → Spans g f
-      by (Err e) c told rest = absurd cc
-      by (Ok u) (Err e) told rest = absurd cc
-      by (Ok u) (Ok w) told rest =
-          let later = rest told in
-          let here = spans_put f (with_key nodes kv) in
-          record { names = later.names ∙ here.names; sizes = later.sizes ∙ here.sizes }
-
-  pub frame_spans : (f g : Frame) (args : Args) → frame_in declines nodes variables f args ≡ Ok g → Spans g f
-  unfolding frame_in
-  frame_spans f g args is =
-      by (unless _ _) (all_of (check_entry f.axes) kvs) (all_of (check_place f.axes) kvs) (entries_in declines nodes variables f args.keyed.items) (all_of check_numbers kvs) is (λ e. entries_span f g args.keyed.items e)
-    where
-      kvs : List (List ℕ × Value)
-      kvs = map (with_key nodes) args.keyed.items
-
-      by : (p c q : Result (Unit {0}) Fault) (w : Result Frame CallFault) (n : Result (Unit {0}) Fault) → (refused p >>= λ a. refused c >>= λ b. refused q >>= λ c. w >>= λ h. refused n >>= λ d. Ok h) ≡ Ok g → (w ≡ Ok g → Spans g f) → Spans g f
-      by (Err e) c q w n told rest = absurd cc
-      by (Ok u) (Err e) q w n told rest = absurd cc
-      by (Ok u) (Ok v) (Err e) w n told rest = absurd cc
-      by (Ok u) (Ok v) (Ok x) (Err e) n told rest = absurd cc
-      by (Ok u) (Ok v) (Ok x) (Ok h) (Err e) told rest = absurd cc
-      by (Ok u) (Ok v) (Ok x) (Ok h) (Ok y) told rest = rest told
+pub frame_spans : (declines : ℕ → Bool) (nodes : List Node) (variables : List (List ℕ)) (f g : Frame) (args : Args) → frame_in declines nodes variables f args ≡ Ok g → Spans g f
+frame_spans declines nodes variables f g args is =
+    frame_keeps declines nodes variables (λ h. Spans h f) (λ h kv passed spans. let here = spans_put h kv in record { names = here.names ∙ spans.names; sizes = here.sizes ∙ spans.sizes }) f g args is (record { names = refl; sizes = refl })
 
 -- ---- the array
 
@@ -89,7 +56,7 @@ dimensions (x ∷ xs) (y ∷ ys) same few each =
     let rest : shape_over xs ≡ shape_over ys = cc in
     (record { name = each.0.name; few = subst (λ n. n ≤ 33554432) here few.0.few; index = each.0.index }, dimensions xs ys rest few.1 each.1)
 
-open_axes : (xs : List Axis) → AllByRecursion IsDimension xs → AllByRecursion IsOpenAxis xs
+pub open_axes : (xs : List Axis) → AllByRecursion IsDimension xs → AllByRecursion IsOpenAxis xs
 open_axes [] all = tt
 open_axes (x ∷ xs) all = (record { name = all.0.name; index = all.0.index }, open_axes xs all.1)
 

@@ -1,3 +1,4 @@
+pub mod Apart
 pub mod Behind
 pub mod Called
 pub mod Checked
@@ -8,15 +9,19 @@ pub mod Entering
 pub mod Fits
 pub mod Fitting
 pub mod Framed
+pub mod Free
 pub mod Held
 pub mod Items
+pub mod Keeping
 pub mod Kept
 pub mod Lists
 pub mod Names
 pub mod Same
+pub mod Sets
 pub mod Standing
 pub mod Stays
 pub mod Steps
 pub mod Undeclined
 pub mod Unlabelled
 pub mod Walked
+pub mod Within

@@ -12,7 +12,7 @@ use Rattle.xr_values.proofs.Named.{bytes_eq_swap}
 pub same_text : (a b : List ℕ) → bytes_eq a b ≡ true → a ≡ b
 same_text a b e = (bytes_eq-Decides a b).0 e
 
-false_or : (a b : Bool) → a ≡ false → b ≡ false → (a || b) ≡ false
+pub false_or : (a b : Bool) → a ≡ false → b ≡ false → (a || b) ≡ false
 false_or a b x y = rw (x, y) refl
 
 absent_end : (xs : List (List ℕ)) (n x : List ℕ) → among xs x ≡ false → bytes_eq x n ≡ false → among (xs ++ n ∷ []) x ≡ false

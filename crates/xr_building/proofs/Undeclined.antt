@@ -10,16 +10,18 @@ use Rattle.xr_types.specs.declared.fault.Fault.TheVariants.{BadArgument}
 use Rattle.xr_defs.specs.declared.node.Node.{Node}
 use Rattle.xr_defs.specs.Results.{◌>>=◌, unless, all_of}
 use Rattle.xr_defs.specs.Values as of
+use Rattle.xr_defs.specs.Selecting.{check_set}
 use Rattle.xr_defs.specs.Meanings.{Value as Value_of}
-use Rattle.xr_defs.specs.Building.{Frame, check_entry, check_place, check_numbers, with_entry, with_entries, entries_assigned, coords_assigned, assigned_to_array, frame_of_array}
+use Rattle.xr_defs.specs.Building.{Frame, check_entry, check_place, check_numbers, with_entry, with_entries, entries_assigned, coords_assigned, assigned_to_array, assigned_to_set, frame_of_array, variable_names}
 use Rattle.xr_values.specs.declared.data_array.DataArray.{DataArray}
+use Rattle.xr_values.specs.declared.dataset.Dataset.{Dataset}
 use Rattle.xr_values.specs.declared.value.Value.{Value}
 use Rattle.xr_values.specs.declared.value.Value.TheViews.{out-Value}
 use Rattle.xr_values.specs.declared.args.Args.{Args}
 use Rattle.xr_values.specs.Meaning.{meaning, with_key, given}
-use Rattle.xr_values.specs.Stands.{array_in}
-use Rattle.xr_building.specs.Entries.{refused, node_of, computed, entry_in, entries_in, frame_in, array_assigned, FollowsArray}
-use Rattle.xr_values.specs.Answers.{AnswersArray}
+use Rattle.xr_values.specs.Stands.{array_in, dataset_in}
+use Rattle.xr_building.specs.Entries.{refused, node_of, computed, entry_in, entries_in, frame_in, array_assigned, set_assigned, FollowsArray, FollowsSet}
+use Rattle.xr_values.specs.Answers.{AnswersArray, AnswersSet}
 
 -- a step of the definitions, and one of a call
 pub refused_then : {A B : Type 0} (r : Result A Fault) (f : A → Result B Fault) → refused (r >>= f) ≡ (refused r >>= λ a. refused (f a))
@@ -88,3 +90,29 @@ answers_array nodes (Err (Refused f)) told (Err e) is same = cc
 answers_array nodes (Err (Declined n)) told (Ok x) is same = absurd cc
 answers_array nodes (Err (Declined n)) told (Err e) is same = absurd cc
 answers_array nodes (Err NoMemory) told means is same = tt
+
+pub set_all : (declines : ℕ → Bool) (nodes : List Node) (s : Dataset) (args : Args) → ((n : ℕ) → declines n ≡ false) → set_assigned declines nodes s args ≡ refused (assigned_to_set (dataset_in nodes s) (given nodes args))
+unfolding set_assigned assigned_to_set
+set_all declines nodes s args none =
+    ap (λ r. r >>= λ f. Ok (with_frame f) >>= λ t. refused (check_set t) >>= λ u. Ok t) (frame_all declines none nodes (variable_names (dataset_in nodes s)) (record { axes = s.axes; coords = s.coords }) args)
+    ∙ by (coords_assigned (variable_names (dataset_in nodes s)) (record { axes = s.axes; coords = s.coords }) (given nodes args))
+  where
+    with_frame : Frame → of.Dataset
+    with_frame f = record (dataset_in nodes s) { axes = f.axes; coords = f.coords }
+
+    last : (t : of.Dataset) (r : Result (Unit {0}) Fault) → (refused r >>= λ u. Ok t) ≡ refused (r >>= λ u. Ok t)
+    last t (Ok u) = refl
+    last t (Err e) = refl
+
+    by : (r : Result Frame Fault) → (refused r >>= λ f. Ok (with_frame f) >>= λ t. refused (check_set t) >>= λ u. Ok t) ≡ refused (r >>= λ f. Ok (with_frame f) >>= λ t. check_set t >>= λ u. Ok t)
+    by (Ok f) = last (with_frame f) (check_set (with_frame f))
+    by (Err e) = refl
+
+pub answers_set : (nodes : List Node) (r : Result Dataset CallFault) (told : Result of.Dataset CallFault) (means : Result of.Dataset Fault) → FollowsSet nodes r told → told ≡ refused means → AnswersSet nodes r means
+answers_set nodes (Ok s) told (Ok x) is same = (let e = is.0 in cc, is.1)
+answers_set nodes (Ok s) told (Err e) is same = absurd (let f = is.0 in cc)
+answers_set nodes (Err (Refused f)) told (Ok x) is same = absurd cc
+answers_set nodes (Err (Refused f)) told (Err e) is same = cc
+answers_set nodes (Err (Declined n)) told (Ok x) is same = absurd cc
+answers_set nodes (Err (Declined n)) told (Err e) is same = absurd cc
+answers_set nodes (Err NoMemory) told means is same = tt

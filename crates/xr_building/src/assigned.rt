@@ -1,4 +1,4 @@
-//! `assign_coords(name=value)`: arrays and datasets with labels and coordinates of these names.
+//! `assign_coords(name=value)`: arrays with labels and coordinates of these names.
 ghost use Rattle.std.specs.Prelude.{◌≡◌, false, ℕ, List, IfOk};
 ghost use denote.Param.Send.{IsSync};
 ghost use Rattle.xr_defs.specs.declared.node.Node.{Node};
@@ -50,9 +50,12 @@ fn put_all<R: Threads + Sync, C: Compute>(
     Ok(draft)
 }
 
-// The axes and the coordinates that a call leaves.
+/// The axes and the coordinates that a call leaves, none of which has the name of one of these variables.
+///
+/// # Errors
+/// Those of an array, and `DuplicateName` in its turn for the name of a variable.
 #[tactic(auto, using(crate::proofs::Walked::frame_same))]
-fn assigned<R: Threads + Sync, C: Compute>(
+pub(crate) fn assigned<R: Threads + Sync, C: Compute>(
     rt: &R,
     alloc: Global,
     cx: &mut Cx<C>,

@@ -3,6 +3,7 @@
 
 mod aligned;
 mod assigned;
+mod assigned_sets;
 mod axes;
 mod bare;
 mod cells;
@@ -21,6 +22,7 @@ mod put;
 mod written;
 
 pub use assigned::assign_to_array;
+pub use assigned_sets::assign_to_set;
 pub use written::array_written_out;
 
 #[cfg(test)]

@@ -1,0 +1,89 @@
+//! `assign_coords(name=value)` of datasets.
+ghost use Rattle.std.specs.Prelude.{◌≡◌, ◌+◌, false, ℕ, List, length, nat_le, IfOk};
+ghost use denote.Param.Send.{IsSync};
+ghost use Rattle.xr_types.specs.declared.fault.Fault.TheVariants.{TooLarge};
+ghost use Rattle.xr_defs.specs.declared.node.Node.{Node};
+ghost use Rattle.xr_defs.specs.Building.{assigned_to_set};
+ghost use Rattle.xr_defs.specs.Limits.{most_variables};
+ghost use Rattle.xr_defs.specs.Results.{unless, Answers};
+ghost use Rattle.xr_values.specs.Answers.{AnswersSet};
+ghost use Rattle.xr_values.specs.Meaning.{given, AreArgsIn};
+ghost use Rattle.xr_values.specs.Stands.{dataset_in, IsDatasetIn};
+ghost use Rattle.xr_building.specs.Entries.{set_assigned, FollowsSet};
+
+use crate::assigned::assigned;
+use crate::draft::Draft;
+use plan_core::Compute;
+use std::alloc::{AllocError, Global};
+use std::thread::Threads;
+use xr_types::{CallFault, DeepCopy, Fault, MOST_VARIABLES};
+use xr_values::{Args, Cx, Dataset, copy_coords};
+
+fn draft_of(alloc: Global, set: &Dataset) -> Result<Draft, AllocError>
+    ensures axes { IfOk result (λ d. d.axes ≡ set.now.axes) }
+    ensures coords { IfOk result (λ d. d.coords ≡ set.now.coords) }
+{
+    Ok(Draft {
+        axes: set.axes.deep_copy(alloc)?,
+        coords: copy_coords(alloc, set.coords.as_slice())?,
+    })
+}
+
+// Refuses more coordinates and variables together than a dataset may have.
+#[tactic(auto, unfolding(xr_defs::specs::Results::unless))]
+fn check_few(draft: &Draft, set: &Dataset) -> Result<(), CallFault>
+    ensures { Answers (λ u. u) result (unless (nat_le (length draft.now.coords + length set.now.vars) most_variables) TooLarge) }
+{
+    let coords = draft.coords.as_slice().len();
+    if coords.saturating_add(set.vars.as_slice().len()) <= MOST_VARIABLES {
+        Ok(())
+    } else {
+        Err(CallFault::Refused(Fault::TooLarge))
+    }
+}
+
+fn set_with<R: Threads + Sync, C: Compute>(
+    rt: &R,
+    alloc: Global,
+    cx: &mut Cx<C>,
+    on: &Dataset,
+    args: &Args,
+) -> Result<Dataset, CallFault>
+    requires sync { IsSync R.row }
+    requires inside { IsDatasetIn cx.old.plan on.now }
+    requires given { AreArgsIn cx.old.plan args.now }
+    ensures told { FollowsSet cx.old.plan result (set_assigned (C.declines cx.old.compute cx.old.plan) cx.old.plan on.now args.now) }
+    ensures plan { cx.new.plan ≡ cx.old.plan }
+    ensures keeps { (nodes : List Node) (n : ℕ) → C.declines cx.new.compute nodes n ≡ C.declines cx.old.compute nodes n }
+{
+    let draft = draft_of(alloc, on)?;
+    let draft = assigned(rt, alloc, cx, on.vars.as_slice(), draft, args)?;
+    check_few(&draft, on)?;
+    let mut set = on.deep_copy(alloc)?;
+    set.axes = draft.axes;
+    set.coords = draft.coords;
+    Ok(set)
+}
+
+/// A dataset with these labels and coordinates, as an array has them.
+///
+/// # Errors
+/// Those of an array; `DuplicateName` in its turn for the name of a data variable; `TooLarge` at last for more coordinates
+/// and data variables together than a dataset may have.
+pub fn assign_to_set<R: Threads + Sync, C: Compute>(
+    rt: &R,
+    alloc: Global,
+    cx: &mut Cx<C>,
+    on: &Dataset,
+    args: &Args,
+) -> Result<Dataset, CallFault>
+    requires sync { IsSync R.row }
+    requires inside { IsDatasetIn cx.old.plan on.now }
+    requires given { AreArgsIn cx.old.plan args.now }
+    ensures told { FollowsSet cx.old.plan result (set_assigned (C.declines cx.old.compute cx.old.plan) cx.old.plan on.now args.now) }
+    ensures undeclined { ((n : ℕ) → C.declines cx.old.compute cx.old.plan n ≡ false) → AnswersSet cx.old.plan result (assigned_to_set (dataset_in cx.old.plan on.now) (given cx.old.plan args.now)) }
+    ensures plan { cx.new.plan ≡ cx.old.plan }
+    ensures keeps { (nodes : List Node) (n : ℕ) → C.declines cx.new.compute nodes n ≡ C.declines cx.old.compute nodes n }
+{
+    set_with(rt, alloc, cx, on, args)
+}
