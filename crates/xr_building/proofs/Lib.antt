@@ -21,6 +21,7 @@ pub mod Sets
 pub mod Standing
 pub mod Stays
 pub mod Steps
+pub mod TestValues
 pub mod Undeclined
 pub mod Unlabelled
 pub mod Walked
