@@ -13,6 +13,7 @@ use Rattle.xr_defs.specs.Results.{◌>>=◌}
 use Rattle.xr_defs.specs.Meanings as of
 use Rattle.xr_defs.specs.Values as values
 use Rattle.xr_values.specs.declared.data_array.DataArray.{DataArray}
+use Rattle.xr_values.specs.declared.dataset.Dataset.{Dataset}
 use Rattle.xr_values.specs.declared.value.Value.{Value}
 use Rattle.xr_values.specs.declared.value.Value.TheVariants as variants
 use Rattle.xr_values.specs.declared.value.Value.TheOpen as held
@@ -21,13 +22,13 @@ use Rattle.xr_values.specs.declared.value.Value.TheViews.{out-Value, roll-Value,
 use Rattle.xr_values.specs.declared.args.Args.{Args}
 use Rattle.xr_values.specs.Meaning.{meaning, layer, given, IsValueIn}
 use Rattle.xr_values.proofs.Meaning.{meaning_out}
-use Rattle.xr_defs.specs.Building.{assigned_to_array}
-use Rattle.xr_defs.specs.Calls.{method_called, of_array, uncomputed_method}
+use Rattle.xr_defs.specs.Building.{assigned_to_array, assigned_to_set}
+use Rattle.xr_defs.specs.Calls.{method_called, of_both, uncomputed_method}
 use Rattle.plan_core.specs.Plans.{Grows}
 use Rattle.plan_core.proofs.Plans.{grows_by_none}
-use Rattle.xr_values.specs.Stands.{array_in}
-use Rattle.xr_building.specs.Entries.{array_assigned, refused, FollowsArray}
-use Rattle.dataset_core.specs.Answers.{AnswersValue, array_told}
+use Rattle.xr_values.specs.Stands.{array_in, dataset_in}
+use Rattle.xr_building.specs.Entries.{array_assigned, set_assigned, refused, FollowsArray, FollowsSet}
+use Rattle.dataset_core.specs.Answers.{AnswersValue}
 use Rattle.dataset_core.specs.Assigned.{coords_of_layer, coords_told, method_told, FollowsValue}
 
 module _ (declines : ℕ → Bool) (nodes : List Node) (args : Args) (v : Value) where
@@ -57,21 +58,43 @@ module _ (declines : ℕ → Bool) (nodes : List Node) (args : Args) (v : Value)
         by (Declined n) is = coords_fail (Declined n) is
         by NoMemory is = tt
 
-  other_layer : (x : Value-F Value) → ((a : Rc DataArray Global) → x ≡ held.Array a → ⊥) → coords_of_layer declines nodes args x ≡ Err (Refused WrongKind)
-  other_layer held.Absent not_array = refl
-  other_layer held.Missing not_array = refl
-  other_layer (held.Truth b) not_array = refl
-  other_layer (held.Number n) not_array = refl
-  other_layer (held.Text t) not_array = refl
-  other_layer (held.List vs) not_array = refl
-  other_layer (held.Table es) not_array = refl
-  other_layer (held.Slice start stop step) not_array = refl
-  other_layer (held.Array a) not_array = absurd (not_array a refl)
-  other_layer (held.Set s) not_array = refl
+  coords_of_set : (s : Rc Dataset Global) → v ≡ variants.Set s → coords_told declines nodes v args ≡ (set_assigned declines nodes s.value args >>= λ t. Ok (of.Set t))
+  unfolding roll-Value denote.Hole.Carrier.roll
+  coords_of_set s is = by_layer (held.Set s) is
 
-  pub coords_of_others : ((a : Rc DataArray Global) → v ≡ variants.Array a → ⊥) → coords_told declines nodes v args ≡ Err (Refused WrongKind)
+  module _ (s : Rc Dataset Global) (x : Dataset) (is : v ≡ variants.Set s) (same : x ≡ s.value) where
+    on_set : coords_told declines nodes v args ≡ (set_assigned declines nodes x args >>= λ t. Ok (of.Set t))
+    on_set = coords_of_set s is ∙ ap (λ (y : Dataset). set_assigned declines nodes y args >>= λ t. Ok (of.Set t)) (sym same)
+
+    pub set_coords_given : (t : values.Dataset) (r : of.Value) → set_assigned declines nodes x args ≡ Ok t → r ≡ of.Set t → coords_told declines nodes v args ≡ Ok r
+    set_coords_given t r told means = on_set ∙ ap (λ o. o >>= λ t. Ok (of.Set t)) told ∙ ap Ok (sym means)
+
+    set_coords_fail : (e : CallFault) → set_assigned declines nodes x args ≡ Err e → coords_told declines nodes v args ≡ Err e
+    set_coords_fail e told = on_set ∙ ap (λ o. o >>= λ t. Ok (of.Set t)) told
+
+    pub set_follow_fault : (e : CallFault) (r : Result Value CallFault) → r ≡ Err e → FollowsSet nodes (Err e) (set_assigned declines nodes x args) → FollowsValue nodes r (coords_told declines nodes v args)
+    set_follow_fault e r here told = subst (λ q. FollowsValue nodes q (coords_told declines nodes v args)) (sym here) (by e told)
+      where
+        by : (e : CallFault) → FollowsSet nodes (Err e) (set_assigned declines nodes x args) → FollowsValue nodes (Err e) (coords_told declines nodes v args)
+        by (Refused f) is = set_coords_fail (Refused f) is
+        by (Declined n) is = set_coords_fail (Declined n) is
+        by NoMemory is = tt
+
+  other_layer : (x : Value-F Value) → ((a : Rc DataArray Global) → x ≡ held.Array a → ⊥) → ((s : Rc Dataset Global) → x ≡ held.Set s → ⊥) → coords_of_layer declines nodes args x ≡ Err (Refused WrongKind)
+  other_layer held.Absent not_array not_set = refl
+  other_layer held.Missing not_array not_set = refl
+  other_layer (held.Truth b) not_array not_set = refl
+  other_layer (held.Number n) not_array not_set = refl
+  other_layer (held.Text t) not_array not_set = refl
+  other_layer (held.List vs) not_array not_set = refl
+  other_layer (held.Table es) not_array not_set = refl
+  other_layer (held.Slice start stop step) not_array not_set = refl
+  other_layer (held.Array a) not_array not_set = absurd (not_array a refl)
+  other_layer (held.Set s) not_array not_set = absurd (not_set s refl)
+
+  pub coords_of_others : ((a : Rc DataArray Global) → v ≡ variants.Array a → ⊥) → ((s : Rc Dataset Global) → v ≡ variants.Set s → ⊥) → coords_told declines nodes v args ≡ Err (Refused WrongKind)
   unfolding coords_told roll-Value denote.Hole.Carrier.roll
-  coords_of_others not_array = other_layer (out-Value v) (λ a e. not_array a (sym (roll-out-Value v) ∙ ap (λ y. roll-Value y) e))
+  coords_of_others not_array not_set = other_layer (out-Value v) (λ a e. not_array a (sym (roll-out-Value v) ∙ ap (λ y. roll-Value y) e)) (λ s e. not_set s (sym (roll-out-Value v) ∙ ap (λ y. roll-Value y) e))
 
 -- a call that computes nothing
 pub follows_value : (nodes : List Node) (r : Result Value CallFault) (means : Result of.Value Fault) → AnswersValue nodes r means → FollowsValue nodes r (refused means)
@@ -95,16 +118,16 @@ module _ (declines : ℕ → Bool) (nodes new : List Node) (v : Value) (name : L
       subst (FollowsValue new r) (sym (ap (λ b. if b then coords_told declines nodes v args else refused (uncomputed_method (meaning nodes v) name (given nodes args))) other))
       (follows_value new r (uncomputed_method (meaning nodes v) name (given nodes args)) answers)
 
-  pub assigned_means : bytes_eq name (codes "assign_coords") ≡ true → new ≡ nodes → AnswersValue nodes r (of_array (λ a. array_told (assigned_to_array a (given nodes args))) (meaning nodes v)) → AnswersValue new r (method_called (meaning nodes v) name (given nodes args))
+  pub assigned_means : bytes_eq name (codes "assign_coords") ≡ true → new ≡ nodes → AnswersValue nodes r (of_both (λ a. assigned_to_array a (given nodes args)) (λ s. assigned_to_set s (given nodes args)) (meaning nodes v)) → AnswersValue new r (method_called (meaning nodes v) name (given nodes args))
   unfolding method_called
   assigned_means called same told =
       subst (λ ns. AnswersValue ns r (method_called (meaning nodes v) name (given nodes args))) (sym same)
-      (subst (AnswersValue nodes r) (sym (ap (λ b. if b then of_array (λ a. array_told (assigned_to_array a (given nodes args))) (meaning nodes v) else uncomputed_method (meaning nodes v) name (given nodes args)) called)) told)
+      (subst (AnswersValue nodes r) (sym (ap (λ b. if b then of_both (λ a. assigned_to_array a (given nodes args)) (λ s. assigned_to_set s (given nodes args)) (meaning nodes v) else uncomputed_method (meaning nodes v) name (given nodes args)) called)) told)
 
   pub others_mean : bytes_eq name (codes "assign_coords") ≡ false → AnswersValue new r (uncomputed_method (meaning nodes v) name (given nodes args)) → AnswersValue new r (method_called (meaning nodes v) name (given nodes args))
   unfolding method_called
   others_mean other told =
-      subst (AnswersValue new r) (sym (ap (λ b. if b then of_array (λ a. array_told (assigned_to_array a (given nodes args))) (meaning nodes v) else uncomputed_method (meaning nodes v) name (given nodes args)) other)) told
+      subst (AnswersValue new r) (sym (ap (λ b. if b then of_both (λ a. assigned_to_array a (given nodes args)) (λ s. assigned_to_set s (given nodes args)) (meaning nodes v) else uncomputed_method (meaning nodes v) name (given nodes args)) other)) told
 
 pub inside_told : (nodes new : List Node) (r : Result Value CallFault) (told : Result of.Value CallFault) → new ≡ nodes → FollowsValue nodes r told → IfOk r (IsValueIn new)
 inside_told nodes new (Ok v) told same is = subst (λ ns. IsValueIn ns v) (sym same) is.1
@@ -113,19 +136,20 @@ inside_told nodes new (Err e) told same is = tt
 pub grows_none : (nodes new : List Node) → new ≡ nodes → Grows nodes new
 grows_none nodes new same = subst (λ ns. Grows nodes ns) (sym same) (grows_by_none nodes)
 
--- a receiver that is no array
-pub other_receiver : (nodes : List Node) (v : Value) (f : values.DataArray → Result of.Value Fault) → ((a : Rc DataArray Global) → v ≡ variants.Array a → ⊥) → of_array f (meaning nodes v) ≡ Err WrongKind
-unfolding of_array roll-Value denote.Hole.Carrier.roll
-other_receiver nodes v f not_array = ap (of_array f) (meaning_out nodes v) ∙ by (out-Value v) (λ a e. not_array a (sym (roll-out-Value v) ∙ ap (λ y. roll-Value y) e))
+-- a receiver that is neither an array nor a dataset
+pub other_receiver : (nodes : List Node) (v : Value) (f : values.DataArray → Result values.DataArray Fault) (h : values.Dataset → Result values.Dataset Fault) → ((a : Rc DataArray Global) → v ≡ variants.Array a → ⊥) → ((s : Rc Dataset Global) → v ≡ variants.Set s → ⊥)
+    → of_both f h (meaning nodes v) ≡ Err WrongKind
+unfolding of_both roll-Value denote.Hole.Carrier.roll
+other_receiver nodes v f h not_array not_set = ap (of_both f h) (meaning_out nodes v) ∙ by (out-Value v) (λ a e. not_array a (sym (roll-out-Value v) ∙ ap (λ y. roll-Value y) e)) (λ s e. not_set s (sym (roll-out-Value v) ∙ ap (λ y. roll-Value y) e))
   where
-    by : (x : Value-F Value) → ((a : Rc DataArray Global) → x ≡ held.Array a → ⊥) → of_array f (layer nodes x) ≡ Err WrongKind
-    by held.Absent other = refl
-    by held.Missing other = refl
-    by (held.Truth b) other = refl
-    by (held.Number n) other = refl
-    by (held.Text t) other = refl
-    by (held.List vs) other = refl
-    by (held.Table es) other = refl
-    by (held.Slice start stop step) other = refl
-    by (held.Array a) other = absurd (other a refl)
-    by (held.Set s) other = refl
+    by : (x : Value-F Value) → ((a : Rc DataArray Global) → x ≡ held.Array a → ⊥) → ((s : Rc Dataset Global) → x ≡ held.Set s → ⊥) → of_both f h (layer nodes x) ≡ Err WrongKind
+    by held.Absent other neither = refl
+    by held.Missing other neither = refl
+    by (held.Truth b) other neither = refl
+    by (held.Number n) other neither = refl
+    by (held.Text t) other neither = refl
+    by (held.List vs) other neither = refl
+    by (held.Table es) other neither = refl
+    by (held.Slice start stop step) other neither = refl
+    by (held.Array a) other neither = absurd (other a refl)
+    by (held.Set s) other neither = absurd (neither s refl)

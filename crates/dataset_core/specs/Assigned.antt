@@ -15,11 +15,12 @@ use Rattle.xr_values.specs.declared.value.Value.TheOpen.{Value-F}
 use Rattle.xr_values.specs.declared.value.Value.TheViews.{out-Value}
 use Rattle.xr_values.specs.declared.args.Args.{Args}
 use Rattle.xr_values.specs.Meaning.{meaning, given, IsValueIn}
-use Rattle.xr_building.specs.Entries.{array_assigned, refused}
+use Rattle.xr_building.specs.Entries.{array_assigned, set_assigned, refused}
 
 -- by the outermost layer of the receiver
 abbrev pub coords_of_layer : (ℕ → Bool) → List Node → Args → Value-F Value → Result of.Value CallFault
 coords_of_layer declines nodes args (held.Array a) = array_assigned declines nodes a.value args >>= λ b. Ok (of.Array b)
+coords_of_layer declines nodes args (held.Set s) = set_assigned declines nodes s.value args >>= λ t. Ok (of.Set t)
 coords_of_layer declines nodes args v = Err (Refused WrongKind)
 
 unfoldable pub coords_told : (ℕ → Bool) → List Node → Value → Args → Result of.Value CallFault

@@ -2,22 +2,22 @@
 ghost use Rattle.std.specs.Prelude.{◌≡◌, ℕ, List, Ok, false};
 ghost use denote.Param.Send.{IsSync};
 ghost use Rattle.xr_defs.specs.declared.node.Node.{Node};
-ghost use Rattle.xr_defs.specs.Building.{assigned_to_array};
-ghost use Rattle.xr_defs.specs.Calls.{of_array};
+ghost use Rattle.xr_defs.specs.Building.{assigned_to_array, assigned_to_set};
+ghost use Rattle.xr_defs.specs.Calls.{of_both};
 ghost use Rattle.xr_values.specs.Meaning.{meaning, given, IsValueIn, AreArgsIn};
-ghost use Rattle.dataset_core.specs.Answers.{AnswersValue, array_told};
+ghost use Rattle.dataset_core.specs.Answers.{AnswersValue};
 ghost use Rattle.dataset_core.specs.Assigned.{coords_told, FollowsValue};
 
-use crate::held::array_value;
+use crate::held::{array_value, set_value};
 use plan_core::Compute;
 use std::alloc::Global;
 use std::thread::Threads;
-use xr_building::assign_to_array;
+use xr_building::{assign_to_array, assign_to_set};
 use xr_types::{CallFault, Fault};
 use xr_values::{Args, Cx, Value};
 
-/// `assign_coords(name=value)` of arrays.
-#[tactic(auto, using(xr_arguments::proofs::Variants::is_array, xr_arguments::proofs::Inside::held_array, xr_values::proofs::Meaning::meaning_out), unfolding(xr_defs::specs::Calls::of_array))]
+/// `assign_coords(name=value)` of arrays and datasets.
+#[tactic(auto, using(xr_arguments::proofs::Variants::is_array, xr_arguments::proofs::Variants::is_set, xr_arguments::proofs::Inside::held_array, xr_arguments::proofs::Inside::held_set, xr_values::proofs::Meaning::meaning_out), unfolding(xr_defs::specs::Calls::of_both))]
 pub(crate) fn assign_coords<R: Threads + Sync, C: Compute>(
     rt: &R,
     alloc: Global,
@@ -29,7 +29,7 @@ pub(crate) fn assign_coords<R: Threads + Sync, C: Compute>(
     requires inside { IsValueIn cx.old.plan on.now }
     requires given { AreArgsIn cx.old.plan args.now }
     ensures told { FollowsValue cx.old.plan result (coords_told (C.declines cx.old.compute cx.old.plan) cx.old.plan on.now args.now) }
-    ensures undeclined { ((n : ℕ) → C.declines cx.old.compute cx.old.plan n ≡ false) → AnswersValue cx.old.plan result (of_array (λ a. array_told (assigned_to_array a (given cx.old.plan args.now))) (meaning cx.old.plan on.now)) }
+    ensures undeclined { ((n : ℕ) → C.declines cx.old.compute cx.old.plan n ≡ false) → AnswersValue cx.old.plan result (of_both (λ a. assigned_to_array a (given cx.old.plan args.now)) (λ s. assigned_to_set s (given cx.old.plan args.now)) (meaning cx.old.plan on.now)) }
     ensures plan { cx.new.plan ≡ cx.old.plan }
     ensures keeps { (nodes : List Node) (n : ℕ) → C.declines cx.new.compute nodes n ≡ C.declines cx.old.compute nodes n }
 {
@@ -37,6 +37,10 @@ pub(crate) fn assign_coords<R: Threads + Sync, C: Compute>(
         Value::Array(array) => {
             let answer = assign_to_array(rt, alloc, cx, array, args)?;
             Ok(array_value(alloc, answer)?)
+        }
+        Value::Set(set) => {
+            let answer = assign_to_set(rt, alloc, cx, set, args)?;
+            Ok(set_value(alloc, answer)?)
         }
         _ => Err(CallFault::Refused(Fault::WrongKind)),
     }

@@ -95,8 +95,8 @@ fn uncomputed_method(
     }
 }
 
-/// The value of a call of a method: `isel`, `drop_vars` and `assign_attrs` of arrays and datasets, and
-/// `transpose`, `assign_coords`, `rename`, `to_dataset` and `sum` of arrays.
+/// The value of a call of a method: `isel`, `drop_vars`, `assign_coords` and `assign_attrs` of arrays and datasets, and
+/// `transpose`, `rename`, `to_dataset` and `sum` of arrays.
 ///
 /// # Errors
 /// `UnknownName` for any other method, but `WouldPromote` for those of arrays and datasets whose answers aren't whole

@@ -19,7 +19,7 @@ use Rattle.xr_defs.specs.Encoding.{file_of}
 use Rattle.xr_defs.specs.Printing.{array_text, set_text}
 use Rattle.xr_defs.specs.Selecting.{isel_array, isel_set}
 use Rattle.xr_defs.specs.Parts.{picked_of_set, picked_of_array, renamed, to_dataset, own_name, as_set, attrs_assigned, transposed, dropped_of_array, dropped_of_set}
-use Rattle.xr_defs.specs.Building.{bound, argument, option, required, parameters, data_array, assigned_to_array}
+use Rattle.xr_defs.specs.Building.{bound, argument, option, required, parameters, data_array, assigned_to_array, assigned_to_set}
 use Rattle.xr_defs.specs.Meanings.{Value, Truth, Number, Text, Array, Set, Given}
 use Rattle.xr_defs.specs.Arguments.{wrong, unfit, as_text, slice_given, nothing_given}
 
@@ -120,10 +120,10 @@ uncomputed_method v name g =
     else if bytes_eq name (codes "sum") then of_array (sum_called g) v
     else other_method v name
 
--- coordinates are assigned to arrays alone so far
+-- those, and the one that computes the arrays that become coordinates
 unfoldable pub method_called : Value → List ℕ → Given → Result Value Fault
 method_called v name g =
-    if bytes_eq name (codes "assign_coords") then of_array (λ a. assigned_to_array a g >>= λ b. Ok (Array b)) v else uncomputed_method v name g
+    if bytes_eq name (codes "assign_coords") then of_both (λ a. assigned_to_array a g) (λ s. assigned_to_set s g) v else uncomputed_method v name g
 
 -- ---- to_netcdf(name, format="NETCDF3_CLASSIC", fill_value?, unlimited_dims?)
 
