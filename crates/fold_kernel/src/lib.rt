@@ -5,14 +5,10 @@ mod find;
 mod found;
 mod gather;
 mod line;
-#[cfg(test)]
-mod line_tests;
 mod partial;
 mod row;
 mod run;
 mod running;
-#[cfg(test)]
-mod tests;
 mod zeros;
 
 pub use line::scan;

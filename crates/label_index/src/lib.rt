@@ -13,6 +13,3 @@ mod scan;
 mod search;
 
 pub use index::Index;
-
-#[cfg(test)]
-mod tests;

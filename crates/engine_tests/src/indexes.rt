@@ -1,7 +1,8 @@
+//! Labels found on an axis: by themselves, near them, and between two ends.
 ghost use Rattle.std.specs.Prelude.{◌≡◌, ◌≤◌, IfOk, length};
 ghost use Rattle.xr_defs.specs.Labels.{IsLabelled};
 
-use crate::index::Index;
+use label_index::Index;
 use std::alloc::{AllocError, Global};
 use std::test::Fail;
 use xr_defs::{Direction, Near, Span};

@@ -4,8 +4,7 @@ ghost use Rattle.xr_types.specs.declared.kind.DType.TheVariants.{Int8, Int64};
 ghost use Rattle.strided_block.specs.Typed.{block_kind, win_kind};
 ghost use Rattle.strided_block.specs.Views.{IsWhole};
 
-use crate::line::scan;
-use crate::partial::Partial;
+use fold_kernel::{Partial, scan};
 use std::alloc::Global;
 use std::process::Abort;
 use std::test::Fail;

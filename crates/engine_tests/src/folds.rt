@@ -1,8 +1,7 @@
 //! Folds at each kind against NumPy's.
 ghost use Rattle.std.specs.Prelude.{◌≡◌, ◌≤◌, ◌^◌, length};
 
-use crate::partial::Partial;
-use crate::running::{scan_masked, scan_run};
+use fold_kernel::{Partial, scan_masked, scan_run};
 use std::process::Abort;
 use xr_defs::FoldKind;
 use xr_types::{DType, Elem};

@@ -1,0 +1,9 @@
+//! Tests of the engine's crates, a module for each file of tests. They stand above those crates, since a crate that has tests is proved twice.
+#![tactic(auto)]
+
+#[cfg(test)]
+mod folds;
+#[cfg(test)]
+mod indexes;
+#[cfg(test)]
+mod running_lines;
