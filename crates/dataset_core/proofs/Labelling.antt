@@ -29,7 +29,7 @@ use Rattle.plan_core.proofs.Plans.{grows_by_none}
 use Rattle.xr_values.specs.Stands.{array_in, dataset_in}
 use Rattle.xr_building.specs.Entries.{array_assigned, set_assigned, refused, FollowsArray, FollowsSet}
 use Rattle.dataset_core.specs.Answers.{AnswersValue}
-use Rattle.dataset_core.specs.Assigned.{coords_of_layer, coords_told, method_told, FollowsValue}
+use Rattle.dataset_core.specs.Assigned.{array_followed, coords_of_layer, coords_told, method_told, FollowsValue}
 
 module _ (declines : ℕ → Bool) (nodes : List Node) (args : Args) (v : Value) where
   by_layer : (x : Value-F Value) → v ≡ roll-Value x → coords_told declines nodes v args ≡ coords_of_layer declines nodes args x
@@ -102,6 +102,15 @@ follows_value nodes (Ok v) means is = (ap refused is.0, is.1)
 follows_value nodes (Err (Refused f)) means is = ap refused is
 follows_value nodes (Err (Declined n)) means is = absurd is
 follows_value nodes (Err NoMemory) means is = tt
+
+-- an array that isn't there
+pub array_fault : (nodes : List Node) (r : Result Value CallFault) (e : CallFault) (told : Result values.DataArray CallFault) → r ≡ Err e → FollowsArray nodes (Err e) told → FollowsValue nodes r (array_followed told)
+array_fault nodes r e told here is = subst (λ s. FollowsValue nodes s (array_followed told)) (sym here) (by e is)
+  where
+    by : (e : CallFault) → FollowsArray nodes (Err e) told → FollowsValue nodes (Err e) (array_followed told)
+    by (Refused f) is = ap array_followed is
+    by (Declined n) is = ap array_followed is
+    by NoMemory is = tt
 
 -- ---- a call of a method
 

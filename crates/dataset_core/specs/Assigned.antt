@@ -1,13 +1,16 @@
--- What methods answer where nodes may be declined: `assign_coords` computes the arrays that become coordinates, the others compute
--- nothing.
+-- What functions and methods answer where nodes may be declined: `DataArray` and `assign_coords` compute the arrays that become
+-- coordinates, the others compute nothing.
 use Rattle.std.specs.Prelude.{◌≡◌, ℕ, Bool, List, Result, Ok, Err, ⊤, if◌then◌else◌, codes}
 use Rattle.std.specs.Str.{bytes_eq}
-use Rattle.xr_types.specs.declared.fault.Fault.TheVariants.{WrongKind}
+use Rattle.xr_types.specs.declared.fault.Fault.{Fault}
+use Rattle.xr_types.specs.declared.fault.Fault.TheVariants.{UnknownName, WrongKind}
 use Rattle.xr_types.specs.declared.fault.CallFault.{CallFault}
 use Rattle.xr_types.specs.declared.fault.CallFault.TheVariants.{Refused, Declined, NoMemory}
 use Rattle.xr_defs.specs.declared.node.Node.{Node}
 use Rattle.xr_defs.specs.Results.{◌>>=◌}
+use Rattle.xr_defs.specs.Arguments.{slice_given}
 use Rattle.xr_defs.specs.Meanings as of
+use Rattle.xr_defs.specs.Values as values
 use Rattle.xr_defs.specs.Calls.{uncomputed_method}
 use Rattle.xr_values.specs.declared.value.Value.{Value}
 use Rattle.xr_values.specs.declared.value.Value.TheOpen as held
@@ -16,6 +19,7 @@ use Rattle.xr_values.specs.declared.value.Value.TheViews.{out-Value}
 use Rattle.xr_values.specs.declared.args.Args.{Args}
 use Rattle.xr_values.specs.Meaning.{meaning, given, IsValueIn}
 use Rattle.xr_building.specs.Entries.{array_assigned, set_assigned, refused}
+use Rattle.xr_building.specs.Written.{array_written}
 
 -- by the outermost layer of the receiver
 abbrev pub coords_of_layer : (ℕ → Bool) → List Node → Args → Value-F Value → Result of.Value CallFault
@@ -30,6 +34,18 @@ coords_told declines nodes v args = coords_of_layer declines nodes args (out-Val
 unfoldable pub method_told : (ℕ → Bool) → List Node → Value → List ℕ → Args → Result of.Value CallFault
 method_told declines nodes v name args =
     if bytes_eq name (codes "assign_coords") then coords_told declines nodes v args else refused (uncomputed_method (meaning nodes v) name (given nodes args))
+
+-- an array that is told, as a value
+abbrev pub array_followed : Result values.DataArray CallFault → Result of.Value CallFault
+array_followed r = r >>= λ a. Ok (of.Array a)
+
+-- a function other than `DataArray`, which computes nothing
+abbrev pub other_function : List ℕ → of.Given → Result of.Value Fault
+other_function name g = if bytes_eq name (codes "slice") then slice_given g else Err (UnknownName name)
+
+unfoldable pub function_told : (ℕ → Bool) → List Node → List ℕ → Args → Result of.Value CallFault
+function_told declines nodes name args =
+    if bytes_eq name (codes "DataArray") then array_followed (array_written declines nodes args) else refused (other_function name (given nodes args))
 
 -- a call answers what is told, unless memory runs out
 abbrev pub FollowsValue : List Node → Result Value CallFault → Result of.Value CallFault → Type 0

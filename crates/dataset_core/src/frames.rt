@@ -1,9 +1,13 @@
 //! The methods that compute no cells.
+ghost use Rattle.std.specs.Prelude.{◌≡◌, ◌++◌, true, IfOk};
+ghost use Rattle.xr_defs.specs.Canonical.{are_distinct};
+ghost use Rattle.xr_defs.specs.Room.{portions, room, AddsAtMost};
 ghost use Rattle.xr_defs.specs.Calls.{of_array, of_both, array_with_attrs as described_array, set_with_attrs as described_set, sum_called as summed};
 ghost use Rattle.xr_defs.specs.Parts.{dropped_of_array as left_of_array, dropped_of_set as left_of_set, renamed as named, to_dataset as as_dataset, transposed as reordered};
 ghost use Rattle.xr_defs.specs.Selecting.{isel_array as selected_array, isel_set as selected_set};
 ghost use Rattle.plan_core.specs.Plans.{Grows};
 ghost use Rattle.xr_values.specs.Meaning.{meaning, given, IsValueIn};
+ghost use Rattle.xr_indexing.specs.Taken.{keywords};
 ghost use Rattle.dataset_core.specs.Answers.{AnswersValue, array_told, set_told};
 
 use crate::held::{array_value, set_value};
@@ -18,7 +22,7 @@ use xr_types::{CallFault, Fault};
 use xr_values::{Args, Value};
 
 /// `isel(x=..)`.
-#[tactic(auto, using(plan_core::proofs::Plans::grows_by_none, xr_arguments::proofs::Variants::is_array, xr_arguments::proofs::Variants::is_set, xr_arguments::proofs::Inside::held_array, xr_arguments::proofs::Inside::held_set, xr_values::proofs::Meaning::meaning_out), unfolding(xr_defs::specs::Calls::of_both))]
+#[tactic(auto, using(plan_core::proofs::Plans::grows_by_none, plan_core::proofs::Added::adds_none, xr_arguments::proofs::Variants::is_array, xr_arguments::proofs::Variants::is_set, xr_arguments::proofs::Inside::held_array, xr_arguments::proofs::Inside::held_set, xr_values::proofs::Meaning::meaning_out), unfolding(xr_defs::specs::Calls::of_both))]
 pub(crate) fn isel(
     alloc: Global,
     plan: &mut Plan,
@@ -28,6 +32,7 @@ pub(crate) fn isel(
     requires { IsValueIn plan.old on.now }
     ensures answers { AnswersValue plan.new result (of_both (λ a. selected_array a (given plan.old args.now)) (λ s. selected_set s (given plan.old args.now)) (meaning plan.old on.now)) }
     ensures grows { Grows plan.old plan.new }
+    ensures room { are_distinct (keywords args.now) ≡ true → IfOk result (λ v. AddsAtMost plan.old plan.new (room (portions (meaning plan.old on.now) ++ portions (meaning plan.new v)))) }
 {
     match on {
         Value::Array(array) => {
@@ -43,7 +48,7 @@ pub(crate) fn isel(
 }
 
 /// `transpose(d1, d2)`.
-#[tactic(auto, using(plan_core::proofs::Plans::grows_by_none, xr_arguments::proofs::Variants::is_array, xr_arguments::proofs::Variants::is_set, xr_arguments::proofs::Inside::held_array, xr_arguments::proofs::Inside::held_set, xr_values::proofs::Meaning::meaning_out), unfolding(xr_defs::specs::Calls::of_array))]
+#[tactic(auto, using(plan_core::proofs::Plans::grows_by_none, plan_core::proofs::Added::adds_none, xr_arguments::proofs::Variants::is_array, xr_arguments::proofs::Variants::is_set, xr_arguments::proofs::Inside::held_array, xr_arguments::proofs::Inside::held_set, xr_values::proofs::Meaning::meaning_out), unfolding(xr_defs::specs::Calls::of_array))]
 pub(crate) fn transpose(
     alloc: Global,
     plan: &mut Plan,
@@ -53,6 +58,7 @@ pub(crate) fn transpose(
     requires { IsValueIn plan.old on.now }
     ensures answers { AnswersValue plan.new result (of_array (λ a. array_told (reordered a (given plan.old args.now))) (meaning plan.old on.now)) }
     ensures grows { Grows plan.old plan.new }
+    ensures room { IfOk result (λ v. AddsAtMost plan.old plan.new (room (portions (meaning plan.old on.now) ++ portions (meaning plan.new v)))) }
 {
     match on {
         Value::Array(array) => {
@@ -64,7 +70,7 @@ pub(crate) fn transpose(
 }
 
 /// `drop_vars(name)`.
-#[tactic(auto, using(plan_core::proofs::Plans::grows_by_none, xr_arguments::proofs::Variants::is_array, xr_arguments::proofs::Variants::is_set, xr_arguments::proofs::Inside::held_array, xr_arguments::proofs::Inside::held_set, xr_values::proofs::Meaning::meaning_out), unfolding(xr_defs::specs::Calls::of_both))]
+#[tactic(auto, using(plan_core::proofs::Plans::grows_by_none, plan_core::proofs::Added::adds_none, xr_arguments::proofs::Variants::is_array, xr_arguments::proofs::Variants::is_set, xr_arguments::proofs::Inside::held_array, xr_arguments::proofs::Inside::held_set, xr_values::proofs::Meaning::meaning_out), unfolding(xr_defs::specs::Calls::of_both))]
 pub(crate) fn drop_vars(
     alloc: Global,
     plan: &mut Plan,
@@ -74,6 +80,7 @@ pub(crate) fn drop_vars(
     requires { IsValueIn plan.old on.now }
     ensures answers { AnswersValue plan.new result (of_both (λ a. left_of_array a (given plan.old args.now)) (λ s. left_of_set s (given plan.old args.now)) (meaning plan.old on.now)) }
     ensures grows { Grows plan.old plan.new }
+    ensures room { IfOk result (λ v. AddsAtMost plan.old plan.new (room (portions (meaning plan.old on.now) ++ portions (meaning plan.new v)))) }
 {
     match on {
         Value::Array(array) => {
@@ -89,7 +96,7 @@ pub(crate) fn drop_vars(
 }
 
 /// `assign_attrs(name=value)`.
-#[tactic(auto, using(plan_core::proofs::Plans::grows_by_none, xr_arguments::proofs::Variants::is_array, xr_arguments::proofs::Variants::is_set, xr_arguments::proofs::Inside::held_array, xr_arguments::proofs::Inside::held_set, xr_values::proofs::Meaning::meaning_out), unfolding(xr_defs::specs::Calls::of_both))]
+#[tactic(auto, using(plan_core::proofs::Plans::grows_by_none, plan_core::proofs::Added::adds_none, xr_arguments::proofs::Variants::is_array, xr_arguments::proofs::Variants::is_set, xr_arguments::proofs::Inside::held_array, xr_arguments::proofs::Inside::held_set, xr_values::proofs::Meaning::meaning_out), unfolding(xr_defs::specs::Calls::of_both))]
 pub(crate) fn assign_attrs(
     alloc: Global,
     plan: &mut Plan,
@@ -99,6 +106,7 @@ pub(crate) fn assign_attrs(
     requires { IsValueIn plan.old on.now }
     ensures answers { AnswersValue plan.new result (of_both (described_array (given plan.old args.now)) (described_set (given plan.old args.now)) (meaning plan.old on.now)) }
     ensures grows { Grows plan.old plan.new }
+    ensures room { IfOk result (λ v. AddsAtMost plan.old plan.new (room (portions (meaning plan.old on.now) ++ portions (meaning plan.new v)))) }
 {
     match on {
         Value::Array(array) => {
@@ -114,7 +122,7 @@ pub(crate) fn assign_attrs(
 }
 
 /// `rename(name)`.
-#[tactic(auto, using(plan_core::proofs::Plans::grows_by_none, xr_arguments::proofs::Variants::is_array, xr_arguments::proofs::Variants::is_set, xr_arguments::proofs::Inside::held_array, xr_arguments::proofs::Inside::held_set, xr_values::proofs::Meaning::meaning_out), unfolding(xr_defs::specs::Calls::of_array))]
+#[tactic(auto, using(plan_core::proofs::Plans::grows_by_none, plan_core::proofs::Added::adds_none, xr_arguments::proofs::Variants::is_array, xr_arguments::proofs::Variants::is_set, xr_arguments::proofs::Inside::held_array, xr_arguments::proofs::Inside::held_set, xr_values::proofs::Meaning::meaning_out), unfolding(xr_defs::specs::Calls::of_array))]
 pub(crate) fn rename(
     alloc: Global,
     plan: &mut Plan,
@@ -124,6 +132,7 @@ pub(crate) fn rename(
     requires { IsValueIn plan.old on.now }
     ensures answers { AnswersValue plan.new result (of_array (λ a. array_told (named a (given plan.old args.now))) (meaning plan.old on.now)) }
     ensures grows { Grows plan.old plan.new }
+    ensures room { IfOk result (λ v. AddsAtMost plan.old plan.new (room (portions (meaning plan.old on.now) ++ portions (meaning plan.new v)))) }
 {
     match on {
         Value::Array(array) => {
@@ -135,7 +144,7 @@ pub(crate) fn rename(
 }
 
 /// `to_dataset(name)`.
-#[tactic(auto, using(plan_core::proofs::Plans::grows_by_none, xr_arguments::proofs::Variants::is_array, xr_arguments::proofs::Variants::is_set, xr_arguments::proofs::Inside::held_array, xr_arguments::proofs::Inside::held_set, xr_values::proofs::Meaning::meaning_out), unfolding(xr_defs::specs::Calls::of_array))]
+#[tactic(auto, using(plan_core::proofs::Plans::grows_by_none, plan_core::proofs::Added::adds_none, xr_arguments::proofs::Variants::is_array, xr_arguments::proofs::Variants::is_set, xr_arguments::proofs::Inside::held_array, xr_arguments::proofs::Inside::held_set, xr_values::proofs::Meaning::meaning_out), unfolding(xr_defs::specs::Calls::of_array))]
 pub(crate) fn to_dataset(
     alloc: Global,
     plan: &mut Plan,
@@ -145,6 +154,7 @@ pub(crate) fn to_dataset(
     requires { IsValueIn plan.old on.now }
     ensures answers { AnswersValue plan.new result (of_array (λ a. set_told (as_dataset a (given plan.old args.now))) (meaning plan.old on.now)) }
     ensures grows { Grows plan.old plan.new }
+    ensures room { IfOk result (λ v. AddsAtMost plan.old plan.new (room (portions (meaning plan.old on.now) ++ portions (meaning plan.new v)))) }
 {
     match on {
         Value::Array(array) => {
@@ -156,7 +166,7 @@ pub(crate) fn to_dataset(
 }
 
 /// `sum()`.
-#[tactic(auto, using(plan_core::proofs::Plans::grows_by_none, xr_arguments::proofs::Variants::is_array, xr_arguments::proofs::Variants::is_set, xr_arguments::proofs::Inside::held_array, xr_arguments::proofs::Inside::held_set, xr_values::proofs::Meaning::meaning_out), unfolding(xr_defs::specs::Calls::of_array))]
+#[tactic(auto, using(plan_core::proofs::Plans::grows_by_none, plan_core::proofs::Added::adds_none, xr_arguments::proofs::Variants::is_array, xr_arguments::proofs::Variants::is_set, xr_arguments::proofs::Inside::held_array, xr_arguments::proofs::Inside::held_set, xr_values::proofs::Meaning::meaning_out), unfolding(xr_defs::specs::Calls::of_array))]
 pub(crate) fn sum(
     alloc: Global,
     plan: &mut Plan,
@@ -166,6 +176,7 @@ pub(crate) fn sum(
     requires { IsValueIn plan.old on.now }
     ensures answers { AnswersValue plan.new result (of_array (summed (given plan.old args.now)) (meaning plan.old on.now)) }
     ensures grows { Grows plan.old plan.new }
+    ensures room { IfOk result (λ v. AddsAtMost plan.old plan.new (room (portions (meaning plan.old on.now) ++ portions (meaning plan.new v)))) }
 {
     match on {
         Value::Array(array) => {

@@ -1,11 +1,14 @@
 //! The methods of arrays and datasets, found by their names.
-ghost use Rattle.std.specs.Prelude.{◌≡◌, ℕ, List, false, IfOk};
+ghost use Rattle.std.specs.Prelude.{◌≡◌, ◌++◌, ℕ, List, false, true, IfOk};
 ghost use denote.Param.Send.{IsSync};
 ghost use Rattle.xr_defs.specs.declared.node.Node.{Node};
+ghost use Rattle.xr_defs.specs.Canonical.{are_distinct};
+ghost use Rattle.xr_defs.specs.Room.{portions, room, AddsAtMost};
 ghost use Rattle.xr_defs.specs.Classic.{among};
 ghost use Rattle.xr_defs.specs.Calls.{method_called, uncomputed_method as uncomputed, other_method as other_method_called, is_labelled_data as is_labelled, promoting};
 ghost use Rattle.plan_core.specs.Plans.{Grows};
 ghost use Rattle.xr_values.specs.Meaning.{meaning, given, IsValueIn, AreArgsIn};
+ghost use Rattle.xr_indexing.specs.Taken.{keywords};
 ghost use Rattle.dataset_core.specs.Answers.{AnswersValue, RefusesValue};
 ghost use Rattle.dataset_core.specs.Assigned.{method_told, FollowsValue};
 
@@ -74,6 +77,7 @@ fn uncomputed_method(
     ensures answers { AnswersValue plan.new result (uncomputed (meaning plan.old on.now) name.now (given plan.old args.now)) }
     ensures inside { IfOk result (IsValueIn plan.new) }
     ensures grows { Grows plan.old plan.new }
+    ensures room { are_distinct (keywords args.now) ≡ true → IfOk result (λ v. AddsAtMost plan.old plan.new (room (portions (meaning plan.old on.now) ++ portions (meaning plan.new v)))) }
 {
     let called = name.as_str();
     if called == "isel" {
@@ -102,7 +106,7 @@ fn uncomputed_method(
 /// `UnknownName` for any other method, but `WouldPromote` for those of arrays and datasets whose answers aren't whole
 /// numbers, `mean` and its like; then `WrongKind` for a receiver that hasn't the method; then those of the method. Where
 /// cells that the call needs are declined, it is that: `assign_coords` needs those of each array that it makes a coordinate.
-#[tactic(auto, using(plan_core::proofs::Plans::grows_by_none, crate::proofs::Labelling::follows_value), unfolding(xr_defs::specs::Calls::method_called, crate::specs::Assigned::method_told))]
+#[tactic(auto, using(plan_core::proofs::Plans::grows_by_none, plan_core::proofs::Added::adds_none, crate::proofs::Labelling::follows_value), unfolding(xr_defs::specs::Calls::method_called, crate::specs::Assigned::method_told))]
 pub fn call_method<R: Threads + Sync, C: Compute>(
     rt: &R,
     alloc: Global,
@@ -118,6 +122,7 @@ pub fn call_method<R: Threads + Sync, C: Compute>(
     ensures undeclined { ((n : ℕ) → C.declines cx.old.compute cx.old.plan n ≡ false) → AnswersValue cx.new.plan result (method_called (meaning cx.old.plan on.now) name.now (given cx.old.plan args.now)) }
     ensures inside { IfOk result (IsValueIn cx.new.plan) }
     ensures grows { Grows cx.old.plan cx.new.plan }
+    ensures room { are_distinct (keywords args.now) ≡ true → IfOk result (λ v. AddsAtMost cx.old.plan cx.new.plan (room (portions (meaning cx.old.plan on.now) ++ portions (meaning cx.new.plan v)))) }
     ensures keeps { (nodes : List Node) (n : ℕ) → C.declines cx.new.compute nodes n ≡ C.declines cx.old.compute nodes n }
 {
     if name.as_str() == "assign_coords" {

@@ -1,4 +1,6 @@
 //! `x["v"]`: a variable or coordinate by its name.
+ghost use Rattle.std.specs.Prelude.{◌++◌, IfOk};
+ghost use Rattle.xr_defs.specs.Room.{portions, room, AddsAtMost};
 ghost use Rattle.xr_defs.specs.Calls.{part_picked};
 ghost use Rattle.plan_core.specs.Plans.{Grows};
 ghost use Rattle.xr_values.specs.Meaning.{meaning, IsValueIn};
@@ -25,6 +27,7 @@ pub fn pick(
     requires inside { IsValueIn plan.old on.now }
     ensures answers { AnswersValue plan.new result (part_picked (meaning plan.old on.now) name.now) }
     ensures grows { Grows plan.old plan.new }
+    ensures room { IfOk result (λ v. AddsAtMost plan.old plan.new (room (portions (meaning plan.old on.now) ++ portions (meaning plan.new v)))) }
 {
     match on {
         Value::Array(array) => {

@@ -1,4 +1,5 @@
 pub mod Plans
+pub mod Added
 pub mod Tabs
 pub mod Products
 pub mod Arrangements

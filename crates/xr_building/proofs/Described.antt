@@ -23,7 +23,7 @@ use Rattle.xr_building.specs.Frames.{IsFrame}
 use Rattle.xr_building.specs.Gathered.{gathered, suits_all}
 use Rattle.xr_building.proofs.Counted.{whole}
 use Rattle.xr_building.proofs.Kept.{cells_in}
-use Rattle.xr_building.proofs.Unlabelled.{bare_frame, bare_sizes}
+use Rattle.xr_building.proofs.Unlabelled.{bare_frame}
 
 pub nested-length : (k : ℕ) (m : Value) → length (nested_shape k m) ≡ k
 nested-length zero m = refl
@@ -33,10 +33,8 @@ pub frame_from : (axes : List Axis) (coords : List Coord) (dims : List (List ℕ
 frame_from axes coords dims shape is none long named distinct =
     subst (λ (xs : List Axis). IsFrame xs coords) (sym is) (subst (λ (cs : List Coord). IsFrame (bare_axes dims shape) cs) (sym none) (bare_frame dims shape long named distinct))
 
-pub whole_from : (axes : List Axis) (dims : List (List ℕ)) (shape : List ℕ) (m : Value) (e : Elements) (cells : List (Option ℤ)) → axes ≡ bare_axes dims shape → length dims ≡ length shape → cells ≡ e.cells → e ≡ gathered (elements m)
-    → is_nested (length dims) m ≡ true → is_regular shape m ≡ true → length cells ≡ size (shape_over axes)
-whole_from axes dims shape m e cells is long look all deep even =
-    ap length (look ∙ ap (λ (x : Elements). x.cells) all) ∙ length-map (elements m) element_cell ∙ whole shape m (ap (λ k. is_nested k m) (sym long) ∙ deep) even ∙ ap size (sym (bare_sizes dims shape long)) ∙ ap (λ xs. size (shape_over xs)) (sym is)
+pub whole_from : (axes : List Axis) (shape : List ℕ) (m : Value) (e : Elements) → shape_over axes ≡ shape → e ≡ gathered (elements m) → is_nested (length shape) m ≡ true → is_regular shape m ≡ true → length e.cells ≡ size (shape_over axes)
+whole_from axes shape m e sizes all deep even = ap (λ (x : Elements). length x.cells) all ∙ length-map (elements m) element_cell ∙ whole shape m deep even ∙ ap size (sym sizes)
 
 pub suits_same : (k : DType) (vs : List Value) → suits_all k (gathered vs) ≡ suits k vs
 suits_same kinds.Bool vs = refl

@@ -3,6 +3,7 @@ use Rattle.std.proofs.Common.{◌≡◌, ◌≤◌, ℕ, Bool, true, false, List
 use Rattle.std.specs.Prelude.{if◌then◌else◌}
 use Rattle.std.specs.List.{AllByRecursion}
 use Rattle.xr_types.specs.declared.axis.Axis.{Axis}
+use Rattle.xr_types.specs.declared.text.TextBytes.{TextBytes}
 use Rattle.xr_types.specs.declared.fault.CallFault.{CallFault}
 use Rattle.xr_defs.specs.declared.node.Node.{Node}
 use Rattle.xr_defs.specs.declared.value.Coord.{Coord}
@@ -12,14 +13,15 @@ use Rattle.xr_defs.specs.Meanings.{Value}
 use Rattle.xr_defs.specs.Building.{Frame, frame_of_array, is_dimension}
 use Rattle.xr_values.specs.declared.data_array.DataArray.{DataArray}
 use Rattle.xr_values.specs.declared.args.Args.{Args}
+use Rattle.xr_values.specs.declared.value.Value.{Value as Entry}
 use Rattle.xr_values.specs.Stands.{array_in, IsArrayIn, IsNodeOf}
 use Rattle.xr_values.specs.WellFormed.{AreCells, IsDimension}
 use Rattle.xr_building.specs.Frames.{with_index, IsFrame, IsOpenAxis}
-use Rattle.xr_building.specs.Entries.{array_assigned, frame_in}
+use Rattle.xr_building.specs.Entries.{array_assigned, entries_in, frame_in}
 use Rattle.xr_building.specs.Walk.{coord_given, indexed, labels_in, put, with_another}
 use Rattle.xr_building.proofs.Called.{names_kept, sizes_kept}
 use Rattle.xr_building.proofs.Framed.{index_name, index_size}
-use Rattle.xr_building.proofs.Keeping.{frame_keeps}
+use Rattle.xr_building.proofs.Keeping.{entries_keep, frame_keeps}
 
 -- ---- names and sizes stay
 
@@ -42,9 +44,15 @@ spans_put f kv = by (is_dimension f.axes kv.0)
         }
     by false = another (coord_given f.axes kv.0 kv.1)
 
+still : (f h : Frame) (kv : List ℕ × Value) → Spans h f → Spans (put h kv) f
+still f h kv spans = let here = spans_put h kv in record { names = here.names ∙ spans.names; sizes = here.sizes ∙ spans.sizes }
+
+pub entries_span : (declines : ℕ → Bool) (nodes : List Node) (variables : List (List ℕ)) (f g : Frame) (kvs : List (TextBytes × Entry)) → entries_in declines nodes variables f kvs ≡ Ok g → Spans g f
+entries_span declines nodes variables f g kvs is = entries_keep declines nodes variables (λ h. Spans h f) (λ h kv passed spans. still f h kv spans) f g kvs is (record { names = refl; sizes = refl })
+
 pub frame_spans : (declines : ℕ → Bool) (nodes : List Node) (variables : List (List ℕ)) (f g : Frame) (args : Args) → frame_in declines nodes variables f args ≡ Ok g → Spans g f
 frame_spans declines nodes variables f g args is =
-    frame_keeps declines nodes variables (λ h. Spans h f) (λ h kv passed spans. let here = spans_put h kv in record { names = here.names ∙ spans.names; sizes = here.sizes ∙ spans.sizes }) f g args is (record { names = refl; sizes = refl })
+    frame_keeps declines nodes variables (λ h. Spans h f) (λ h kv passed spans. still f h kv spans) f g args is (record { names = refl; sizes = refl })
 
 -- ---- the array
 

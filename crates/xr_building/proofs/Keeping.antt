@@ -15,7 +15,7 @@ use Rattle.xr_building.specs.Walk.{check_put, put}
 use Rattle.xr_building.proofs.Walked.{in_is}
 
 module _ (declines : ℕ → Bool) (nodes : List Node) (variables : List (List ℕ)) (P : Frame → Type 0) (keeps : (f : Frame) (kv : List ℕ × Value) → check_put variables f.axes kv ≡ Ok (tt {0}) → P f → P (put f kv)) where
-  entries_keep : (f g : Frame) (kvs : List (TextBytes × Held)) → entries_in declines nodes variables f kvs ≡ Ok g → P f → P g
+  pub entries_keep : (f g : Frame) (kvs : List (TextBytes × Held)) → entries_in declines nodes variables f kvs ≡ Ok g → P f → P g
   unfolding entries_in
   entries_keep f g [] is holds = let same : f ≡ g = cc in subst P same holds
   entries_keep f g (kv ∷ kvs) is holds =

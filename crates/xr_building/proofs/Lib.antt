@@ -5,6 +5,7 @@ pub mod Checked
 pub mod Computing
 pub mod Counted
 pub mod Described
+pub mod Drafted
 pub mod Entering
 pub mod Fits
 pub mod Fitting
@@ -16,13 +17,16 @@ pub mod Keeping
 pub mod Kept
 pub mod Lists
 pub mod Names
+pub mod Outlining
 pub mod Same
 pub mod Sets
 pub mod Standing
 pub mod Stays
 pub mod Steps
+pub mod Tables
 pub mod TestValues
 pub mod Undeclined
 pub mod Unlabelled
+pub mod Unrefused
 pub mod Walked
 pub mod Within

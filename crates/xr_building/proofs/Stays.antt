@@ -1,12 +1,12 @@
 -- An entry that is put in its place leaves axes and coordinates as they have to be, and the other entries as they are checked.
-use Rattle.std.proofs.Common.{◌≡◌, ◌≤◌, ◌-◌, ℕ, Bool, true, false, not, List, [], ◌∷◌, length, map, take, drop, get_or, Option, Some, None, Result, Ok, Err, refl, sym, ap, subst, ◌∙◌}
+use Rattle.std.proofs.Common.{◌≡◌, ℕ, Bool, true, false, not, List, [], ◌∷◌, map, Option, Some, None, Result, Ok, Err, refl, sym, ap, subst, ◌∙◌}
 use Rattle.std.specs.Prelude.{IfOk, if◌then◌else◌}
 use Rattle.xr_types.specs.declared.text.TextBytes.{TextBytes}
 use Rattle.xr_types.specs.declared.axis.Axis.{Axis}
 use Rattle.xr_types.specs.declared.fault.Fault.{Fault}
 use Rattle.xr_types.specs.declared.fault.Fault.TheVariants.{NoDimension}
 use Rattle.xr_types.specs.declared.fault.CallFault.{CallFault}
-use Rattle.xr_types.specs.declared.fault.CallFault.TheVariants.{Declined}
+use Rattle.xr_types.specs.declared.fault.CallFault.TheVariants.{Refused, Declined, NoMemory}
 use Rattle.xr_defs.specs.declared.node.Node.{Node}
 use Rattle.xr_defs.specs.declared.value.Coord.{Coord}
 use Rattle.xr_defs.specs.Results.{◌>>=◌, unless, all_of}
@@ -22,7 +22,6 @@ use Rattle.xr_building.specs.Places.{is_there}
 use Rattle.xr_building.specs.Entries.{refused, computed, node_of, Follows}
 use Rattle.xr_building.specs.Walk.{check_put, coord_in, coord_put, entries_put, entry_put, fitting, frame_of, indexed, labels_in, labels_put, put_fitting, with_another}
 use Rattle.xr_building.proofs.Called.{dimension_kept}
-use Rattle.xr_building.proofs.Items.{first_rest}
 use Rattle.xr_building.proofs.Framed.{index_name, index_size, put_frame}
 use Rattle.xr_building.proofs.Walked.{put_is, whole_in}
 
@@ -105,19 +104,40 @@ first_and_rest check x xs all = both_pass (check x) (all_of check xs) all
 
 -- ---- the entries behind the first
 
-pub parted : {X : Type 0} (xs : List X) (x : X) → 1 ≤ length xs → x ≡ get_or xs 0 x → xs ≡ x ∷ take (length xs - 1) (drop 1 xs)
-parted xs x long is = first_rest xs x long ∙ ap (λ y. y ∷ take (length xs - 1) (drop 1 xs)) (sym is)
+module _ (declines : ℕ → Bool) (nodes : List Node) (variables : List (List ℕ)) (f : Frame) (kv : TextBytes × Held) (kvs xs : List (TextBytes × Held)) (is : xs ≡ kv ∷ kvs) where
+  pub first_checked : all_of (check_entry f.axes) (map (with_key nodes) xs) ≡ Ok (tt {0}) → check_entry f.axes (with_key nodes kv) ≡ Ok tt
+  first_checked all = (first_and_rest (check_entry f.axes) (with_key nodes kv) (map (with_key nodes) kvs) (ap (λ ys. all_of (check_entry f.axes) (map (with_key nodes) ys)) (sym is) ∙ all)).0
 
-module _ (declines : ℕ → Bool) (nodes new : List Node) (variables : List (List ℕ)) (f g : Frame) (kv : TextBytes × Held) (kvs xs : List (TextBytes × Held)) (is : xs ≡ kv ∷ kvs) (plan : new ≡ nodes) (told : entry_put declines nodes variables f kv ≡ Ok g) where
-  pub rest_checked : all_of (check_entry f.axes) (map (with_key nodes) xs) ≡ Ok (tt {0}) → all_of (check_entry g.axes) (map (with_key new) kvs) ≡ Ok (tt {0})
-  rest_checked all =
-      ap (λ ns. all_of (check_entry g.axes) (map (with_key ns) kvs)) plan ∙ entries_still g.axes f.axes (same_dimensions declines nodes variables f kv g told) (map (with_key nodes) kvs)
-      ∙ (first_and_rest (check_entry f.axes) (with_key nodes kv) (map (with_key nodes) kvs) (ap (λ ys. all_of (check_entry f.axes) (map (with_key nodes) ys)) (sym is) ∙ all)).1
+  pub first_placed : all_of (check_place f.axes) (map (with_key nodes) xs) ≡ Ok (tt {0}) → check_place f.axes (with_key nodes kv) ≡ Ok tt
+  first_placed all = (first_and_rest (check_place f.axes) (with_key nodes kv) (map (with_key nodes) kvs) (ap (λ ys. all_of (check_place f.axes) (map (with_key nodes) ys)) (sym is) ∙ all)).0
 
-  pub rest_placed : all_of (check_place f.axes) (map (with_key nodes) xs) ≡ Ok (tt {0}) → all_of (check_place g.axes) (map (with_key new) kvs) ≡ Ok (tt {0})
-  rest_placed all =
-      ap (λ ns. all_of (check_place g.axes) (map (with_key ns) kvs)) plan ∙ places_still g.axes f.axes (same_dimensions declines nodes variables f kv g told) (map (with_key nodes) kvs)
-      ∙ (first_and_rest (check_place f.axes) (with_key nodes kv) (map (with_key nodes) kvs) (ap (λ ys. all_of (check_place f.axes) (map (with_key nodes) ys)) (sym is) ∙ all)).1
+  module _ (g : Frame) (told : entry_put declines nodes variables f kv ≡ Ok g) where
+    pub rest_checked : all_of (check_entry f.axes) (map (with_key nodes) xs) ≡ Ok (tt {0}) → all_of (check_entry g.axes) (map (with_key nodes) kvs) ≡ Ok (tt {0})
+    rest_checked all =
+        entries_still g.axes f.axes (same_dimensions declines nodes variables f kv g told) (map (with_key nodes) kvs)
+        ∙ (first_and_rest (check_entry f.axes) (with_key nodes kv) (map (with_key nodes) kvs) (ap (λ ys. all_of (check_entry f.axes) (map (with_key nodes) ys)) (sym is) ∙ all)).1
+
+    pub rest_placed : all_of (check_place f.axes) (map (with_key nodes) xs) ≡ Ok (tt {0}) → all_of (check_place g.axes) (map (with_key nodes) kvs) ≡ Ok (tt {0})
+    rest_placed all =
+        places_still g.axes f.axes (same_dimensions declines nodes variables f kv g told) (map (with_key nodes) kvs)
+        ∙ (first_and_rest (check_place f.axes) (with_key nodes kv) (map (with_key nodes) kvs) (ap (λ ys. all_of (check_place f.axes) (map (with_key nodes) ys)) (sym is) ∙ all)).1
+
+    pub rest_put : (total : Result Frame CallFault) → entries_put declines nodes variables f xs ≡ total → entries_put declines nodes variables g kvs ≡ total
+    unfolding entries_put
+    rest_put total so_far = sym (ap (λ s. s >>= λ h. entries_put declines nodes variables h kvs) told) ∙ sym (ap (entries_put declines nodes variables f) is) ∙ so_far
+
+  -- where an entry is the last that is looked at
+  pub stopped : (e : CallFault) (r : Result Draft CallFault) (total : Result Frame CallFault) → r ≡ Err e → Follows {A = Draft} frame_of (Err e) (entry_put declines nodes variables f kv) → entries_put declines nodes variables f xs ≡ total → Follows frame_of r total
+  unfolding entries_put
+  stopped e r total gone told so_far = subst (λ r. Follows frame_of r total) (sym gone) (by e told)
+    where
+      from : (t : Result Frame CallFault) → entry_put declines nodes variables f kv ≡ t → (t >>= λ h. entries_put declines nodes variables h kvs) ≡ total
+      from t here = sym (ap (λ s. s >>= λ h. entries_put declines nodes variables h kvs) here) ∙ sym (ap (entries_put declines nodes variables f) is) ∙ so_far
+
+      by : (e : CallFault) → Follows {A = Draft} frame_of (Err e) (entry_put declines nodes variables f kv) → Follows {A = Draft} frame_of (Err e) total
+      by (Refused x) told = sym (from (Err (Refused x)) told)
+      by (Declined n) told = sym (from (Err (Declined n)) told)
+      by NoMemory told = tt
 
 -- what is declined, told in another way
 module _ (d e : ℕ → Bool) (same : (n : ℕ) → d n ≡ e n) (nodes : List Node) (variables : List (List ℕ)) where
@@ -133,18 +153,5 @@ module _ (d e : ℕ → Bool) (same : (n : ℕ) → d n ≡ e n) (nodes : List N
   entry_same f kv =
       put_is d nodes variables f kv ∙ ap (λ r. refused (check_put variables f.axes (with_key nodes kv)) >>= λ u. r >>= λ w. Ok (put_fitting f (with_key nodes kv))) (computed_same kv.1) ∙ sym (put_is e nodes variables f kv)
 
-  pub entries_same : (f : Frame) (kvs : List (TextBytes × Held)) → entries_put d nodes variables f kvs ≡ entries_put e nodes variables f kvs
-  unfolding entries_put
-  entries_same f [] = refl
-  entries_same f (kv ∷ kvs) = ap (λ r. r >>= λ g. entries_put d nodes variables g kvs) (entry_same f kv) ∙ by (entry_put e nodes variables f kv) (λ g. entries_same g kvs)
-    where
-      by : (r : Result Frame CallFault) → ((g : Frame) → entries_put d nodes variables g kvs ≡ entries_put e nodes variables g kvs) → (r >>= λ g. entries_put d nodes variables g kvs) ≡ (r >>= λ g. entries_put e nodes variables g kvs)
-      by (Ok g) rest = rest g
-      by (Err x) rest = refl
-
-  pub walk_on : (new : List Node) (f g : Frame) (kv : TextBytes × Held) (kvs xs : List (TextBytes × Held)) (r : Result Draft CallFault) → xs ≡ kv ∷ kvs → new ≡ nodes → entry_put e nodes variables f kv ≡ Ok g → Follows frame_of r (entries_put d new variables g kvs)
-      → Follows frame_of r (entries_put e nodes variables f xs)
-  unfolding entries_put
-  walk_on new f g kv kvs xs r is plan told later =
-      subst (λ t. Follows frame_of r t)
-      (ap (λ ns. entries_put d ns variables g kvs) plan ∙ entries_same g kvs ∙ sym (ap (λ s. s >>= λ h. entries_put e nodes variables h kvs) told) ∙ sym (ap (entries_put e nodes variables f) is)) later
+  pub told_from_start : (new : List Node) (f : Frame) (kv : TextBytes × Held) (r : Result Draft CallFault) → new ≡ nodes → Follows frame_of r (entry_put d new variables f kv) → Follows frame_of r (entry_put e nodes variables f kv)
+  told_from_start new f kv r plan told = subst (Follows frame_of r) (ap (λ ns. entry_put d ns variables f kv) plan ∙ entry_same f kv) told

@@ -45,7 +45,7 @@ module _ (declines : ℕ → Bool) (none : (n : ℕ) → declines n ≡ false) (
   unfolding entry_in
   entry_all f kv = ap (λ c. refused (with_entry variables f (with_key nodes kv)) >>= λ g. c >>= λ u. Ok g) (computed_all kv.1) ∙ then_kept (refused (with_entry variables f (with_key nodes kv)))
 
-  entries_all : (f : Frame) (kvs : List (TextBytes × Value)) → entries_in declines nodes variables f kvs ≡ refused (with_entries variables f (map (with_key nodes) kvs))
+  pub entries_all : (f : Frame) (kvs : List (TextBytes × Value)) → entries_in declines nodes variables f kvs ≡ refused (with_entries variables f (map (with_key nodes) kvs))
   unfolding entries_in with_entries
   entries_all f [] = refl
   entries_all f (kv ∷ kvs) =

@@ -88,7 +88,7 @@ abbrev pub Alike : Bool → Result Frame CallFault → Result Frame CallFault �
 Alike b (Ok d) told = (f : Frame) × (told ≡ Ok f) × (b ≡ true → d ≡ f)
 Alike b (Err e) told = told ≡ Err e
 
-both_pass : (r s : Result (Unit {0}) Fault) → (r >>= λ u. s) ≡ Ok (tt {0}) → (r ≡ Ok tt) × (s ≡ Ok tt)
+pub both_pass : (r s : Result (Unit {0}) Fault) → (r >>= λ u. s) ≡ Ok (tt {0}) → (r ≡ Ok tt) × (s ≡ Ok tt)
 both_pass (Ok u) s is = (refl, is)
 both_pass (Err e) s is = absurd cc
 
@@ -163,13 +163,12 @@ module _ (declines : ℕ → Bool) (nodes : List Node) (variables : List (List �
   last_step (Ok d) y (Err e) is = sym (ap (ends (Err e)) is.1)
   last_step (Ok d) y (Ok u) is = ap Ok (is.2 refl) ∙ sym (ap (ends (Ok u)) is.1)
 
-  -- the entries over a frame, with the numbers looked at last
-  pub walk_ends : (f : Frame) (kvs : List (TextBytes × Held)) → IsFrame f.axes f.coords → All (IsEntryIn nodes) kvs → all_of (check_entry f.axes) (map (with_key nodes) kvs) ≡ Ok (tt {0})
-      → (entries_put declines nodes variables f kvs >>= λ g. refused (all_of check_numbers (map (with_key nodes) kvs)) >>= λ u. Ok g) ≡ (entries_in declines nodes variables f kvs >>= λ g. refused (all_of check_numbers (map (with_key nodes) kvs)) >>= λ u. Ok g)
-  walk_ends f kvs frame inside checked =
-      let n = all_of check_numbers (map (with_key nodes) kvs) in
-      last_step (entries_put declines nodes variables f kvs) (entries_in declines nodes variables f kvs) n
-      (walk (passes n) f f kvs inside checked (passed n) (record { axes = all_shown f.axes frame.each; same = λ t. refl }))
+  -- the entries over a frame, with the numbers among what is looked at last
+  pub walk_ends : (f : Frame) (kvs : List (TextBytes × Held)) (last : Result (Unit {0}) Fault) → (last ≡ Ok (tt {0}) → all_of check_numbers (map (with_key nodes) kvs) ≡ Ok (tt {0})) → IsFrame f.axes f.coords → All (IsEntryIn nodes) kvs
+      → all_of (check_entry f.axes) (map (with_key nodes) kvs) ≡ Ok (tt {0}) → (entries_put declines nodes variables f kvs >>= λ g. refused last >>= λ u. Ok g) ≡ (entries_in declines nodes variables f kvs >>= λ g. refused last >>= λ u. Ok g)
+  walk_ends f kvs last numbers frame inside checked =
+      last_step (entries_put declines nodes variables f kvs) (entries_in declines nodes variables f kvs) last
+      (walk (passes last) f f kvs inside checked (λ t. numbers (passed last t)) (record { axes = all_shown f.axes frame.each; same = λ t. refl }))
 
   pub frame_same : (f : Frame) (args : Args) → IsFrame f.axes f.coords → AreArgsIn nodes args → frame_put declines nodes variables f args ≡ frame_in declines nodes variables f args
   unfolding frame_put frame_in
@@ -184,4 +183,4 @@ module _ (declines : ℕ → Bool) (nodes : List Node) (variables : List (List �
       by (Err e) c q is = refl
       by (Ok u) (Err e) q is = refl
       by (Ok u) (Ok v) (Err e) is = refl
-      by (Ok u) (Ok v) (Ok w) is = walk_ends f args.keyed.items frame inside.keyed is
+      by (Ok u) (Ok v) (Ok w) is = walk_ends f args.keyed.items (all_of check_numbers kvs) (λ t. t) frame inside.keyed is

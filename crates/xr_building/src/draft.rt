@@ -98,22 +98,12 @@ pub fn indexed(
     })
 }
 
+#[tactic(auto, unfolding(crate::specs::Found::coord_place))]
 fn coord_place(coords: &[Coord], name: &TextBytes) -> Option<usize>
     ensures place { result ≡ coord_place coords.now name.now }
     ensures inside { IfSome result (λ k. k < length coords.now) }
 {
-    match coords {
-        [] => None,
-        [coord, rest @ ..] => {
-            if coord.name.is(name) {
-                return Some(0);
-            }
-            match coord_place(rest, name) {
-                Some(n) => Some(n + 1),
-                None => None,
-            }
-        }
-    }
+    coords.iter().position(|coord| coord.name.is(name))
 }
 
 // In the place of the one of its name, or at the end.

@@ -39,10 +39,7 @@ fn is_within(axes: &[Axis]) -> bool
 fn are_within(coords: &[Coord]) -> bool
     ensures { result ≡ of.are_within coords.now }
 {
-    match coords {
-        [] => true,
-        [coord, rest @ ..] => is_within(coord.axes.as_slice()) && are_within(rest),
-    }
+    coords.iter().all(|coord| is_within(coord.axes.as_slice()))
 }
 
 /// Whether an array over these axes and its coordinates have no more positions and cells than they may have.

@@ -1,15 +1,11 @@
 //! Arrays whose cells are written out.
-ghost use Rattle.std.specs.Prelude.{◌≡◌, ◌≢◌, length, true, MatchOption, ⊤, All, IfOk};
-ghost use Rattle.xr_types.specs.declared.kind.DType.TheVariants as kinds;
-ghost use Rattle.xr_defs.specs.Classic.{is_name};
-ghost use Rattle.xr_defs.specs.Points.{size};
-ghost use Rattle.xr_defs.specs.Arrays.{IsCell};
+ghost use Rattle.std.specs.Prelude.{◌≡◌, IfOk};
+ghost use Rattle.xr_defs.specs.Room.{AddsForAny};
 ghost use Rattle.xr_defs.specs.Values.{shape_over};
 ghost use Rattle.plan_core.specs.Plans.{Grows};
 ghost use Rattle.xr_values.specs.Answers.{AnswersArray};
-ghost use Rattle.xr_values.specs.WellFormed.{AreSeen};
-ghost use Rattle.xr_building.specs.Frames.{IsFrame};
-ghost use Rattle.xr_building.specs.Placed.{limited, with_written};
+ghost use Rattle.xr_values.specs.Stands.{array_in};
+ghost use Rattle.xr_building.specs.Placed.{limited, with_written, IsFilled};
 
 use crate::cells::array_value;
 use crate::limits::is_frame_within;
@@ -51,14 +47,10 @@ pub fn place(
     outline: Outline,
     cells: &[Option<i128>],
 ) -> Result<DataArray, CallFault>
-    requires frame { IsFrame outline.axes outline.coords }
-    requires name { MatchOption outline.name ⊤ (λ n. is_name n ≡ true) }
-    requires kind { outline.kind ≢ kinds.Char }
-    requires whole { length cells.now ≡ size (shape_over outline.axes) }
-    requires range { All (IsCell outline.kind) cells.now }
-    requires seen { AreSeen outline.masked cells.now }
+    requires { IsFilled outline cells.now }
     ensures answers { AnswersArray plan.new result (limited (with_written outline cells.now)) }
     ensures grows { Grows plan.old plan.new }
+    ensures room { IfOk result (λ b. AddsForAny plan.old plan.new (array_in plan.new b)) }
 {
     let axes = outline.axes.as_slice();
     if axes.len() > MOST_DIMENSIONS {

@@ -121,11 +121,9 @@ pub fn put_entries<R: Threads + Sync, C: Compute>(
     ensures plan { cx.new.plan ≡ cx.old.plan }
     ensures keeps { (nodes : List Node) (n : ℕ) → C.declines cx.new.compute nodes n ≡ C.declines cx.old.compute nodes n }
 {
-    match entries {
-        [] => Ok(draft),
-        [entry, rest @ ..] => {
-            let draft = put_entry(rt, alloc, cx, variables, draft, entry)?;
-            put_entries(rt, alloc, cx, variables, draft, rest)
-        }
+    let mut draft = draft;
+    for entry in entries {
+        draft = put_entry(rt, alloc, cx, variables, draft, entry)?;
     }
+    Ok(draft)
 }

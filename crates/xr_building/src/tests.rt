@@ -16,40 +16,60 @@ use xr_types::{
 };
 use xr_values::{Args, Cx, DataArray, Value};
 
-fn text(alloc: Global, text: &str) -> Result<Value, AllocError> {
-    Ok(Value::Text(TextBytes::from_str(alloc, text)?))
-}
-
-fn numbers(alloc: Global, list: &[i128]) -> Result<Value, AllocError> {
-    let mut values = Vec::new(alloc);
+fn numbers(alloc: Global, list: &[i128]) -> Result<Value, AllocError>
+    ensures { IfOk result (λ v. (nodes : List Node) → IsValueIn nodes v) }
+{
+    let mut values = no_values(alloc);
     for n in list {
-        values.push(Value::Number(*n))?;
+        push_value(&mut values, number_value(*n))?;
     }
-    Ok(Value::List(values))
+    Ok(list_value(values))
 }
 
-fn two(alloc: Global, first: Value, second: Value) -> Result<Value, AllocError> {
-    let mut values = Vec::new(alloc);
-    values.push(first)?;
-    values.push(second)?;
-    Ok(Value::List(values))
+fn two(alloc: Global, first: Value, second: Value) -> Result<Value, AllocError>
+    requires first { (nodes : List Node) → IsValueIn nodes first }
+    requires second { (nodes : List Node) → IsValueIn nodes second }
+    ensures { IfOk result (λ v. (nodes : List Node) → IsValueIn nodes v) }
+{
+    let mut values = no_values(alloc);
+    push_value(&mut values, first)?;
+    push_value(&mut values, second)?;
+    Ok(list_value(values))
 }
 
-fn args(alloc: Global, data: Value, dims: &[&str]) -> Result<Args, AllocError> {
-    let mut names = Vec::new(alloc);
-    for name in dims {
-        names.push(text(alloc, name)?)?;
+fn texts(alloc: Global, list: &[&str]) -> Result<Value, AllocError>
+    ensures { IfOk result (λ v. (nodes : List Node) → IsValueIn nodes v) }
+{
+    let mut values = no_values(alloc);
+    for text in list {
+        push_value(&mut values, text_value(alloc, text)?)?;
     }
+    Ok(list_value(values))
+}
+
+fn push(alloc: Global, args: &mut Args, key: &str, value: Value) -> Result<(), AllocError>
+    ensures { OnOk result ((nodes : List Node) → AreArgsIn nodes args.old → IsValueIn nodes value → AreArgsIn nodes args.new) }
+{
+    args.push_keyed(TextBytes::from_str(alloc, key)?, value)
+}
+
+fn args(alloc: Global, content: Value, dims: &[&str]) -> Result<Args, AllocError>
+    requires { (nodes : List Node) → IsValueIn nodes content }
+    ensures { IfOk result (λ a. (nodes : List Node) → AreArgsIn nodes a) }
+{
     let mut args = Args::new(alloc);
-    args.push_plain(data)?;
-    args.push_keyed(TextBytes::from_str(alloc, "dims")?, Value::List(names))?;
+    args.push_plain(content)?;
+    push(alloc, &mut args, "dims", texts(alloc, dims)?)?;
     Ok(args)
 }
 
 // The number of the fault, or 0.
-fn fault(alloc: Global, args: &Args) -> u32 {
-    let mut plan = Plan::new(alloc);
-    match array_written_out(alloc, &mut plan, args) {
+fn fault<R: Threads + Sync>(rt: &R, alloc: Global, args: &Args) -> u32
+    requires sync { IsSync R.row }
+    requires given { (nodes : List Node) → AreArgsIn nodes args.now }
+{
+    let mut cx = with_plan(alloc, Whole);
+    match array_written_out(rt, alloc, &mut cx, args) {
         Err(CallFault::Refused(fault)) => fault.number(),
         _ => 0,
     }
@@ -63,8 +83,8 @@ fn an_array_is_written_out(rt: HostRuntime) -> Result<(), Fail> {
         numbers(alloc, [10, 20, 30].as_slice())?,
         ["x"].as_slice(),
     )?;
-    let mut plan = Plan::new(alloc);
-    let array = match array_written_out(alloc, &mut plan, &given) {
+    let mut cx = with_plan(alloc, Whole);
+    let array = match array_written_out(&rt, alloc, &mut cx, &given) {
         Ok(array) => array,
         Err(_) => return Err("no array".into()),
     };
@@ -73,7 +93,7 @@ fn an_array_is_written_out(rt: HostRuntime) -> Result<(), Fail> {
         [x] => assert!(rt; x.name.as_str() == "x" && x.size == 3 && x.labels.is_none()),
         _ => return Err("other axes".into()),
     }
-    match plan.nodes() {
+    match cx.plan.nodes() {
         [Node::Source { cells }] => match cells.parts() {
             (Cells::Int64(cells), None) => {
                 assert_eq!(rt; cells.as_slice(), [10, 20, 30].as_slice())
@@ -96,23 +116,23 @@ fn arrays_are_refused_by_their_first_fault(rt: HostRuntime) -> Result<(), Fail> 
         two(alloc, pair, numbers(alloc, [3, 4].as_slice())?)?,
         xy,
     )?;
-    assert_eq!(rt; fault(alloc, &deep), 0);
+    assert_eq!(rt; fault(&rt, alloc, &deep), 0);
     let pair = numbers(alloc, [1, 2].as_slice())?;
     let uneven = args(
         alloc,
         two(alloc, pair, numbers(alloc, [3].as_slice())?)?,
         xy,
     )?;
-    assert_eq!(rt; fault(alloc, &uneven), 13);
+    assert_eq!(rt; fault(&rt, alloc, &uneven), 13);
     let flat = args(alloc, numbers(alloc, [1, 2].as_slice())?, xy)?;
-    assert_eq!(rt; fault(alloc, &flat), 5);
-    let mixed = args(alloc, two(alloc, Value::Number(1), Value::Truth(true))?, x)?;
-    assert_eq!(rt; fault(alloc, &mixed), 4);
-    let masked = args(alloc, two(alloc, Value::Truth(true), Value::Missing)?, x)?;
-    assert_eq!(rt; fault(alloc, &masked), 0);
+    assert_eq!(rt; fault(&rt, alloc, &flat), 5);
+    let mixed = args(alloc, two(alloc, number_value(1), truth_value(true))?, x)?;
+    assert_eq!(rt; fault(&rt, alloc, &mixed), 4);
+    let masked = args(alloc, two(alloc, truth_value(true), missing_value())?, x)?;
+    assert_eq!(rt; fault(&rt, alloc, &masked), 0);
     let mut small = args(alloc, numbers(alloc, [128].as_slice())?, x)?;
-    small.push_keyed(TextBytes::from_str(alloc, "dtype")?, text(alloc, "int8")?)?;
-    assert_eq!(rt; fault(alloc, &small), 12);
+    push(alloc, &mut small, "dtype", text_value(alloc, "int8")?)?;
+    assert_eq!(rt; fault(&rt, alloc, &small), 12);
     Ok(())
 }
 
@@ -137,11 +157,40 @@ fn number_value(n: i128) -> Value
     Value::Number(n)
 }
 
+#[tactic(auto, using(xr_arguments::proofs::Inside::truth_inside))]
+fn truth_value(b: bool) -> Value
+    ensures { (nodes : List Node) → IsValueIn nodes result }
+{
+    Value::Truth(b)
+}
+
+#[tactic(auto, using(xr_arguments::proofs::Inside::missing_inside))]
+fn missing_value() -> Value
+    ensures { (nodes : List Node) → IsValueIn nodes result }
+{
+    Value::Missing
+}
+
+fn cell_value(cell: Option<i128>) -> Value
+    ensures { (nodes : List Node) → IsValueIn nodes result }
+{
+    match cell {
+        Some(n) => number_value(n),
+        None => missing_value(),
+    }
+}
+
 #[tactic(auto, using(xr_arguments::proofs::Variants::is_text, xr_arguments::proofs::Inside::text_inside))]
 fn text_value(alloc: Global, text: &str) -> Result<Value, AllocError>
     ensures { IfOk result (λ v. (nodes : List Node) → IsValueIn nodes v) }
 {
     Ok(Value::Text(TextBytes::from_str(alloc, text)?))
+}
+
+fn no_values(alloc: Global) -> Vec<Value>
+    ensures { (nodes : List Node) → All (IsValueIn nodes) result.items }
+{
+    Vec::new(alloc)
 }
 
 #[tactic(auto, using(crate::proofs::TestValues::list_inside))]
@@ -217,18 +266,21 @@ fn with_entries(
 }
 
 // An array over `x` of these numbers.
-fn over_x(alloc: Global, plan: &mut Plan, cells: &[Option<i128>]) -> Result<DataArray, Fail>
-    ensures { IfOk result (IsArrayIn plan.new) }
+fn over_x<R: Threads + Sync, C: Compute>(
+    rt: &R,
+    alloc: Global,
+    cx: &mut Cx<C>,
+    cells: &[Option<i128>],
+) -> Result<DataArray, Fail>
+    requires sync { IsSync R.row }
+    ensures { IfOk result (IsArrayIn cx.new.plan) }
 {
-    let mut values = Vec::new(alloc);
+    let mut values = no_values(alloc);
     for cell in cells {
-        values.push(match cell {
-            Some(n) => Value::Number(*n),
-            None => Value::Missing,
-        })?;
+        push_value(&mut values, cell_value(*cell))?;
     }
-    let given = args(alloc, Value::List(values), ["x"].as_slice())?;
-    match array_written_out(alloc, plan, &given) {
+    let given = args(alloc, list_value(values), ["x"].as_slice())?;
+    match array_written_out(rt, alloc, cx, &given) {
         Ok(array) => Ok(array),
         Err(_) => Err("no array".into()),
     }
@@ -381,7 +433,7 @@ fn told_over<R: Threads + Sync>(
     requires sync { IsSync R.row }
 {
     let mut cx = with_plan(alloc, Whole);
-    let on = over_x(alloc, &mut cx.plan, cells)?;
+    let on = over_x(rt, alloc, &mut cx, cells)?;
     told(rt, alloc, &mut cx, &on, &on, entries)
 }
 
@@ -396,7 +448,7 @@ fn told_after<R: Threads + Sync>(
     requires sync { IsSync R.row }
 {
     let mut cx = with_plan(alloc, Whole);
-    let on = over_x(alloc, &mut cx.plan, cells)?;
+    let on = over_x(rt, alloc, &mut cx, cells)?;
     let on = assigned(rt, alloc, &mut cx, &on, first)?;
     told(rt, alloc, &mut cx, &on, &on, entries)
 }
@@ -474,7 +526,7 @@ fn entries_are_refused_by_their_first_fault(rt: HostRuntime) -> Result<(), Fail>
 fn an_array_of_other_labels_is_not_aligned(rt: HostRuntime) -> Result<(), Fail> {
     let alloc = rt.alloc();
     let mut cx = with_plan(alloc, Whole);
-    let on = over_x(alloc, &mut cx.plan, &CELLS)?;
+    let on = over_x(&rt, alloc, &mut cx, &CELLS)?;
     let own = assigned(&rt, alloc, &mut cx, &on, &[("x", Entry::Numbers(1, 2, 3))])?;
     let text = told(&rt, alloc, &mut cx, &on, &own, &[("y", Entry::Own)])?;
     assert_eq!(rt; text.as_str(), "not aligned");
@@ -506,7 +558,7 @@ impl Compute for Nothing {
 fn a_declined_node_is_the_answer(rt: HostRuntime) -> Result<(), Fail> {
     let alloc = rt.alloc();
     let mut cx = with_plan(alloc, Nothing);
-    let on = over_x(alloc, &mut cx.plan, &PAIR)?;
+    let on = over_x(&rt, alloc, &mut cx, &PAIR)?;
     let entries = [("y", Entry::Own), ("x", Entry::Numbers(1, 2, 3))];
     let text = told(&rt, alloc, &mut cx, &on, &on, &entries)?;
     assert_eq!(rt; text.as_str(), "declined");

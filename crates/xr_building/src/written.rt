@@ -1,36 +1,35 @@
-//! Arrays that are written out without coordinates.
-ghost use Rattle.std.specs.Prelude.{◌≡◌, ◌||◌, List, map, option_map, length, true, IfOk};
+//! Arrays that are written out.
+ghost use Rattle.std.specs.Prelude.{◌≡◌, ◌||◌, ℕ, List, map, option_map, length, true, false, IfOk, MatchOption, ⊤};
+ghost use denote.Param.Send.{IsSync};
 ghost use Rattle.std.specs.List.{list_all};
 ghost use Rattle.xr_defs.specs.declared.node.Node.{Node};
 ghost use Rattle.xr_defs.specs.Results.{Answers};
 ghost use Rattle.xr_defs.specs.Classic.{is_name};
 ghost use Rattle.xr_defs.specs.Canonical.{are_distinct};
+ghost use Rattle.xr_defs.specs.Room.{AddsForAny};
 ghost use Rattle.xr_defs.specs.Building as of;
-ghost use Rattle.xr_defs.specs.Calls as calls;
+ghost use Rattle.xr_defs.specs.Building.{data_array};
 ghost use Rattle.plan_core.specs.Plans.{Grows};
 ghost use Rattle.xr_values.specs.Answers.{AnswersArray};
-ghost use Rattle.xr_values.specs.Meaning.{meaning, given};
+ghost use Rattle.xr_values.specs.Meaning.{meaning, given, AreArgsIn, IsValueIn};
+ghost use Rattle.xr_values.specs.Stands.{array_in};
+ghost use Rattle.xr_building.specs.Entries.{FollowsArray};
 ghost use Rattle.xr_building.specs.Gathered.{gathered as elements_of};
-ghost use Rattle.xr_building.specs.Bare.{alike, bare_built, bare_of, needed, without_coords};
+ghost use Rattle.xr_building.specs.Outlined.{alike, needed, placed_in, values_placed};
+ghost use Rattle.xr_building.specs.Written.{array_written, entries_held};
 
-use crate::bare::bare_axes;
-use crate::cells::{all_fit, kind_for, suits};
 use crate::elements::{Elements, gathered};
-use crate::given::{dims_given, kind_given, name_given};
-use crate::nesting::{is_nested, is_regular, nested_shape};
-use crate::placed::{Outline, place};
-use plan_core::Plan;
+use crate::entries::coords_argument;
+use crate::given::dims_given;
+use crate::nesting::is_nested;
+use crate::outlined::{Options, outlined};
+use crate::placed::place;
+use plan_core::Compute;
 use std::alloc::Global;
+use std::thread::Threads;
 use xr_arguments::{argument, bound, option, required};
-use xr_types::{CallFault, Fault, Items, Name};
-use xr_values::{Args, DataArray, Value};
-
-// The arguments that may be left out.
-#[derive(Clone, Copy)]
-struct Options<'a> {
-    name: Option<&'a Value>,
-    dtype: Option<&'a Value>,
-}
+use xr_types::{CallFault, Fault, Name};
+use xr_values::{Args, Cx, DataArray, Value};
 
 // The argument of a parameter that can't be left out.
 fn required_at<'a>(values: &[Option<&'a Value>], place: usize) -> Result<&'a Value, CallFault>
@@ -39,49 +38,8 @@ fn required_at<'a>(values: &[Option<&'a Value>], place: usize) -> Result<&'a Val
     required(argument(values, place))
 }
 
-// The array of the elements of a nested list.
-#[tactic(auto, unfolding(crate::specs::Bare::bare_built, xr_defs::specs::Results::unless))]
-fn built(
-    alloc: Global,
-    plan: &mut Plan,
-    content: &Value,
-    elements: &Elements,
-    dims: &[Name],
-    options: Options<'_>,
-) -> Result<DataArray, CallFault>
-    requires elements { (nodes : List Node) → elements.now ≡ elements_of (of.elements (meaning nodes content.now)) }
-    requires checked { (elements.now.whole || elements.now.truths) ≡ true }
-    requires nested { (nodes : List Node) → of.is_nested (length dims.now) (meaning nodes content.now) ≡ true }
-    requires distinct { are_distinct dims.now ≡ true }
-    requires names { list_all is_name dims.now ≡ true }
-    ensures answers { (nodes : List Node) → AnswersArray plan.new result (bare_built (meaning nodes content.now) dims.now elements.now (option_map (λ v. meaning nodes v.now) options.entry.name) (option_map (λ v. meaning nodes v.now) options.entry.dtype)) }
-    ensures grows { Grows plan.old plan.new }
-{
-    let name = name_given(alloc, options.name)?;
-    let dtype = kind_given(options.dtype)?;
-    let kind = kind_for(elements, dtype);
-    if !suits(kind, elements) {
-        return Err(CallFault::Refused(Fault::WrongKind));
-    }
-    let shape = nested_shape(alloc, dims.len(), content)?;
-    if !is_regular(shape.as_slice(), content) {
-        return Err(CallFault::Refused(Fault::SizeConflict));
-    }
-    if !all_fit(kind, elements.cells.as_slice()) {
-        return Err(CallFault::Refused(Fault::DoesNotFit));
-    }
-    let outline = Outline {
-        name,
-        axes: bare_axes(alloc, dims, shape.as_slice())?,
-        coords: Items::new(alloc),
-        kind,
-        masked: elements.missing,
-    };
-    place(alloc, plan, outline, elements.cells.as_slice())
-}
-
 // The elements of a nested list, which are whole numbers, or truth values, with missing cells among them.
-#[tactic(auto, unfolding(crate::specs::Bare::alike, xr_defs::specs::Results::unless))]
+#[tactic(auto, unfolding(crate::specs::Outlined::alike, xr_defs::specs::Results::unless))]
 fn alike(alloc: Global, content: &Value) -> Result<Elements, CallFault>
     ensures answers { (nodes : List Node) → Answers (λ e. e) result (alike (meaning nodes content.now)) }
     ensures are { (nodes : List Node) → IfOk result (λ e. e ≡ elements_of (of.elements (meaning nodes content.now))) }
@@ -95,15 +53,48 @@ fn alike(alloc: Global, content: &Value) -> Result<Elements, CallFault>
     }
 }
 
-// The array that the values of the parameters say, whatever coordinates are among them.
-#[tactic(auto, unfolding(crate::specs::Bare::bare_of, xr_defs::specs::Results::unless))]
-fn bare_of(
+// The array of the elements of a nested list.
+#[tactic(auto, using(crate::proofs::Steps::follows_array), unfolding(crate::specs::Outlined::placed_in))]
+fn placed<R: Threads + Sync, C: Compute>(
+    rt: &R,
     alloc: Global,
-    plan: &mut Plan,
-    values: &[Option<&Value>],
+    cx: &mut Cx<C>,
+    content: &Value,
+    elements: &Elements,
+    dims: &[Name],
+    options: Options<'_>,
 ) -> Result<DataArray, CallFault>
-    ensures answers { (nodes : List Node) → AnswersArray plan.new result (bare_of (map (option_map (λ v. meaning nodes v.now)) values.now)) }
-    ensures grows { Grows plan.old plan.new }
+    requires sync { IsSync R.row }
+    requires inside { MatchOption options.coords ⊤ (λ v. IsValueIn cx.old.plan v.now) }
+    requires elements { elements.now ≡ elements_of (of.elements (meaning cx.old.plan content.now)) }
+    requires checked { (elements.now.whole || elements.now.truths) ≡ true }
+    requires nested { of.is_nested (length dims.now) (meaning cx.old.plan content.now) ≡ true }
+    requires distinct { are_distinct dims.now ≡ true }
+    requires names { list_all is_name dims.now ≡ true }
+    ensures told { FollowsArray cx.new.plan result (placed_in (C.declines cx.old.compute cx.old.plan) cx.old.plan (meaning cx.old.plan content.now) dims.now elements.now (option_map (λ v. meaning cx.old.plan v.now) options.entry.coords) (option_map (λ v. meaning cx.old.plan v.now) options.entry.name) (option_map (λ v. meaning cx.old.plan v.now) options.entry.dtype) (entries_held (option_map (λ v. v.now) options.entry.coords))) }
+    ensures grows { Grows cx.old.plan cx.new.plan }
+    ensures room { IfOk result (λ b. AddsForAny cx.old.plan cx.new.plan (array_in cx.new.plan b)) }
+    ensures keeps { (nodes : List Node) (n : ℕ) → C.declines cx.new.compute nodes n ≡ C.declines cx.old.compute nodes n }
+{
+    let outline = outlined(rt, alloc, cx, content, elements, dims, options)?;
+    place(alloc, &mut cx.plan, outline, elements.cells.as_slice())
+}
+
+// The array that the values of the parameters say.
+#[tactic(auto, unfolding(crate::specs::Outlined::values_placed, xr_defs::specs::Results::unless))]
+fn from_values<R: Threads + Sync, C: Compute>(
+    rt: &R,
+    alloc: Global,
+    cx: &mut Cx<C>,
+    values: &[Option<&Value>],
+    coords: Option<&Value>,
+) -> Result<DataArray, CallFault>
+    requires sync { IsSync R.row }
+    requires inside { MatchOption coords ⊤ (λ v. IsValueIn cx.old.plan v.now) }
+    ensures told { FollowsArray cx.new.plan result (values_placed (C.declines cx.old.compute cx.old.plan) cx.old.plan (map (option_map (λ v. meaning cx.old.plan v.now)) values.now) (option_map (λ v. meaning cx.old.plan v.now) coords.entry) (entries_held (option_map (λ v. v.now) coords.entry))) }
+    ensures grows { Grows cx.old.plan cx.new.plan }
+    ensures room { IfOk result (λ b. AddsForAny cx.old.plan cx.new.plan (array_in cx.new.plan b)) }
+    ensures keeps { (nodes : List Node) (n : ℕ) → C.declines cx.new.compute nodes n ≡ C.declines cx.old.compute nodes n }
 {
     let content = required_at(values, 0)?;
     let dimensions = required_at(values, 1)?;
@@ -114,48 +105,59 @@ fn bare_of(
         return Err(CallFault::Refused(Fault::BadArgument));
     }
     let options = Options {
+        coords,
         name: option(values, 3),
         dtype: option(values, 4),
     };
-    built(alloc, plan, content, &elements, dims, options)
+    placed(rt, alloc, cx, content, &elements, dims, options)
 }
 
-// The same where no coordinates are among them.
-#[tactic(auto, unfolding(crate::specs::Bare::without_coords, xr_defs::specs::Results::unless))]
-fn without_coords(
+// The array that a call says.
+fn told_written<R: Threads + Sync, C: Compute>(
+    rt: &R,
     alloc: Global,
-    plan: &mut Plan,
-    values: &[Option<&Value>],
-) -> Result<DataArray, CallFault>
-    ensures answers { (nodes : List Node) → AnswersArray plan.new result (without_coords (map (option_map (λ v. meaning nodes v.now)) values.now)) }
-    ensures grows { Grows plan.old plan.new }
-{
-    if option(values, 2).is_some() {
-        return Err(CallFault::Refused(Fault::BadArgument));
-    }
-    bare_of(alloc, plan, values)
-}
-
-/// `DataArray(data, dims, name, dtype)`: the array of a nested list, as deep as there are dimensions. Coordinates are not taken so
-/// far.
-///
-/// # Errors
-/// `BadArgument` for arguments that don't fit the parameters, for coordinates, or without `data` or `dims`; `WrongKind` for an element
-/// that is no number or truth value, or both kinds together; `WrongKind` and `BadArgument` of the dimensions; `BadArgument` for lists
-/// that are nested too deep or not deep enough; then those of the name and of the kind; `WrongKind` for elements of another kind;
-/// `SizeConflict` for lists of one depth that aren't as long; `DoesNotFit` for a number that isn't one of the kind; then `TooLarge`.
-pub fn array_written_out(
-    alloc: Global,
-    plan: &mut Plan,
+    cx: &mut Cx<C>,
     args: &Args,
 ) -> Result<DataArray, CallFault>
-    ensures answers { (nodes : List Node) → AnswersArray plan.new result (calls.array_written_out (given nodes args.now)) }
-    ensures grows { Grows plan.old plan.new }
+    requires sync { IsSync R.row }
+    requires given { AreArgsIn cx.old.plan args.now }
+    ensures told { FollowsArray cx.new.plan result (array_written (C.declines cx.old.compute cx.old.plan) cx.old.plan args.now) }
+    ensures grows { Grows cx.old.plan cx.new.plan }
+    ensures room { IfOk result (λ b. AddsForAny cx.old.plan cx.new.plan (array_in cx.new.plan b)) }
+    ensures keeps { (nodes : List Node) (n : ℕ) → C.declines cx.new.compute nodes n ≡ C.declines cx.old.compute nodes n }
 {
     let values = bound(
         alloc,
         ["data", "dims", "coords", "name", "dtype"].as_slice(),
         args,
     )?;
-    without_coords(alloc, plan, values.as_slice())
+    from_values(rt, alloc, cx, values.as_slice(), coords_argument(args))
+}
+
+/// `DataArray(data, dims, coords, name, dtype)`: the array of a nested list, as deep as there are dimensions, with the labels and
+/// coordinates of a table. The cells of an array that becomes one are computed in its turn, and where its node is declined that is
+/// the answer.
+///
+/// # Errors
+/// The first of: `BadArgument` for arguments that don't fit the parameters, or without `data` or `dims`; `WrongKind` for an element that
+/// is no number or truth value, or both kinds together; `WrongKind` and `BadArgument` of the dimensions; `BadArgument` for lists that
+/// are nested too deep or not deep enough; those of the entries, of the name and of the kind; `WrongKind` for elements of another
+/// kind; `NoDimension` for an entry whose dimension isn't there; `SizeConflict` for lists of one depth that aren't as long;
+/// `SizeConflict` and `NotAligned` for an entry that doesn't fit its place; `DoesNotFit` for an element that is none of the kind, and
+/// then for an entry's number that 64 bits don't hold; then `TooLarge`.
+pub fn array_written_out<R: Threads + Sync, C: Compute>(
+    rt: &R,
+    alloc: Global,
+    cx: &mut Cx<C>,
+    args: &Args,
+) -> Result<DataArray, CallFault>
+    requires sync { IsSync R.row }
+    requires given { AreArgsIn cx.old.plan args.now }
+    ensures told { FollowsArray cx.new.plan result (array_written (C.declines cx.old.compute cx.old.plan) cx.old.plan args.now) }
+    ensures undeclined { ((n : ℕ) → C.declines cx.old.compute cx.old.plan n ≡ false) → AnswersArray cx.new.plan result (data_array (given cx.old.plan args.now)) }
+    ensures grows { Grows cx.old.plan cx.new.plan }
+    ensures room { IfOk result (λ b. AddsForAny cx.old.plan cx.new.plan (array_in cx.new.plan b)) }
+    ensures keeps { (nodes : List Node) (n : ℕ) → C.declines cx.new.compute nodes n ≡ C.declines cx.old.compute nodes n }
+{
+    told_written(rt, alloc, cx, args)
 }

@@ -15,5 +15,6 @@ pub mod OneByOne
 pub mod Products
 pub mod Readable
 pub mod Ranges
+pub mod Rooms
 pub mod Rows
 pub mod Spelled

@@ -109,7 +109,7 @@ pub coordinates_more : (f : CdfFile) (m : Bool) (vs : List CdfVar) (i : ℕ) (v 
 coordinates_more f m vs i v lt is =
     sym (ap (coordinates_in f m) (take_more vs i v lt ∙ ap (λ w. take i vs ++ w ∷ []) (sym is)) ∙ coordinates_append f m (take i vs) (v ∷ []))
 
-data_more : (f : CdfFile) (vs : List CdfVar) (i : ℕ) (v : CdfVar) → i < length vs → v ≡ get_or vs i v → data_in f (take i vs) ++ data_in f (v ∷ []) ≡ data_in f (take (i + 1) vs)
+pub data_more : (f : CdfFile) (vs : List CdfVar) (i : ℕ) (v : CdfVar) → i < length vs → v ≡ get_or vs i v → data_in f (take i vs) ++ data_in f (v ∷ []) ≡ data_in f (take (i + 1) vs)
 data_more f vs i v lt is = sym (ap (data_in f) (take_more vs i v lt ∙ ap (λ w. take i vs ++ w ∷ []) (sym is)) ∙ data_append f (take i vs) (v ∷ []))
 
 -- ---- names that stay different

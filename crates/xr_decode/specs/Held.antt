@@ -1,12 +1,13 @@
 -- Data variables of a file as they are kept, with their cells in nodes of a plan.
-use Rattle.std.specs.Prelude.{◌≡◌, ◌||◌, Bool, not, List, [], ◌∷◌, filter, is_some, ⊤}
-use Rattle.std.specs.List.{list_any}
+use Rattle.std.specs.Prelude.{◌≡◌, ◌||◌, ℕ, Bool, not, List, [], ◌∷◌, filter, is_some, ⊤}
+use Rattle.std.specs.List.{list_any, sum_by}
 use Rattle.xr_types.specs.declared.axis.Axis.{Axis}
 use Rattle.xr_defs.specs.declared.node.Node.{Node}
 use Rattle.xr_defs.specs.declared.file.CdfVar.{CdfVar}
 use Rattle.xr_defs.specs.declared.file.CdfFile.{CdfFile}
 use Rattle.xr_defs.specs.declared.value.Coord.{Coord}
 use Rattle.xr_defs.specs.Classic.{among}
+use Rattle.xr_defs.specs.Points.{size}
 use Rattle.xr_defs.specs.Values.{axis_names}
 use Rattle.xr_defs.specs.Decoding.{is_coordinate, others_in, var_shape, variable_of}
 use Rattle.xr_values.specs.declared.variable.Variable.{Variable}
@@ -16,6 +17,10 @@ use Rattle.xr_values.specs.Variables.{with_variables}
 -- the variables that become data variables
 abbrev pub data_in : CdfFile → List CdfVar → List CdfVar
 data_in f vs = filter (λ v. not (is_coordinate f v)) (others_in f vs)
+
+-- the cells of those
+abbrev pub data_cells : CdfFile → List CdfVar → ℕ
+data_cells f vs = sum_by (λ (v : CdfVar). size (var_shape f v)) (data_in f vs)
 
 -- it stands for the file's variable, and its node has the variable's shape
 pub record IsHeld (f : CdfFile) (mask : Bool) (nodes : List Node) (x : Variable) (v : CdfVar) : Type 0 where

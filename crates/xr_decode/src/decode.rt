@@ -1,9 +1,11 @@
 //! From a file, or from its bytes, to a dataset.
-ghost use Rattle.std.specs.Prelude.{◌≡◌};
+ghost use Rattle.std.specs.Prelude.{◌≡◌, ◌∷◌, [], IfOk};
 ghost use Rattle.xr_defs.specs.Decoding.{set_of};
 ghost use Rattle.xr_defs.specs.Calls.{set_in};
+ghost use Rattle.xr_defs.specs.Room.{of_set, room, AddsAtMost};
 ghost use Rattle.plan_core.specs.Plans.{Grows};
 ghost use Rattle.xr_values.specs.Answers.{AnswersSet};
+ghost use Rattle.xr_values.specs.Stands.{dataset_in};
 ghost use Rattle.xr_decode.specs.Readable.{IsReadable};
 
 use crate::stored::Source;
@@ -31,6 +33,7 @@ pub fn decode_into(
     requires { IsReadable file.now }
     ensures answers { AnswersSet plan.new result (set_of file.now mask) }
     ensures grows { Grows plan.old plan.new }
+    ensures room { IfOk result (λ s. AddsAtMost plan.old plan.new (room (of_set (dataset_in plan.new s) ∷ []))) }
 {
     let source = Source::of_file(alloc, file)?;
     set_of(alloc, plan, &source, mask)
@@ -46,6 +49,7 @@ pub fn decode_set<C: Compute>(
     requires { IsReadable file.now }
     ensures answers { AnswersSet cx.new.plan result (set_of file.now mask) }
     ensures grows { Grows cx.old.plan cx.new.plan }
+    ensures room { IfOk result (λ s. AddsAtMost cx.old.plan cx.new.plan (room (of_set (dataset_in cx.new.plan s) ∷ []))) }
 {
     decode_into(alloc, &mut cx.plan, file, mask)
 }
@@ -64,6 +68,7 @@ pub fn decode_bytes(
 ) -> Result<Dataset, CallFault>
     ensures answers { AnswersSet plan.new result (set_in bytes.now mask) }
     ensures grows { Grows plan.old plan.new }
+    ensures room { IfOk result (λ s. AddsAtMost plan.old plan.new (room (of_set (dataset_in plan.new s) ∷ []))) }
 {
     match read_head(alloc, bytes) {
         Ok(head) => {

@@ -2,8 +2,9 @@
 ghost use Rattle.std.specs.Prelude.{◌≡◌, ◌++◌, ◌∷◌, [], All, length, map, true, IfOk, OnOk};
 ghost use Rattle.xr_defs.specs.Canonical.{are_distinct};
 ghost use Rattle.xr_defs.specs.Decoding.{axis_in, coordinate_names, others_in, coordinates_in};
+ghost use Rattle.xr_defs.specs.Room.{AddsAtMost};
 ghost use Rattle.plan_core.specs.Plans.{Grows};
-ghost use Rattle.xr_decode.specs.Held.{data_in, AreHeld, Adds};
+ghost use Rattle.xr_decode.specs.Held.{data_cells, data_in, AreHeld, Adds};
 ghost use Rattle.xr_decode.specs.Listed.{Lists};
 ghost use Rattle.xr_decode.specs.Readable.{IsReadableVar, var_names};
 
@@ -84,6 +85,7 @@ pub(crate) fn coordinates_in(
 }
 
 // Adds a variable that is a data variable, and its cells to the plan.
+#[tactic(auto, using(plan_core::proofs::Added::adds_none))]
 fn add_variable(
     alloc: Global,
     plan: &mut Plan,
@@ -97,6 +99,7 @@ fn add_variable(
     requires listed { Lists listed.now (coordinate_names source.now) }
     ensures grows { Grows plan.old plan.new }
     ensures adds { OnOk result (Adds source.now mask plan.new kept.old kept.new var.now) }
+    ensures cells { OnOk result (AddsAtMost plan.old plan.new (data_cells source.now (var.now ∷ []))) }
 {
     match role_of(alloc, source, listed, var)? {
         Role::Data => {
@@ -122,6 +125,7 @@ pub(crate) fn variables_in(
     requires listed { Lists listed.now (coordinate_names source.now) }
     ensures grows { Grows plan.old plan.new }
     ensures held { IfOk result (λ xs. AreHeld source.now mask plan.new xs (data_in source.now vars.now)) }
+    ensures cells { IfOk result (λ xs. AddsAtMost plan.old plan.new (data_cells source.now vars.now)) }
 {
     let mut kept = Variables::new(alloc);
     for var in vars {

@@ -17,8 +17,8 @@ pub(crate) fn is_skipped(source: &Source<'_>, var: &StoredVar<'_>) -> bool
     let ids = var.dims();
     let numrecs = source.numrecs();
     !is_whole(var.kind())
-        || !are_different(ids)
         || ids.len() > MOST_DIMENSIONS
+        || !are_different(ids)
         || size(dims, numrecs, ids) > MOST_CELLS
         || has_long(dims, numrecs, ids)
 }

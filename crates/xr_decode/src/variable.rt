@@ -1,6 +1,8 @@
 //! Data variables.
 ghost use Rattle.std.specs.Prelude.{◌≡◌, false, true, IfOk};
 ghost use Rattle.xr_defs.specs.Decoding.{is_skipped, var_shape, variable_of};
+ghost use Rattle.xr_defs.specs.Points.{size};
+ghost use Rattle.xr_defs.specs.Room.{AddsAtMost};
 ghost use Rattle.plan_core.specs.Plans.{Grows};
 ghost use Rattle.xr_values.specs.Stands.{variable_in, IsNodeOf};
 ghost use Rattle.xr_decode.specs.Readable.{IsReadableVar};
@@ -27,6 +29,7 @@ pub(crate) fn variable_of(
     ensures grows { Grows plan.old plan.new }
     ensures variable { IfOk result (λ x. variable_in plan.new x ≡ variable_of source.now mask var.now) }
     ensures node { IfOk result (λ x. IsNodeOf plan.new x.node (var_shape source.now var.now) x.kind) }
+    ensures cells { IfOk result (λ x. AddsAtMost plan.old plan.new (size (var_shape source.now var.now))) }
 {
     var.holds_bytes();
     let parts = decode_var(alloc, source, var, mask)?;

@@ -1,8 +1,9 @@
 //! The dataset of a file.
-ghost use Rattle.std.specs.Prelude.{◌≡◌, ◌≤◌, length, IfOk};
+ghost use Rattle.std.specs.Prelude.{◌≡◌, ◌≤◌, ◌∷◌, [], length, IfOk};
 ghost use Rattle.xr_defs.specs.Limits.{most_variables};
 ghost use Rattle.xr_defs.specs.Decoding.{coordinate_names, others_in, set_of};
 ghost use Rattle.xr_defs.specs.Decoding as decoding;
+ghost use Rattle.xr_defs.specs.Room.{of_set, room, AddsAtMost};
 ghost use Rattle.plan_core.specs.Plans.{Grows};
 ghost use Rattle.xr_values.specs.Answers.{AnswersSet};
 ghost use Rattle.xr_values.specs.Stands.{dataset_in, IsDatasetIn};
@@ -34,6 +35,7 @@ fn whole_set(
     ensures grows { Grows plan.old plan.new }
     ensures set { IfOk result (λ s. dataset_in plan.new s ≡ decoding.dataset_in source.now mask) }
     ensures formed { IfOk result (λ s. IsDatasetIn plan.new s) }
+    ensures room { IfOk result (λ s. AddsAtMost plan.old plan.new (room (of_set (dataset_in plan.new s) ∷ []))) }
 {
     let vars = source.vars();
     let axes = axes_of(alloc, source)?;
@@ -59,6 +61,7 @@ pub(crate) fn set_of(
 ) -> Result<Dataset, CallFault>
     ensures answers { AnswersSet plan.new result (set_of source.now mask) }
     ensures grows { Grows plan.old plan.new }
+    ensures room { IfOk result (λ s. AddsAtMost plan.old plan.new (room (of_set (dataset_in plan.new s) ∷ []))) }
 {
     let listed = coordinate_names(alloc, source)?;
     if count_of(alloc, source, &listed, source.vars())? > MOST_VARIABLES {

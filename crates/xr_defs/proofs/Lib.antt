@@ -1,4 +1,5 @@
 pub mod Trees
+pub mod Spans
 mod FileExamples
 pub mod FormatLaws
 pub mod HeaderLaws

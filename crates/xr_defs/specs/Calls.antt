@@ -1,10 +1,10 @@
 -- The functions and methods of scripts. Every call is checked in one order: it exists, its receiver is of a kind that has it, its arguments fit its signature, each argument has its
 -- kind and then its value, the dimensions that it names exist, and then come its own checks.
-use Rattle.std.specs.Prelude.{ℕ, ℤ, Bool, true, false, not, List, [], ◌∷◌, ◌++◌, Option, Some, None, is_none, Result, Ok, Err, if◌then◌else◌, codes}
+use Rattle.std.specs.Prelude.{ℕ, ℤ, Bool, true, false, not, List, [], ◌∷◌, ◌++◌, Option, Some, None, Result, Ok, Err, if◌then◌else◌, codes}
 use Rattle.std.specs.Str.{bytes_eq}
 use Rattle.std.specs.Fmt.{signed_decimal}
 use Rattle.xr_types.specs.declared.fault.Fault.{Fault}
-use Rattle.xr_types.specs.declared.fault.Fault.TheVariants.{UnknownName, WrongKind, BadArgument, WouldPromote, NoFile, BadFile}
+use Rattle.xr_types.specs.declared.fault.Fault.TheVariants.{UnknownName, WrongKind, WouldPromote, NoFile, BadFile}
 use Rattle.xr_types.specs.declared.kind.DType.{DType}
 use Rattle.xr_types.specs.declared.kind.DType.TheVariants as kinds
 use Rattle.xr_defs.specs.declared.write_options.WriteOptions.{WriteOptions}
@@ -19,7 +19,7 @@ use Rattle.xr_defs.specs.Encoding.{file_of}
 use Rattle.xr_defs.specs.Printing.{array_text, set_text}
 use Rattle.xr_defs.specs.Selecting.{isel_array, isel_set}
 use Rattle.xr_defs.specs.Parts.{picked_of_set, picked_of_array, renamed, to_dataset, own_name, as_set, attrs_assigned, transposed, dropped_of_array, dropped_of_set}
-use Rattle.xr_defs.specs.Building.{bound, argument, option, required, parameters, data_array, assigned_to_array, assigned_to_set}
+use Rattle.xr_defs.specs.Building.{bound, argument, option, required, data_array, assigned_to_array, assigned_to_set}
 use Rattle.xr_defs.specs.Meanings.{Value, Truth, Number, Text, Array, Set, Given}
 use Rattle.xr_defs.specs.Arguments.{wrong, unfit, as_text, slice_given, nothing_given}
 
@@ -46,14 +46,10 @@ open_asked g =
 unfoldable pub open_dataset : Files → Given → Result Dataset Fault
 open_dataset files g = open_asked g >>= λ w. opened_set files w.0 w.1
 
--- DataArray(data, dims, name, dtype): no coordinates are given with an array so far
-unfoldable pub array_written_out : Given → Result DataArray Fault
-array_written_out g = bound parameters g >>= λ vs. unless (is_none (option vs 2)) BadArgument >>= λ u. data_array g
-
 -- a function that takes no file
 unfoldable pub function_over_values : List ℕ → Given → Result Value Fault
 function_over_values name g =
-    if bytes_eq name (codes "DataArray") then (array_written_out g >>= λ a. Ok (Array a))
+    if bytes_eq name (codes "DataArray") then (data_array g >>= λ a. Ok (Array a))
     else if bytes_eq name (codes "slice") then slice_given g
     else Err (UnknownName name)
 

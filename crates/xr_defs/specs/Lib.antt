@@ -29,6 +29,7 @@ pub mod Decoding
 pub mod Printing
 pub mod Encoding
 pub mod Nodes
+pub mod Room
 pub mod Selecting
 pub mod Parts
 pub mod Building

@@ -14,9 +14,13 @@ pub mod Took
 pub mod Listed
 pub mod Bounds
 pub mod Steps
+pub mod Spanned
 pub mod Selects
 pub mod VarsAt
 pub mod SetSelected
 pub mod TookVars
 pub mod TookSet
+pub mod VarCells
+pub mod SetSpanned
 pub mod TestArrays
+pub mod Rooms

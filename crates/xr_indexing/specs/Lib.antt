@@ -2,4 +2,5 @@ pub mod Choices
 pub mod Unbounded
 pub mod Labels
 pub mod Selections
+pub mod Taken
 pub mod Limits

@@ -1,6 +1,8 @@
 //! Arrays at positions of one dimension.
 ghost use Rattle.std.specs.Prelude.{◌≡◌, ◌<◌, length, All, IfOk, get_or};
-ghost use Rattle.xr_defs.specs.Values.{no_axis};
+ghost use Rattle.xr_defs.specs.Points.{size};
+ghost use Rattle.xr_defs.specs.Room.{AddsAtMost};
+ghost use Rattle.xr_defs.specs.Values.{no_axis, shape_over};
 ghost use Rattle.xr_defs.specs.Selecting as of;
 ghost use Rattle.plan_core.specs.Plans.{Grows};
 ghost use Rattle.xr_values.specs.Stands.{array_in};
@@ -31,6 +33,7 @@ fn one_of(
     requires inside { p < (get_or a.axes k no_axis).size }
     ensures left { IfOk result (IsLeft plan.new (of.array_at (array_in plan.old a) k (of.One p))) }
     ensures grows { Grows plan.old plan.new }
+    ensures cells { IfOk result (λ b. AddsAtMost plan.old plan.new (size (shape_over b.axes))) }
 {
     let mut axes = a.axes.into_vec();
     let axis = axes.remove(k);
@@ -69,6 +72,7 @@ fn several_of(
     requires inside { All (λ p. p < (get_or a.axes k no_axis).size) ps.now }
     ensures left { IfOk result (IsLeft plan.new (of.array_at (array_in plan.old a) k (of.Several ps.now))) }
     ensures grows { Grows plan.old plan.new }
+    ensures cells { IfOk result (λ b. AddsAtMost plan.old plan.new (size (shape_over b.axes))) }
 {
     if ps.len() > u32::MAX as usize {
         return Err(NoMemory);
@@ -119,6 +123,7 @@ pub fn array_at(
     requires inside { IsChoice (get_or a.axes k no_axis).size choice.now }
     ensures left { IfOk result (IsLeft plan.new (of.array_at (array_in plan.old a) k (choice_in choice.now))) }
     ensures grows { Grows plan.old plan.new }
+    ensures cells { IfOk result (λ b. AddsAtMost plan.old plan.new (size (shape_over b.axes))) }
 {
     match choice {
         Choice::One(p) => one_of(alloc, plan, a, k, *p),

@@ -1,13 +1,18 @@
 //! `isel(x=..)` of an array: the array at positions of the dimensions that are named.
-ghost use Rattle.std.specs.Prelude.{◌≡◌, List, map, IfOk};
+ghost use Rattle.std.specs.Prelude.{◌≡◌, true, List, [], ◌∷◌, map, IfOk};
 ghost use Rattle.xr_defs.specs.declared.node.Node.{Node};
+ghost use Rattle.xr_defs.specs.Canonical.{are_distinct};
+ghost use Rattle.xr_defs.specs.Points.{size};
+ghost use Rattle.xr_defs.specs.Room.{of_array, room, AddsAtMost};
 ghost use Rattle.xr_defs.specs.Selecting as of;
+ghost use Rattle.xr_defs.specs.Values.{shape_over};
 ghost use Rattle.plan_core.specs.Plans.{Grows};
 ghost use Rattle.xr_values.specs.Answers.{AnswersArray};
 ghost use Rattle.xr_values.specs.Meaning.{given, with_key};
 ghost use Rattle.xr_values.specs.Stands.{array_in, IsArrayIn};
 ghost use Rattle.xr_indexing.specs.Unbounded.{IsLongArrayIn};
 ghost use Rattle.xr_indexing.specs.Selections.{AnswersLeft};
+ghost use Rattle.xr_indexing.specs.Taken.{array_cells, keywords};
 
 use crate::array_at::array_at;
 use crate::axes::position_of;
@@ -20,7 +25,7 @@ use xr_types::{CallFault, DeepCopy, Fault, TextBytes};
 use xr_values::{Args, DataArray, Value};
 
 // The array at the positions of one argument.
-#[tactic(auto, using(crate::proofs::Took::counted_at, crate::proofs::Took::axis_here), unfolding(xr_defs::specs::Selecting::array_selected))]
+#[tactic(auto, using(crate::proofs::Took::counted_at, crate::proofs::Took::axis_here, plan_core::proofs::Added::adds_none), unfolding(xr_defs::specs::Selecting::array_selected))]
 fn select(
     alloc: Global,
     plan: &mut Plan,
@@ -30,6 +35,7 @@ fn select(
     requires { IsLongArrayIn plan.old a }
     ensures answers { (nodes : List Node) → AnswersLeft plan.new result (of.array_selected (array_in plan.old a) (with_key nodes argument.now)) }
     ensures grows { Grows plan.old plan.new }
+    ensures cells { IfOk result (λ b. AddsAtMost plan.old plan.new (size (shape_over b.axes))) }
 {
     let selector = as_selector(alloc, &argument.1)?;
     match position_of(a.axes.as_slice(), &argument.0) {
@@ -51,6 +57,7 @@ fn select_each(
     requires { IsLongArrayIn plan.old a }
     ensures answers { (nodes : List Node) → AnswersLeft plan.new result (of.array_each_selected (array_in plan.old a) (map (with_key nodes) keyed.now)) }
     ensures grows { Grows plan.old plan.new }
+    ensures cells { IfOk result (λ b. (nodes : List Node) → AddsAtMost plan.old plan.new (array_cells (array_in plan.old a) (map (with_key nodes) keyed.now))) }
 {
     let mut a = a;
     for argument in keyed {
@@ -75,6 +82,7 @@ pub fn isel_array(
     requires { IsArrayIn plan.old on.now }
     ensures answers { (nodes : List Node) → AnswersArray plan.new result (of.isel_array (array_in plan.old on.now) (given nodes args.now)) }
     ensures grows { Grows plan.old plan.new }
+    ensures room { are_distinct (keywords args.now) ≡ true → IfOk result (λ b. AddsAtMost plan.old plan.new (room (of_array (array_in plan.old on.now) ∷ of_array (array_in plan.new b) ∷ []))) }
 {
     if args.plain.len() != 0 {
         return Err(CallFault::Refused(Fault::BadArgument));

@@ -1,13 +1,16 @@
 //! `isel(x=..)` of a dataset: the dataset at positions of the dimensions that are named.
-ghost use Rattle.std.specs.Prelude.{◌≡◌, List, map, IfOk};
+ghost use Rattle.std.specs.Prelude.{◌≡◌, ◌*◌, true, List, [], ◌∷◌, map, IfOk};
 ghost use Rattle.xr_defs.specs.declared.node.Node.{Node};
+ghost use Rattle.xr_defs.specs.Canonical.{are_distinct};
+ghost use Rattle.xr_defs.specs.Room.{of_set, room, span, AddsAtMost};
 ghost use Rattle.xr_defs.specs.Selecting as of;
 ghost use Rattle.plan_core.specs.Plans.{Grows};
 ghost use Rattle.xr_values.specs.Answers.{AnswersSet};
 ghost use Rattle.xr_values.specs.Meaning.{given, with_key};
-ghost use Rattle.xr_values.specs.Stands.{dataset_in, IsDatasetIn};
+ghost use Rattle.xr_values.specs.Stands.{dataset_in, variable_in, IsDatasetIn};
 ghost use Rattle.xr_indexing.specs.Unbounded.{IsLongSetIn};
 ghost use Rattle.xr_indexing.specs.Selections.{AnswersSetLeft};
+ghost use Rattle.xr_indexing.specs.Taken.{dims_in, how_many, keywords, set_cells};
 
 use crate::axes::position_of;
 use crate::choice::choice_of;
@@ -20,7 +23,7 @@ use xr_types::{CallFault, DeepCopy, Fault, TextBytes};
 use xr_values::{Args, Dataset, Value};
 
 // The dataset at the positions of one argument.
-#[tactic(auto, using(crate::proofs::TookSet::counted_in_set, crate::proofs::Took::axis_here), unfolding(xr_defs::specs::Selecting::set_selected))]
+#[tactic(auto, using(crate::proofs::TookSet::counted_in_set, crate::proofs::Took::axis_here, plan_core::proofs::Added::adds_none), unfolding(xr_defs::specs::Selecting::set_selected))]
 fn select(
     alloc: Global,
     plan: &mut Plan,
@@ -30,6 +33,7 @@ fn select(
     requires { IsLongSetIn plan.old s }
     ensures answers { (nodes : List Node) → AnswersSetLeft plan.new result (of.set_selected (dataset_in plan.old s) (with_key nodes argument.now)) }
     ensures grows { Grows plan.old plan.new }
+    ensures cells { IfOk result (λ t. AddsAtMost plan.old plan.new (how_many argument.now.0 (dims_in (map (variable_in plan.old) s.vars)) * span t.axes)) }
 {
     let selector = as_selector(alloc, &argument.1)?;
     match position_of(s.axes.as_slice(), &argument.0) {
@@ -51,6 +55,7 @@ fn select_each(
     requires { IsLongSetIn plan.old s }
     ensures answers { (nodes : List Node) → AnswersSetLeft plan.new result (of.set_each_selected (dataset_in plan.old s) (map (with_key nodes) keyed.now)) }
     ensures grows { Grows plan.old plan.new }
+    ensures cells { IfOk result (λ t. (nodes : List Node) → AddsAtMost plan.old plan.new (set_cells (dataset_in plan.old s) (map (with_key nodes) keyed.now))) }
 {
     let mut s = s;
     for argument in keyed {
@@ -76,6 +81,7 @@ pub fn isel_set(
     requires { IsDatasetIn plan.old on.now }
     ensures answers { (nodes : List Node) → AnswersSet plan.new result (of.isel_set (dataset_in plan.old on.now) (given nodes args.now)) }
     ensures grows { Grows plan.old plan.new }
+    ensures room { are_distinct (keywords args.now) ≡ true → IfOk result (λ t. AddsAtMost plan.old plan.new (room (of_set (dataset_in plan.old on.now) ∷ of_set (dataset_in plan.new t) ∷ []))) }
 {
     if args.plain.len() != 0 {
         return Err(CallFault::Refused(Fault::BadArgument));

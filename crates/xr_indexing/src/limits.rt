@@ -34,10 +34,7 @@ fn is_within(axes: &[Axis]) -> bool
 fn are_within(coords: &[Coord]) -> bool
     ensures { result ≡ of.are_within coords.now }
 {
-    match coords {
-        [] => true,
-        [coord, rest @ ..] => is_within(coord.axes.as_slice()) && are_within(rest),
-    }
+    coords.iter().all(|coord| is_within(coord.axes.as_slice()))
 }
 
 /// Whether an array and its coordinates have no more positions and cells than they may have.
@@ -66,10 +63,9 @@ fn is_variable_within(axes: &[Axis], variable: &Variable) -> bool
 fn are_vars_within(axes: &[Axis], variables: &[Variable]) -> bool
     ensures { result ≡ are_vars_within axes.now variables.now }
 {
-    match variables {
-        [] => true,
-        [variable, rest @ ..] => is_variable_within(axes, variable) && are_vars_within(axes, rest),
-    }
+    variables
+        .iter()
+        .all(|variable| is_variable_within(axes, variable))
 }
 
 /// Whether a dataset, its coordinates and its variables have no more positions and cells than they may have, and whether there

@@ -1,12 +1,14 @@
 //! Datasets at positions of one dimension.
-ghost use Rattle.std.specs.Prelude.{◌<◌, length, IfOk, get_or};
+ghost use Rattle.std.specs.Prelude.{◌<◌, ◌*◌, length, map, IfOk, get_or};
+ghost use Rattle.xr_defs.specs.Room.{span, AddsAtMost};
 ghost use Rattle.xr_defs.specs.Values.{no_axis};
 ghost use Rattle.xr_defs.specs.Selecting as of;
 ghost use Rattle.plan_core.specs.Plans.{Grows};
-ghost use Rattle.xr_values.specs.Stands.{dataset_in};
+ghost use Rattle.xr_values.specs.Stands.{dataset_in, variable_in};
 ghost use Rattle.xr_indexing.specs.Choices.{choice_in, IsChoice};
 ghost use Rattle.xr_indexing.specs.Unbounded.{IsLongSetIn};
 ghost use Rattle.xr_indexing.specs.Selections.{IsSetLeft};
+ghost use Rattle.xr_indexing.specs.Taken.{dims_in, how_many};
 
 use crate::choice::Choice;
 use crate::frame::frame_at;
@@ -29,6 +31,7 @@ pub fn set_at(
     requires inside { IsChoice (get_or s.axes k no_axis).size choice.now }
     ensures left { IfOk result (IsSetLeft plan.new (of.set_at (dataset_in plan.old s) k (choice_in choice.now))) }
     ensures grows { Grows plan.old plan.new }
+    ensures cells { IfOk result (λ t. AddsAtMost plan.old plan.new (how_many (get_or s.axes k no_axis).name (dims_in (map (variable_in plan.old) s.vars)) * span t.axes)) }
 {
     let frame = frame_at(alloc, &s.axes, k, choice, s.coords.as_slice())?;
     let along = Along {

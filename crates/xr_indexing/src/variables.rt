@@ -3,12 +3,14 @@ ghost use Rattle.std.specs.Prelude.{◌≡◌, ◌<◌, length, map, true, All, 
 ghost use Rattle.xr_defs.specs.Nodes.{without};
 ghost use Rattle.xr_defs.specs.Canonical.{are_distinct};
 ghost use Rattle.xr_defs.specs.Values.{axis_names, chosen_axes, no_axis};
+ghost use Rattle.xr_defs.specs.Room.{AddsAtMost};
 ghost use Rattle.xr_defs.specs.Selecting as of;
 ghost use Rattle.plan_core.specs.Plans.{Grows};
 ghost use Rattle.xr_values.specs.Stands.{variable_in};
 ghost use Rattle.xr_values.specs.Variables.{names_of};
 ghost use Rattle.xr_indexing.specs.Choices.{choice_in, IsChoice};
 ghost use Rattle.xr_indexing.specs.Selections.{AreVarsLeft, IsVariableOf, IsVarLeft};
+ghost use Rattle.xr_indexing.specs.Taken.{dims_in, total, variable_cells};
 
 use crate::choice::Choice;
 use crate::coords::sources;
@@ -62,6 +64,7 @@ fn one_along(
     requires inside { p < (get_or along.now.axes.now along.now.k no_axis).size }
     ensures left { IfOk result (IsVarLeft plan.new (without along.now.k along.now.axes.now) (of.variable_at along.now.axes.now (get_or along.now.axes.now along.now.k no_axis).name (of.One p) (variable_in plan.old v))) }
     ensures grows { Grows plan.old plan.new }
+    ensures cells { IfOk result (λ w. AddsAtMost plan.old plan.new (variable_cells along.now.axes.now along.now.k (of.One p) v.dims)) }
 {
     if points_named_with(along.axes, v.dims.as_slice(), j, 1) > MOST_NODE_CELLS {
         return Err(NoMemory);
@@ -101,6 +104,7 @@ fn several_along(
     requires inside { All (λ p. p < (get_or along.now.axes.now along.now.k no_axis).size) ps.now }
     ensures left { IfOk result (IsVarLeft plan.new (chosen_axes along.now.axes.now along.now.k ps.now) (of.variable_at along.now.axes.now (get_or along.now.axes.now along.now.k no_axis).name (of.Several ps.now) (variable_in plan.old v))) }
     ensures grows { Grows plan.old plan.new }
+    ensures cells { IfOk result (λ w. AddsAtMost plan.old plan.new (variable_cells along.now.axes.now along.now.k (of.Several ps.now) v.dims)) }
 {
     let from = sources(alloc, ps)?;
     let count = from.as_slice().len() as u64;
@@ -125,6 +129,7 @@ fn several_along(
 }
 
 // A variable that has the axis is selected by it; another stays.
+#[tactic(auto, using(plan_core::proofs::Added::adds_none))]
 fn variable_at(
     alloc: Global,
     plan: &mut Plan,
@@ -138,6 +143,7 @@ fn variable_at(
     requires variable { IsVariableOf plan.old along.now.axes.now v.now }
     ensures left { IfOk result (IsVarLeft plan.new (of.axes_at along.now.axes.now along.now.k (choice_in choice.now)) (of.variable_at along.now.axes.now (get_or along.now.axes.now along.now.k no_axis).name (choice_in choice.now) (variable_in plan.old v.now))) }
     ensures grows { Grows plan.old plan.new }
+    ensures cells { IfOk result (λ w. AddsAtMost plan.old plan.new (variable_cells along.now.axes.now along.now.k (choice_in choice.now) v.now.dims)) }
 {
     let v = v.deep_copy(alloc)?;
     match place_of(v.dims.as_slice(), &along.axes[along.k].name) {
@@ -165,6 +171,7 @@ pub fn variables_at(
     requires names { are_distinct (names_of variables.now) ≡ true }
     ensures left { IfOk result (AreVarsLeft plan.new (of.axes_at along.now.axes.now along.now.k (choice_in choice.now)) (map (of.variable_at along.now.axes.now (get_or along.now.axes.now along.now.k no_axis).name (choice_in choice.now)) (map (variable_in plan.old) variables.now))) }
     ensures grows { Grows plan.old plan.new }
+    ensures cells { IfOk result (λ vs. AddsAtMost plan.old plan.new (total (variable_cells along.now.axes.now along.now.k (choice_in choice.now)) (dims_in (map (variable_in plan.old) variables.now)))) }
 {
     let mut out = Variables::new(alloc);
     for v in variables {

@@ -1,5 +1,5 @@
 -- An array is well formed as a dataset of one variable, and only the count of its coordinates can pass a limit.
-use Rattle.std.proofs.Common.{◌≡◌, ◌<◌, ◌≤◌, ◌+◌, ℕ, Bool, true, false, not, ◌||◌, ◌&&◌, List, [], ◌∷◌, ◌++◌, length, map, filter, Option, Some, None, is_some, Result, Ok, Err, All, MatchOption, refl, sym, ap, subst, ◌∙◌, arith}
+use Rattle.std.proofs.Common.{◌≡◌, ◌<◌, ◌≤◌, ◌+◌, ℕ, Bool, true, false, not, ◌||◌, ◌&&◌, List, [], ◌∷◌, ◌++◌, length, map, is_some, Ok, Err, refl, sym, ap, subst, ◌∙◌, arith}
 use Rattle.std.specs.Prelude.{nat_le}
 use Rattle.std.specs.Str.{bytes_eq}
 use Rattle.std.specs.List.{AllByRecursion, list_all, list_any}
@@ -8,7 +8,6 @@ use Rattle.std.proofs.lemmas.List.Elements.{All-nil, All-cons}
 use Rattle.xr_types.specs.declared.axis.Axis.{Axis}
 use Rattle.xr_types.specs.declared.fault.Fault.{Fault}
 use Rattle.xr_types.specs.declared.fault.Fault.TheVariants.{DuplicateName, TooLarge}
-use Rattle.xr_types.specs.declared.kind.DType.{DType}
 use Rattle.xr_defs.specs.declared.node.Node.{Node}
 use Rattle.xr_defs.specs.declared.value.Content.{Content}
 use Rattle.xr_defs.specs.declared.value.Content.TheVariants as contents
@@ -21,16 +20,16 @@ use Rattle.xr_defs.specs.Results.{◌>>=◌, unless}
 use Rattle.xr_defs.specs.Values as of
 use Rattle.xr_defs.specs.Values.{axis_names, shape_over}
 use Rattle.xr_defs.specs.Selecting.{are_within, axis_called, check_set, is_within}
-use Rattle.xr_defs.specs.Parts.{as_set, as_variable, is_taken, set_of_array}
+use Rattle.xr_defs.specs.Parts.{as_set, is_taken, set_of_array}
 use Rattle.xr_values.specs.declared.data_array.DataArray.{DataArray}
 use Rattle.xr_values.specs.declared.variable.Variable.{Variable}
 use Rattle.xr_values.specs.declared.dataset.Dataset.{Dataset}
-use Rattle.xr_values.specs.WellFormed.{AreCells, AreAttributes, IsContent, IsCoordinate, IsDataArray, IsDimension, IsVariable, labelled, names_of}
+use Rattle.xr_values.specs.WellFormed.{AreCells, IsContent, IsCoordinate, IsDataArray, IsDimension, labelled, names_of}
 use Rattle.xr_values.specs.Stands.{array_in, dataset_in, IsArrayIn, IsDatasetIn, IsNodeOf, shape_named}
 use Rattle.xr_values.proofs.Named.{bytes_eq_swap}
 use Rattle.xr_parts.specs.Frames.{IsThere}
 use Rattle.xr_parts.specs.Single.{set_of, variable_of}
-use Rattle.xr_parts.proofs.Words.{AreAbsent, AreApart, absent_left, distinct_left, each_weaker, join, split}
+use Rattle.xr_parts.proofs.Words.{absent_left, distinct_left, each_weaker, join, split}
 use Rattle.xr_parts.proofs.Axes.{called_holds, names_there, own_axes, sizes_again, the_axes}
 
 -- ---- sizes within the limits

@@ -1,8 +1,8 @@
 -- Axes by their names, and the coordinates over them.
-use Rattle.std.proofs.Common.{◌≡◌, ◌+◌, ℕ, Bool, true, false, ◌||◌, ◌&&◌, cond, List, [], ◌∷◌, ◌++◌, map, filter, get_or, Option, Some, None, refl, sym, ap, subst, ◌∙◌, add-one, inl, inr}
+use Rattle.std.proofs.Common.{◌≡◌, ◌+◌, ℕ, Bool, true, false, ◌||◌, cond, List, [], ◌∷◌, ◌++◌, map, get_or, Option, Some, None, refl, sym, ap, subst, ◌∙◌, add-one, inl, inr}
 use Rattle.std.specs.Prelude.{option_map, if◌then◌else◌}
 use Rattle.std.specs.Str.{bytes_eq}
-use Rattle.std.specs.List.{AllByRecursion, list_all}
+use Rattle.std.specs.List.{AllByRecursion}
 use Rattle.std.proofs.lemmas.Bool.{and_parts, or_parts, cases_Bool, cond-true, cond-false}
 use Rattle.xr_types.specs.declared.axis.Axis.{Axis}
 use Rattle.xr_defs.specs.declared.value.Coord.{Coord}
@@ -12,10 +12,10 @@ use Rattle.xr_defs.specs.Values.{axis_names, axis_position, no_axis, shape_over}
 use Rattle.xr_defs.specs.Selecting.{axis_called}
 use Rattle.xr_defs.specs.Encoding.{coords_over, all_among}
 use Rattle.xr_defs.specs.Parts.{axes_called}
-use Rattle.xr_values.specs.WellFormed.{AreDimensions, IsCoordinate, IsDimension, names_of}
+use Rattle.xr_values.specs.WellFormed.{IsCoordinate, IsDimension, names_of}
 use Rattle.xr_values.proofs.Named.{bytes_eq_swap}
 use Rattle.xr_parts.specs.Frames.{IsThere, IsFrame}
-use Rattle.xr_parts.proofs.Words.{AreAmong, AreAbsent, AreApart, absent_among, distinct_left, distinct_parts, each_left, each_map, each_named_left, each_weaker, itself, join, other_name, same_text, split}
+use Rattle.xr_parts.proofs.Words.{AreAmong, AreAbsent, absent_among, distinct_left, distinct_parts, each_left, each_named_left, each_weaker, itself, join, same_text, split}
 
 -- ---- the axis of a name
 

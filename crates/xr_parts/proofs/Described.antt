@@ -1,6 +1,6 @@
 -- Attributes that are put in the place of those of their name, or behind.
-use Rattle.std.proofs.Common.{◌≡◌, ◌<◌, ◌+◌, ◌/◌, ℕ, suc, get_or, drop, drop-cons, Bool, true, false, List, [], ◌∷◌, ◌++◌, ℤ, length, map, set, Option, Some, None, Result, Ok, Err, refl, sym, ap, subst, ◌∙◌, arith, add-one}
-use Rattle.std.specs.Prelude.{option_map, if◌then◌else◌, IfOk}
+use Rattle.std.proofs.Common.{◌≡◌, ◌<◌, ◌+◌, ◌/◌, ℕ, get_or, drop, Bool, true, false, List, [], ◌∷◌, ◌++◌, ℤ, length, map, set, Option, Some, None, Result, Ok, Err, refl, sym, ap, subst, ◌∙◌, arith}
+use Rattle.std.specs.Prelude.{if◌then◌else◌, IfOk}
 use Rattle.std.specs.Str.{bytes_eq}
 use Rattle.std.specs.List.{AllByRecursion}
 use Rattle.xr_types.specs.declared.attr.Attr.{Attr}
@@ -24,29 +24,25 @@ use Rattle.xr_values.specs.Meaning.{meaning, with_key}
 use Rattle.xr_arguments.proofs.Variants.{is_number}
 use Rattle.xr_values.specs.WellFormed.{AreAttributes, IsAttribute}
 use Rattle.xr_values.specs.Stands.{IsArrayIn, IsDatasetIn}
+use Rattle.xr_values.proofs.Places as places
+use Rattle.xr_values.proofs.Places.{put_over}
 use Rattle.xr_parts.specs.Numbered.{attr_place, in_four_bytes, number_attr}
 use Rattle.xr_parts.proofs.Words.{distinct_cons, distinct_parts, neither, same_text}
 use Rattle.std.proofs.lemmas.Bool.{or_parts}
 
 -- ---- by its place
 
-abbrev put_at : List Attr → Attr → Option ℕ → List Attr
-put_at attrs b o = elim o as (λ o. List Attr) [ None ↦ attrs ++ b ∷ [] | Some k ↦ set attrs k b ]
-
-pub by_place : (attrs : List Attr) (b : Attr) → with_attr attrs b ≡ put_at attrs b (attr_place attrs b.name)
-by_place [] b = refl
-by_place (a ∷ rest) b = by (bytes_eq a.name b.name) (attr_place rest b.name) (by_place rest b)
-  where
-    by : (t : Bool) (o : Option ℕ) → with_attr rest b ≡ put_at rest b o → (if t then b ∷ rest else (a ∷ with_attr rest b)) ≡ put_at (a ∷ rest) b (if t then Some 0 else option_map (λ n. n + 1) o)
-    by true o e = refl
-    by false None e = ap (λ t. a ∷ t) e
-    by false (Some k) e = ap (λ t. a ∷ t) e ∙ ap (λ n. set (a ∷ rest) n b) (sym (add-one k))
+by_name : (attrs : List Attr) (b : Attr) → with_attr attrs b ≡ put_over (λ (a : Attr). bytes_eq a.name b.name) attrs b
+by_name [] b = refl
+by_name (a ∷ rest) b = ap (λ t. if bytes_eq a.name b.name then b ∷ rest else (a ∷ t)) (by_name rest b)
 
 pub put_there : (attrs : List Attr) (b : Attr) (k : ℕ) → attr_place attrs b.name ≡ Some k → with_attr attrs b ≡ set attrs k b
-put_there attrs b k e = by_place attrs b ∙ ap (put_at attrs b) e
+unfolding attr_place
+put_there attrs b k e = by_name attrs b ∙ places.put_there _ attrs b k e
 
 pub put_behind : (attrs : List Attr) (b : Attr) → attr_place attrs b.name ≡ None → with_attr attrs b ≡ attrs ++ b ∷ []
-put_behind attrs b e = by_place attrs b ∙ ap (put_at attrs b) e
+unfolding attr_place
+put_behind attrs b e = by_name attrs b ∙ places.put_behind _ attrs b e
 
 -- ---- the attribute of a value
 
@@ -159,8 +155,7 @@ pub attr_on : (nodes : List Node) (attrs new : List Attr) (a : Attr) (ks : List 
 unfolding each_attr
 attr_on nodes attrs new a ks i k total lt is here put so_far =
     let rest = map (with_key nodes) (drop (i + 1) ks) in
-    let opened : drop i ks ≡ k ∷ drop (i + 1) ks = drop-cons ks i k lt ∙ ap (λ h. h ∷ drop (suc i) ks) (sym is) ∙ ap (λ n. k ∷ drop n ks) (sym (add-one i)) in
-    ap (λ attrs. each_attr attrs rest) put ∙ sym (ap (λ r. r >>= λ b. each_attr (with_attr attrs b) rest) here) ∙ ap (λ t. each_attr attrs (map (with_key nodes) t)) (sym opened) ∙ so_far
+    ap (λ attrs. each_attr attrs rest) put ∙ sym (ap (λ r. r >>= λ b. each_attr (with_attr attrs b) rest) here) ∙ ap (λ t. each_attr attrs (map (with_key nodes) t)) (sym (places.from_place ks i k lt is)) ∙ so_far
 
 pub stay_put : (attrs new : List Attr) (a : Attr) → new ≡ with_attr attrs a → AreAttributes attrs → IsAttribute a → AreAttributes new
 stay_put attrs new a put are is = subst AreAttributes (sym put) (stay_attributes attrs a are is)

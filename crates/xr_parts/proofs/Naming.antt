@@ -1,5 +1,5 @@
 -- Names that aren't empty, and an array under another name.
-use Rattle.std.proofs.Common.{◌≡◌, ◌==◌, ◌≢◌, ℕ, true, false, not, List, length, Option, Some, None, Result, Ok, Err, sym, ap, subst, ◌∙◌}
+use Rattle.std.proofs.Common.{◌≡◌, ◌==◌, ◌≢◌, ℕ, true, false, not, List, length, Option, Some, None, Result, Ok, sym, ap, subst}
 use Rattle.std.specs.Prelude.{codes}
 use Rattle.std.specs.Str.{is_utf8, IsUtf8}
 use Rattle.std.proofs.lemmas.Bool.{and_from, cond-false, cond-true, ne_eqb, not_from_false}

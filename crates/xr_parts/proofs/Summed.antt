@@ -1,7 +1,7 @@
 -- The node that folds every axis by the sum has the sum over all dimensions.
-use Rattle.std.proofs.Common.{◌≡◌, ◌<◌, ◌≤◌, ◌+◌, ◌^◌, ◌==◌, ℕ, ℤ, zero, suc, pos, ◌+ℤ◌, Bool, true, List, [], ◌∷◌, length, map, filter, replicate, Option, Some, None, is_some, false, All, refl, sym, ap, subst, ◌∙◌, arith, lit≤}
-use Rattle.std.specs.Prelude.{flat_map, fold}
-use Rattle.std.specs.List.{AllByRecursion, range_with_len}
+use Rattle.std.proofs.Common.{◌≡◌, ◌≤◌, ◌+◌, ◌^◌, ℕ, ℤ, pos, ◌+ℤ◌, true, List, [], ◌∷◌, length, filter, replicate, Option, Some, None, is_some, false, refl, sym, ap, subst, ◌∙◌, arith, lit≤}
+use Rattle.std.specs.Prelude.{fold}
+use Rattle.std.specs.List.{AllByRecursion}
 use Rattle.std.proofs.lemmas.Bool.{eqb-true}
 use Rattle.std.proofs.lemmas.Int.{ints}
 use Rattle.std.proofs.lemmas.List.{length-map, length-replicate, nil_from_length}
@@ -23,7 +23,7 @@ use Rattle.xr_defs.specs.Points.{size, tab}
 use Rattle.xr_defs.specs.Folds as folds
 use Rattle.xr_defs.specs.Folds.{numbered, numbers, fold_of}
 use Rattle.xr_defs.specs.Numbers.{sum_of}
-use Rattle.xr_defs.specs.Nodes.{folded, gathered, kept, input_of, IsNode, node_value, value, values, Pushes}
+use Rattle.xr_defs.specs.Nodes.{folded, gathered, kept, input_of, IsNode, node_value, values, Pushes}
 use Rattle.xr_defs.specs.Values as of
 use Rattle.xr_defs.specs.Values.{array_of, axis_names, is_scalar, present, shape_over, total}
 use Rattle.plan_core.proofs.Tabs.{flat_same, tab_read}

@@ -87,22 +87,12 @@ fn attr_given(alloc: Global, argument: &(TextBytes, Value)) -> Result<Attr, Call
     attr_of(alloc, &argument.0, &argument.1)
 }
 
+#[tactic(auto, unfolding(crate::specs::Numbered::attr_place))]
 fn attr_place(attrs: &[Attr], name: &TextBytes) -> Option<usize>
     ensures place { result ≡ attr_place attrs.now name.now }
     ensures inside { IfSome result (λ k. k < length attrs.now) }
 {
-    match attrs {
-        [] => None,
-        [attr, rest @ ..] => {
-            if attr.name.is(name) {
-                return Some(0);
-            }
-            match attr_place(rest, name) {
-                Some(n) => Some(n + 1),
-                None => None,
-            }
-        }
-    }
+    attrs.iter().position(|attr| attr.name.is(name))
 }
 
 // In the place of the one of its name, or at the end.

@@ -1,10 +1,11 @@
 //! `transpose(d1, d2)`: dimensions in another order.
-ghost use Rattle.std.specs.Prelude.{◌≡◌, ◌==◌, ◌<◌, List, length, map, get_or, All, IfOk, IfSome};
+ghost use Rattle.std.specs.Prelude.{◌≡◌, ◌==◌, ◌<◌, List, [], ◌∷◌, length, map, get_or, All, IfOk, IfSome};
 ghost use Rattle.std.specs.List.{list_any};
 ghost use Rattle.xr_defs.specs.declared.node.Node.{Node};
 ghost use Rattle.xr_defs.specs.Results.{Answers};
 ghost use Rattle.xr_defs.specs.Values.{axis_position, no_axis};
 ghost use Rattle.xr_defs.specs.Parts as of;
+ghost use Rattle.xr_defs.specs.Room.{of_array, room, AddsAtMost, AddsForAny};
 ghost use Rattle.plan_core.specs.Plans.{Grows};
 ghost use Rattle.xr_values.specs.Answers.{AnswersArray};
 ghost use Rattle.xr_values.specs.Meaning.{given};
@@ -132,6 +133,7 @@ fn in_order(
     requires order { IsArrangement (length on.now.axes) order.now }
     ensures moved { IfOk result (IsMovedTo plan.new order.now (array_in plan.old on.now)) }
     ensures grows { Grows plan.old plan.new }
+    ensures room { IfOk result (λ b. AddsForAny plan.old plan.new (array_in plan.new b)) }
 {
     let axes = axes_in(alloc, on.axes.as_slice(), order)?;
     let mut array = on.deep_copy(alloc)?;
@@ -160,6 +162,7 @@ pub fn transposed(
     requires { IsArrayIn plan.old on.now }
     ensures answers { (nodes : List Node) → AnswersArray plan.new result (of.transposed (array_in plan.old on.now) (given nodes args.now)) }
     ensures grows { Grows plan.old plan.new }
+    ensures room { IfOk result (λ b. AddsAtMost plan.old plan.new (room (of_array (array_in plan.old on.now) ∷ of_array (array_in plan.new b) ∷ []))) }
 {
     if args.keyed.len() != 0 {
         return Err(CallFault::Refused(Fault::BadArgument));

@@ -1,5 +1,5 @@
 //! `x["v"]`: a data variable or a coordinate as an array.
-ghost use Rattle.std.specs.Prelude.{◌≡◌, ◌∷◌, [], false, true, length, map, find, IfOk, MatchOption, Some, option_copied, if◌then◌else◌};
+ghost use Rattle.std.specs.Prelude.{◌≡◌, ◌∷◌, [], false, true, length, map, find, IfOk, IfSome, MatchOption, Some, option_copied, if◌then◌else◌};
 ghost use Rattle.std.specs.Str.{bytes_eq};
 ghost use Rattle.std.specs.List.{All, AllByRecursion};
 ghost use Rattle.xr_types.specs.Kinds.{InRange};
@@ -13,6 +13,7 @@ ghost use Rattle.xr_defs.specs.Arrays.{Array};
 ghost use Rattle.xr_defs.specs.Building.{is_integer_kind};
 ghost use Rattle.xr_defs.specs.Classic.{among};
 ghost use Rattle.xr_defs.specs.Encoding.{all_among, coords_over};
+ghost use Rattle.xr_defs.specs.Room.{of_array, of_set, room, AddsAtMost, AddsForAny};
 ghost use Rattle.xr_defs.specs.Selecting.{axis_called};
 ghost use Rattle.xr_defs.specs.Values.{axis_names};
 ghost use Rattle.xr_defs.specs.Parts as of;
@@ -176,6 +177,7 @@ fn cells_as_array(
     requires content { coord.now.content ≡ contents.Cells cells.now masked }
     ensures array { IfOk result (IsMade plan.new (cells_array frame.now.coords.now coord.now cells.now masked)) }
     ensures grows { Grows plan.old plan.new }
+    ensures room { IfOk result (λ b. AddsForAny plan.old plan.new (array_in plan.new b)) }
 {
     let name = coord.name.deep_copy(alloc)?;
     let axes = coord.axes.deep_copy(alloc)?;
@@ -205,6 +207,7 @@ fn coord_as_array(
     requires formed { IsCoordinate frame.now.axes.now coord.now }
     ensures answers { AnswersArray plan.new result (of.coord_as_array frame.now.coords.now coord.now) }
     ensures grows { Grows plan.old plan.new }
+    ensures room { IfOk result (λ b. AddsForAny plan.old plan.new (array_in plan.new b)) }
 {
     match &coord.content {
         Content::Cells(cells, masked) => {
@@ -240,6 +243,7 @@ fn numbers_as_array(
     requires attrs { AreAttributes attrs.now }
     ensures array { IfOk result (IsMade plan.new (labels_array frame.now.coords.now axis.now attrs.now kind numbers.now)) }
     ensures grows { Grows plan.old plan.new }
+    ensures room { IfOk result (λ b. AddsForAny plan.old plan.new (array_in plan.new b)) }
 {
     let name = axis.name.deep_copy(alloc)?;
     let axes = alone(alloc, axis)?;
@@ -271,6 +275,7 @@ fn list_as_array(
     requires index { IsIndex axis.now.size labels.now }
     ensures answers { AnswersArray plan.new result (of.list_as_array frame.now.coords.now axis.now labels.now labels.now.list) }
     ensures grows { Grows plan.old plan.new }
+    ensures room { IfOk result (λ b. AddsForAny plan.old plan.new (array_in plan.new b)) }
 {
     match &labels.list {
         LabelList::Numbers(kind, numbers) => {
@@ -291,6 +296,7 @@ fn index_as_array(
     requires formed { IsDimension axis.now }
     ensures answers { AnswersArray plan.new result (of.index_as_array frame.now.coords.now axis.now) }
     ensures grows { Grows plan.old plan.new }
+    ensures room { IfOk result (λ b. AddsForAny plan.old plan.new (array_in plan.new b)) }
 {
     match &axis.labels {
         Some(labels) => list_as_array(alloc, plan, frame, axis, labels),
@@ -301,31 +307,14 @@ fn index_as_array(
 fn find_coord<'a>(coords: &'a [Coord], name: &TextBytes) -> Option<&'a Coord>
     ensures { option_copied result ≡ find (λ (c : Other). bytes_eq c.name name.now) coords.now }
 {
-    match coords {
-        [] => None,
-        [coord, rest @ ..] => {
-            if coord.name.is(name) {
-                Some(coord)
-            } else {
-                find_coord(rest, name)
-            }
-        }
-    }
+    coords.iter().find(|coord| coord.name.is(name))
 }
 
 fn find_index<'a>(axes: &'a [Axis], name: &TextBytes) -> Option<&'a Axis>
     ensures { option_copied result ≡ find (of.is_labelled_as name.now) axes.now }
 {
-    match axes {
-        [] => None,
-        [axis, rest @ ..] => {
-            if axis.name.is(name) && axis.labels.is_some() {
-                Some(axis)
-            } else {
-                find_index(rest, name)
-            }
-        }
-    }
+    axes.iter()
+        .find(|axis| axis.name.is(name) && axis.labels.is_some())
 }
 
 // The index of a name, where there is one.
@@ -338,6 +327,7 @@ fn index_of(
     requires { IsFrame frame.now.axes.now frame.now.coords.now }
     ensures answers { AnswersFound plan.new result (index_found frame.now.axes.now frame.now.coords.now name.now) }
     ensures grows { Grows plan.old plan.new }
+    ensures room { IfOk result (λ found. IfSome found (λ b. AddsForAny plan.old plan.new (array_in plan.new b))) }
 {
     match find_index(frame.axes, name) {
         Some(axis) => Ok(Some(index_as_array(alloc, plan, frame, axis)?)),
@@ -355,6 +345,7 @@ fn coordinate_of(
     requires { IsFrame frame.now.axes.now frame.now.coords.now }
     ensures answers { AnswersFound plan.new result (of.coordinate_of frame.now.axes.now frame.now.coords.now name.now) }
     ensures grows { Grows plan.old plan.new }
+    ensures room { IfOk result (λ found. IfSome found (λ b. AddsForAny plan.old plan.new (array_in plan.new b))) }
 {
     match find_coord(frame.coords, name) {
         Some(coord) => Ok(Some(coord_as_array(alloc, plan, frame, coord)?)),
@@ -384,6 +375,7 @@ fn other_of_set(
     requires { IsDatasetIn plan.old on.now }
     ensures answers { AnswersArray plan.new result (other_part on.now name.now) }
     ensures grows { Grows plan.old plan.new }
+    ensures room { IfOk result (λ b. AddsForAny plan.old plan.new (array_in plan.new b)) }
 {
     let frame = Frame {
         axes: on.axes.as_slice(),
@@ -401,6 +393,7 @@ fn other_of_set(
 /// # Errors
 /// `WrongKind` for a coordinate or an index of texts or times; `NotLoaded` for a variable that wasn't loaded, and
 /// `NoVariable` for any other name.
+#[tactic(auto, using(plan_core::proofs::Added::adds_none))]
 pub fn pick_of_set(
     alloc: Global,
     plan: &mut Plan,
@@ -410,6 +403,7 @@ pub fn pick_of_set(
     requires { IsDatasetIn plan.old on.now }
     ensures answers { AnswersArray plan.new result (of.picked_of_set (dataset_in plan.old on.now) name.now) }
     ensures grows { Grows plan.old plan.new }
+    ensures room { IfOk result (λ b. AddsAtMost plan.old plan.new (room (of_set (dataset_in plan.old on.now) ∷ of_array (array_in plan.new b) ∷ []))) }
 {
     match on.vars.named(name) {
         Some(variable) => Ok(variable_as_array(alloc, on, variable)?),
@@ -432,6 +426,7 @@ pub fn pick_of_array(
     requires { IsArrayIn plan.old on.now }
     ensures answers { AnswersArray plan.new result (of.picked_of_array (array_in plan.old on.now) name.now) }
     ensures grows { Grows plan.old plan.new }
+    ensures room { IfOk result (λ b. AddsAtMost plan.old plan.new (room (of_array (array_in plan.old on.now) ∷ of_array (array_in plan.new b) ∷ []))) }
 {
     let frame = Frame {
         axes: on.axes.as_slice(),

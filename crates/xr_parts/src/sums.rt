@@ -1,9 +1,10 @@
 //! `sum()`: the sum of all cells.
-ghost use Rattle.std.specs.Prelude.{◌≡◌, List, filter, length, replicate, IfOk};
+ghost use Rattle.std.specs.Prelude.{◌≡◌, List, [], ◌∷◌, filter, length, replicate, IfOk};
 ghost use Rattle.xr_defs.specs.declared.node.Node.{Node};
 ghost use Rattle.xr_defs.specs.declared.node.Feed.TheVariants as feed;
 ghost use Rattle.xr_defs.specs.Values.{is_scalar};
 ghost use Rattle.xr_defs.specs.Calls as calls;
+ghost use Rattle.xr_defs.specs.Room.{of_array, room, AddsAtMost, AddsForAny};
 ghost use Rattle.plan_core.specs.Plans.{Grows};
 ghost use Rattle.xr_values.specs.Meaning.{given};
 ghost use Rattle.xr_values.specs.Stands.{array_in, IsArrayIn};
@@ -51,6 +52,7 @@ fn total(alloc: Global, plan: &mut Plan, on: &DataArray) -> Result<DataArray, No
     requires { IsArrayIn plan.old on.now }
     ensures total { IfOk result (IsTotal plan.new (array_in plan.old on.now)) }
     ensures grows { Grows plan.old plan.new }
+    ensures room { IfOk result (λ b. AddsForAny plan.old plan.new (array_in plan.new b)) }
 {
     let name = on.name.deep_copy(alloc)?;
     let coords = scalars(alloc, on)?;
@@ -87,6 +89,7 @@ pub fn sum_called(
     requires { IsArrayIn plan.old on.now }
     ensures answers { (nodes : List Node) → AnswersAsValue plan.new result (calls.sum_called (given nodes args.now) (array_in plan.old on.now)) }
     ensures grows { Grows plan.old plan.new }
+    ensures room { IfOk result (λ b. AddsAtMost plan.old plan.new (room (of_array (array_in plan.old on.now) ∷ of_array (array_in plan.new b) ∷ []))) }
 {
     if is_chars(on.kind) {
         return Err(CallFault::Refused(Fault::WrongKind));

@@ -264,12 +264,52 @@ fn opened(rt: HostRuntime) -> Result<(), Fail> {
 
 #[test]
 fn built(rt: HostRuntime) -> Result<(), Fail> {
-    let cases: [Case; 12] = [
+    let cases: [Case; 17] = [
         (
             &[],
-            "a = DataArray([10, 20, 30], dims=[\"x\"], coords={\"x\": [1, 2, 3]})",
+            "a = DataArray([10, 20, 30], dims=[\"x\"], coords={\"x\": [1, 2, 3]})\nprint(a.isel(x=-1))",
+            "DataArray - () int64\n30\ncoord x int64 (): 3\n",
             "",
-            "xrs: statement 1: F5 bad argument\n",
+            0,
+            &[],
+        ),
+        (
+            &[],
+            "a = DataArray([10, 20, 30], dims=[\"x\"], coords={\"x\": [1, 2, 3]})\nb = a.isel(x=3)",
+            "",
+            "xrs: statement 2: F7 position out of range\n",
+            1,
+            &[],
+        ),
+        (
+            &[],
+            "a = DataArray([10, 20, 30], dims=[\"x\"], coords={\"x\": [1, 2, 3]})\nb = a.isel(y=0)",
+            "",
+            "xrs: statement 2: F3 no dimension y\n",
+            1,
+            &[],
+        ),
+        (
+            &[],
+            "print(DataArray([10, 20], dims=[\"x\"]).assign_coords(x=[3, 5], n=7))",
+            "DataArray - (x: 2) int64\n10 20\ncoord x int64 (x): 3 5\ncoord n int64 (): 7\n",
+            "",
+            0,
+            &[],
+        ),
+        (
+            &[],
+            "print(DataArray([10, 20], dims=[\"x\"]).to_dataset(\"v\").assign_coords(x=[3, 5], n=7))",
+            "Dataset\ndim x: 2\ncoord x int64 (x): 3 5\ncoord n int64 (): 7\nvar v int64 (x)\n",
+            "",
+            0,
+            &[],
+        ),
+        (
+            &[],
+            "s = DataArray([10, 20], dims=[\"x\"]).to_dataset(\"v\").assign_coords(n=7, v=1)",
+            "",
+            "xrs: statement 1: F25 duplicate name\n",
             1,
             &[],
         ),

@@ -1,8 +1,10 @@
 pub mod Named
 pub mod Grown
+pub mod Rooms
 pub mod Trees
 pub mod Meaning
 pub mod Equal
 pub mod Carried
 pub mod Carries
 pub mod CarryExamples
+pub mod Places

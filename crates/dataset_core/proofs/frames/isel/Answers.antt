@@ -1,5 +1,8 @@
 use Rattle.xr_arguments.proofs.Inside.{held_array, held_set}
 use Rattle.dataset_core.proofs.Shared.{both_array, both_set}
+use Rattle.std.proofs.Common.{ap}
+use Rattle.xr_defs.specs.Room.{portions}
+use Rattle.dataset_core.proofs.Rooms.{room_on_array, room_on_set}
 use Rattle.dataset_core.proofs.frames.isel.Goals as goal
 
 pub isel_array-requires : goal.isel_array-requires
@@ -21,3 +24,15 @@ returns-in_ok-set_value-in-Set-clause-answers c =
     let r = c.in_ok-set_value-in-Set.field-0 in
     let told = c.in_ok-answer-in-Set.ensures.answers c.args.plan.now in
     (both_set c.args.plan.now new c.args.on.now r c.in-Set.set c.deref-in-Set.result.now c.in-Set.is c.deref-in-Set.ensures _ _ c.in_ok-answer-in-Set.answer told.0 (c.in_ok-set_value-in-Set.ensures.means new), c.in_ok-set_value-in-Set.ensures.inside new told.1)
+
+pub returns-in_ok-array_value-in-Array-clause-room : goal.returns-in_ok-array_value-in-Array-clause-room
+returns-in_ok-array_value-in-Array-clause-room c =
+    let new = c.isel_array.new.plan in
+    let r = c.in_ok-array_value-in-Array.field-0 in
+    λ distinct. room_on_array c.args.plan.now new c.args.on.now r _ (ap portions (c.in_ok-array_value-in-Array.ensures.means new)) c.in-Array.array c.deref.result.now c.in-Array.is c.deref.ensures (c.in_ok-answer-in-Array.ensures.room distinct)
+
+pub returns-in_ok-set_value-in-Set-clause-room : goal.returns-in_ok-set_value-in-Set-clause-room
+returns-in_ok-set_value-in-Set-clause-room c =
+    let new = c.isel_set.new.plan in
+    let r = c.in_ok-set_value-in-Set.field-0 in
+    λ distinct. room_on_set c.args.plan.now new c.args.on.now r _ (ap portions (c.in_ok-set_value-in-Set.ensures.means new)) c.in-Set.set c.deref-in-Set.result.now c.in-Set.is c.deref-in-Set.ensures (c.in_ok-answer-in-Set.ensures.room distinct)

@@ -3,6 +3,7 @@ use Rattle.xr_defs.specs.Arrays.{Array}
 use Rattle.xr_defs.specs.Nodes.{IsNode, values, Pushes}
 use Rattle.xr_defs.specs.declared.node.Node.TheVariants.{Source}
 use Rattle.xr_building.proofs.Standing.{fits, stands, within_is, value_is, limits_hold, answered}
+use Rattle.xr_values.proofs.Rooms.{node_added}
 use Rattle.xr_building.proofs.placed.place.Goals as goal
 
 pub push-requires : goal.push-requires
@@ -25,3 +26,6 @@ returns-clause-answers c =
     let pushes = subst (λ (a : Array). Pushes c.args.plan.now c.push.new.self (Source a) c.in_ok-node.node) is c.in_ok-node.ensures.ok in
     answered c.args.outline c.args.cells.now c.push.new.self c.in_ok-node.node c.new.result c.new.ensures (limits_hold c.args.outline c.args.cells.now rank within)
     (stands c.args.outline c.args.cells.now c.requires.frame c.requires.name c.requires.whole c.requires.range c.requires.seen rank within c.args.plan.now c.push.new.self c.in_ok-node.node pushes)
+
+pub returns-clause-room : goal.returns-clause-room
+returns-clause-room c = node_added c.args.plan.now c.push.new.self (Source c.in_ok-cells.cells) _ c.in_ok-node.ensures.ok (returns-clause-answers c).1

@@ -1,7 +1,9 @@
 use Rattle.std.proofs.Common.{◌≡◌, ◌∙◌, sym, ap}
 use Rattle.xr_defs.specs.Arrays.{Array}
+use Rattle.xr_defs.specs.Decoding.{var_shape}
 use Rattle.xr_defs.specs.Nodes.{values, value}
 use Rattle.xr_values.proofs.Grown.{pushed_value, pushed_node}
+use Rattle.xr_values.proofs.Rooms.{node_cells}
 use Rattle.xr_decode.proofs.Loaded.{loaded, fits_plan, source_means, variable_same}
 use Rattle.xr_decode.proofs.variable.variable_of.Goals as goal
 
@@ -31,3 +33,6 @@ returns-clause-node c =
       has_shape = node.has_shape ∙ ap (λ (x : Array). x.shape) c.in_ok-parts.ensures.array;
       has_kind = node.has_kind ∙ sym c.kind-kind.ensures;
     }
+
+pub returns-clause-cells : goal.returns-clause-cells
+returns-clause-cells c = node_cells c.args.plan.now c.push.new.self _ c.in_ok-node.node (var_shape c.args.source.now c.args.var.now) c.kind-kind.result c.in_ok-node.ensures.ok (returns-clause-node c)

@@ -3,8 +3,10 @@ use Rattle.xr_values.specs.declared.variable.Variable.{Variable}
 use Rattle.xr_defs.specs.declared.file.CdfVar.{CdfVar}
 use Rattle.xr_defs.specs.declared.value.Coord.{Coord}
 use Rattle.xr_defs.specs.Decoding.{coordinates_in, unlisted, skipped_in}
-use Rattle.xr_decode.specs.Held.{AreHeld, data_in, stays}
+use Rattle.xr_defs.specs.Room.{AddsAtMost}
+use Rattle.xr_decode.specs.Held.{AreHeld, data_cells, data_in, stays}
 use Rattle.xr_decode.proofs.HeldSets.{IsWhole, set_stands, set_in_plan}
+use Rattle.xr_decode.proofs.Rooms.{set_room}
 use Rattle.xr_decode.proofs.whole.whole_set.Goals as goal
 
 whole : (c : goal.After-kept_axes) → IsWhole c.args.source.now c.args.mask c.variables_in.new.plan
@@ -29,3 +31,9 @@ pub returns-clause-formed : goal.returns-clause-formed
 returns-clause-formed c =
     let f = c.args.source.now in
     set_in_plan f c.args.mask c.variables_in.new.plan _ c.vars-vars.ensures.readable c.vars-vars.ensures.bytes c.requires.few (whole c)
+
+pub returns-clause-room : goal.returns-clause-room
+returns-clause-room c =
+    let f = c.args.source.now in
+    set_room f c.args.mask c.args.plan.now c.variables_in.new.plan _ (whole c).held (returns-clause-formed c)
+    (subst (λ (vs : List CdfVar). AddsAtMost c.args.plan.now c.variables_in.new.plan (data_cells f vs)) c.vars-vars.ensures.vars c.in_ok-kept.ensures.cells)

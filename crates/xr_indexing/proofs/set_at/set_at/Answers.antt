@@ -7,6 +7,7 @@ use Rattle.xr_values.specs.Stands.{variable_in}
 use Rattle.xr_indexing.specs.Choices.{choice_in}
 use Rattle.xr_indexing.specs.Selections.{AreVarsLeft, IsVariableOf}
 use Rattle.xr_indexing.proofs.TookSet.{set_left, set_vars}
+use Rattle.xr_indexing.proofs.VarCells.{set_taken}
 use Rattle.xr_indexing.proofs.set_at.set_at.Goals as goal
 
 pub variables_at-requires-clause-variables : goal.variables_at-requires-clause-variables
@@ -21,3 +22,7 @@ returns-clause-left c =
     let left = subst (of_axes c.args.s.axes) c.as_slice-3.ensures.variables (subst (λ xs. of_axes xs c.as_slice-3.result.now) c.as_slice-2.ensures c.in_ok-vars.ensures.left) in
     set_left c.args.plan.now c.variables_at.new.plan c.args.s k c.args.choice.now c.in_ok-frame.frame.axes c.in_ok-frame.frame.coords c.in_ok-vars.vars c.requires.set c.requires.axis c.requires.inside c.in_ok-frame.ensures.counted c.in_ok-frame.ensures.axes
     (c.in_ok-frame.ensures.coords ∙ ap (set_coords_at (get_or c.args.s.axes k no_axis) choice) c.as_slice.ensures) left
+
+pub returns-clause-cells : goal.returns-clause-cells
+returns-clause-cells c =
+    set_taken c.args.plan.now c.variables_at.new.plan c.args.s _ c.args.k (choice_in c.args.choice.now) c.as_slice-2.result.now c.as_slice-3.result.now c.as_slice-2.ensures c.as_slice-3.ensures.variables (returns-clause-left c) c.in_ok-vars.ensures.cells

@@ -1,4 +1,6 @@
 use Rattle.xr_parts.proofs.Picked.{cells_fit, cells_made}
+use Rattle.xr_defs.specs.declared.node.Node.TheVariants.{Source}
+use Rattle.xr_values.proofs.Rooms.{node_added}
 use Rattle.xr_parts.proofs.picks.cells_as_array.Goals as goal
 
 pub push-requires : goal.push-requires
@@ -8,3 +10,6 @@ pub returns-clause-array : goal.returns-clause-array
 returns-clause-array c =
     cells_made c.args.plan.now c.push.new.self c.args.frame.now.axes.now c.args.frame.now.coords.now c.args.coord.now c.args.cells.now c.in_ok-source.source c.args.masked c.in_ok-node.node c.in_ok-name.name c.in_ok-axes.axes c.as_slice.result.now c.kind.result c.in_ok-attrs.attrs c.in_ok-coords.coords
     c.requires.frame c.requires.formed c.requires.content c.in_ok-source.ensures c.in_ok-node.ensures.ok c.in_ok-name.ensures c.in_ok-axes.ensures c.kind.ensures c.in_ok-attrs.ensures c.as_slice.ensures c.in_ok-coords.ensures
+
+pub returns-clause-room : goal.returns-clause-room
+returns-clause-room c = node_added c.args.plan.now c.push.new.self (Source c.in_ok-source.source) _ c.in_ok-node.ensures.ok (returns-clause-array c).1

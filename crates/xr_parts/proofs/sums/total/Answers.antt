@@ -3,6 +3,7 @@ use Rattle.xr_defs.specs.declared.node.Node.TheVariants.{Fold}
 use Rattle.xr_defs.specs.declared.operation.FoldKind.TheVariants.{Sum}
 use Rattle.xr_defs.specs.Nodes.{IsNode, values}
 use Rattle.xr_parts.proofs.Summed.{sum_fits, summed}
+use Rattle.xr_values.proofs.Rooms.{node_added}
 use Rattle.xr_parts.proofs.sums.total.Goals as goal
 
 pub push-requires : goal.push-requires
@@ -12,3 +13,6 @@ pub returns-clause-total : goal.returns-clause-total
 returns-clause-total c =
     summed c.args.plan.now c.args.on.now c.requires c.push.new.self c.in_ok-node.node c.in_ok-feeds.feeds c.in_ok-name.name c.new-axes.result c.new-attrs.result c.in_ok-coords.coords
     c.in_ok-feeds.ensures c.in_ok-name.ensures c.new-axes.ensures c.new-attrs.ensures c.in_ok-coords.ensures c.in_ok-node.ensures.ok
+
+pub returns-clause-room : goal.returns-clause-room
+returns-clause-room c = node_added c.args.plan.now c.push.new.self (Fold Sum c.args.on.now.node c.in_ok-feeds.feeds) _ c.in_ok-node.ensures.ok (returns-clause-total c).1

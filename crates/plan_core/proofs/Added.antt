@@ -1,0 +1,56 @@
+-- What nodes that are added to a plan come to.
+use Rattle.std.proofs.Common.{◌≡◌, ◌≤◌, ◌+◌, ◌*◌, ℕ, true, List, [], ◌∷◌, ◌++◌, ap, ◌∙◌, arith}
+use Rattle.std.proofs.lemmas.List.{append-nil}
+use Rattle.std.proofs.lemmas.Nat.{mul-le}
+use Rattle.std.proofs.lemmas.List.Sums.{sum_by-append}
+use Rattle.std.specs.List.{sum_by}
+use Rattle.xr_defs.specs.Points.{size}
+use Rattle.xr_defs.specs.Arrays.{Array}
+use Rattle.xr_defs.specs.Nodes.{node_value, value, values, Pushes}
+use Rattle.xr_defs.specs.declared.node.Node.{Node}
+use Rattle.xr_defs.specs.Canonical.{are_distinct}
+use Rattle.xr_defs.specs.Values.{DataArray, axis_names, shape_over}
+use Rattle.xr_defs.specs.Room.{cells_of, AddsAtMost, AddsForAny, Portion, count, of_array, room, span}
+use Rattle.xr_defs.proofs.Spans.{back_among, greatest_both, points_above}
+use Rattle.plan_core.proofs.Plans.{values-append}
+
+-- one node comes to the cells of its value
+pub one_added : (old new : List Node) (node : Node) (place : ℕ) → Pushes old new node place → cells_of new ≡ cells_of old + size (value new place).shape
+unfolding cells_of
+one_added old new node place p =
+    let cells = λ (a : Array). size a.shape in
+    let v : Array = node_value (values old) node in
+    let both : values new ≡ values old ++ v ∷ [] = ap values p.added ∙ values-append [] old node in
+    let total : sum_by cells (values new) ≡ sum_by cells (values old) + sum_by cells (v ∷ []) = ap (sum_by cells) both ∙ sum_by-append cells (values old) (v ∷ []) in
+    let one : size (value new place).shape ≡ cells v = ap cells p.stands in
+    omega arith
+
+pub adds_one : (old new : List Node) (node : Node) (place most : ℕ) → Pushes old new node place → size (value new place).shape ≤ most → AddsAtMost old new most
+adds_one old new node place most p le = let is = one_added old new node place p in record { cells = omega arith }
+
+pub adds_none : (nodes : List Node) (most : ℕ) → AddsAtMost nodes nodes most
+adds_none nodes most = record { cells = omega arith }
+
+pub adds_both : (a b c : List Node) (m n : ℕ) → AddsAtMost a b m → AddsAtMost b c n → AddsAtMost a c (m + n)
+adds_both a b c m n first second = let one = first.cells in let two = second.cells in record { cells = omega arith }
+
+pub adds_up : (old new : List Node) (m n : ℕ) → m ≤ n → AddsAtMost old new m → AddsAtMost old new n
+adds_up old new m n le adds = let one = adds.cells in record { cells = omega arith }
+
+-- ---- what the operands and the result leave room for
+
+-- so many spans
+pub in_room : (old new : List Node) (p q : Portion) (m : ℕ) → m ≤ 256 * (count p + count q) → AddsAtMost old new (m * span (p.axes ++ q.axes)) → AddsAtMost old new (room (p ∷ q ∷ []))
+unfolding room
+in_room old new p q m le adds =
+    let k = sum_by count (p ∷ q ∷ []) in
+    let most : k ≡ count p + count q = omega arith in
+    let all : span (p.axes ++ (q.axes ++ [])) ≡ span (p.axes ++ q.axes) = ap (λ xs. span (p.axes ++ xs)) (append-nil q.axes) in
+    adds_up old new (m * span (p.axes ++ q.axes)) (256 * k * span (p.axes ++ (q.axes ++ []))) (mul-le m (span (p.axes ++ q.axes)) (256 * k) (span (p.axes ++ (q.axes ++ []))) (omega arith) (omega arith)) adds
+
+-- one node that is the array's
+pub array_added : (old new : List Node) (node : Node) (place : ℕ) (b : DataArray) → Pushes old new node place → (value new place).shape ≡ shape_over b.axes → are_distinct (axis_names b.axes) ≡ true → AddsForAny old new b
+array_added old new node place b pushes shape d p =
+    let le = points_above b.axes (p.axes ++ b.axes) d (back_among p.axes b.axes) (λ n. let both = greatest_both p.axes b.axes n in omega arith) in
+    let cells : size (value new place).shape ≡ size (shape_over b.axes) = ap size shape in
+    in_room old new p (of_array b) 1 (omega arith) (adds_one old new node place (1 * span (p.axes ++ b.axes)) pushes (omega arith))

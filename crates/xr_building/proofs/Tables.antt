@@ -1,0 +1,163 @@
+-- The entries of the argument `coords`.
+use Rattle.std.proofs.Common.{Bor, All, subst, ◌≡◌, ℕ, Bool, true, false, List, [], ◌∷◌, ◌++◌, length, map, drop, get_or, Option, Some, None, Result, Ok, Err, refl, sym, ap, ◌∙◌, append_assoc}
+use Rattle.std.proofs.lemmas.List.{append-nil}
+use Rattle.std.specs.Prelude.{option_map, find, codes, if◌then◌else◌, Vec, MatchOption, ⊤}
+use Rattle.std.specs.declared.alloc.Global.{Global}
+use Rattle.std.proofs.lemmas.List.Elements.{All-head, All-tail}
+use Rattle.std.specs.Str.{bytes_eq}
+use Rattle.std.specs.List.{list_all}
+use Rattle.xr_types.specs.declared.text.TextBytes.{TextBytes}
+use Rattle.xr_types.specs.declared.axis.Axis.{Axis}
+use Rattle.xr_types.specs.declared.fault.Fault.{Fault}
+use Rattle.xr_types.specs.declared.fault.Fault.TheVariants.{BadArgument}
+use Rattle.xr_types.specs.declared.fault.CallFault.{CallFault}
+use Rattle.xr_types.specs.declared.fault.CallFault.TheVariants.{Refused, Declined, NoMemory}
+use Rattle.xr_defs.specs.declared.node.Node.{Node}
+use Rattle.xr_defs.specs.Meanings.{Value, Entries, NoEntry, Entry, Absent, Missing, Truth, Number, Text, Sequence, Table, Slice, Array, Set}
+use Rattle.xr_defs.specs.Results.{◌>>=◌, unless, all_of, Answers}
+use Rattle.xr_defs.specs.Building.{argument, bound, check_entry, entries_given, entries_in, given_value, is_named_entry, keyword, parameters}
+use Rattle.xr_values.specs.declared.value.Value.{Value as Held}
+use Rattle.xr_values.specs.declared.value.Value.TheVariants as variants
+use Rattle.xr_values.specs.declared.value.Value.TheOpen as held
+use Rattle.xr_values.specs.declared.value.Value.TheOpen.{Value-F}
+use Rattle.xr_values.specs.declared.value.Value.TheViews.{out-Value, roll-Value, out-roll-Value}
+use Rattle.xr_values.specs.declared.args.Args.{Args}
+use Rattle.xr_values.specs.Meaning.{meaning, layer, with_key, entries, all_entries, given, AreArgsIn, IsEntryIn, IsLayerIn, IsValueIn}
+use Rattle.xr_values.proofs.Meaning.{meaning_out, value_out}
+use Rattle.xr_arguments.proofs.Variants.{is_table}
+use Rattle.xr_building.specs.Outlined.{table_entries}
+use Rattle.xr_building.specs.Written.{coords_held, entries_held, entries_of, keyword_held}
+
+listed_on : (es : Entries) (kvs : List (List ℕ × Value)) → entries_in (entries es kvs) ≡ entries_in es ++ kvs
+listed_on es [] = sym (append-nil (entries_in es))
+listed_on es (kv ∷ kvs) = listed_on (Entry es kv.0 kv.1) kvs ∙ append_assoc (entries_in es) (kv ∷ []) kvs
+
+pub listed_all : (nodes : List Node) (kvs : List (TextBytes × Held)) → entries_in (all_entries nodes kvs) ≡ map (with_key nodes) kvs
+unfolding all_entries
+listed_all nodes kvs = listed_on NoEntry (map (with_key nodes) kvs)
+
+module _ (nodes : List Node) (axes : List Axis) (es : List (List ℕ × Value)) where
+  table : (a b : Result (Unit {0}) Fault) (xs : List (List ℕ × Value)) → (a >>= λ u. b >>= λ v. Ok xs) ≡ Ok es → es ≡ xs
+  table (Ok u) (Ok v) xs is = cc
+  table (Ok u) (Err e) xs is = absurd cc
+  table (Err e) b xs is = absurd cc
+
+  by_layer : (x : Value-F Held) → entries_given axes (given_value (Some (layer nodes x))) ≡ Ok es → es ≡ map (with_key nodes) (entries_of x)
+  unfolding entries_given
+  by_layer held.Absent is = cc
+  by_layer (held.Table t) is =
+      table (all_of (check_entry axes) (entries_in (all_entries nodes t.items))) (unless (list_all is_named_entry (entries_in (all_entries nodes t.items))) BadArgument) (entries_in (all_entries nodes t.items)) is ∙ listed_all nodes t.items
+  by_layer held.Missing is = absurd cc
+  by_layer (held.Truth b) is = absurd cc
+  by_layer (held.Number n) is = absurd cc
+  by_layer (held.Text t) is = absurd cc
+  by_layer (held.List vs) is = absurd cc
+  by_layer (held.Slice start stop step) is = absurd cc
+  by_layer (held.Array a) is = absurd cc
+  by_layer (held.Set s) is = absurd cc
+
+  -- entries that are given are those of the table
+  pub entries_same : (coords : Option Held) → entries_given axes (given_value (option_map (meaning nodes) coords)) ≡ Ok es → es ≡ map (with_key nodes) (entries_held coords)
+  unfolding entries_given
+  entries_same None told = cc
+  entries_same (Some v) told = by_layer (out-Value v) (ap (λ w. entries_given axes (given_value (Some w))) (sym (meaning_out nodes v)) ∙ told)
+
+-- and each of them is labels or a coordinate
+pub entries_checked : (axes : List Axis) (o : Option Value) (es : List (List ℕ × Value)) → entries_given axes o ≡ Ok es → all_of (check_entry axes) es ≡ Ok (tt {0})
+unfolding entries_given
+entries_checked axes None es is = ap (all_of (check_entry axes)) (let same : es ≡ [] = cc in same)
+entries_checked axes (Some (Table t)) es is = by (all_of (check_entry axes) (entries_in t)) (unless (list_all is_named_entry (entries_in t)) BadArgument) refl is
+  where
+    by : (a b : Result (Unit {0}) Fault) → all_of (check_entry axes) (entries_in t) ≡ a → (a >>= λ u. b >>= λ v. Ok (entries_in t)) ≡ Ok es → all_of (check_entry axes) es ≡ Ok tt
+    by (Ok u) (Ok v) passed told = ap (all_of (check_entry axes)) (let same : es ≡ entries_in t = cc in same) ∙ passed
+    by (Ok u) (Err e) passed told = absurd cc
+    by (Err e) b passed told = absurd cc
+entries_checked axes (Some Absent) es is = absurd cc
+entries_checked axes (Some Missing) es is = absurd cc
+entries_checked axes (Some (Truth b)) es is = absurd cc
+entries_checked axes (Some (Number n)) es is = absurd cc
+entries_checked axes (Some (Text t)) es is = absurd cc
+entries_checked axes (Some (Sequence vs)) es is = absurd cc
+entries_checked axes (Some (Slice start stop step)) es is = absurd cc
+entries_checked axes (Some (Array a)) es is = absurd cc
+entries_checked axes (Some (Set s)) es is = absurd cc
+
+pub table_means : (nodes : List Node) (axes : List Axis) (v : Held) (t : Vec (TextBytes × Held) Global) → v ≡ variants.Table t → entries_given axes (given_value (Some (meaning nodes v))) ≡ table_entries axes (map (with_key nodes) t.items)
+unfolding entries_given table_entries
+table_means nodes axes v t is =
+    ap (λ w. entries_given axes (given_value (Some w))) (is_table nodes v t is)
+    ∙ ap (λ (es : List (List ℕ × Value)). all_of (check_entry axes) es >>= λ u. unless (list_all is_named_entry es) BadArgument >>= λ v. Ok es) (listed_all nodes t.items)
+
+pub table_fails : {A B : Type 0} (view : A → B) (r : Result A CallFault) (e : CallFault) (whole : Result B Fault) (b : B) (told : Result B Fault) → r ≡ Err e → whole ≡ told → Answers (λ (u : Unit {0}). b) (Err e) told → Answers view r whole
+table_fails view r e whole b told is same given = subst (λ s. Answers view s whole) (sym is) (subst (Answers view (Err e)) (sym same) (by e given))
+  where
+    by : (e : CallFault) → Answers (λ (u : Unit {0}). b) (Err e) told → Answers view (Err e) told
+    by (Refused f) g = g
+    by (Declined n) g = g
+    by NoMemory g = tt
+
+-- ---- the argument
+
+module _ (nodes : List Node) where
+  keyword_same : (name : List ℕ) (keyed : List (TextBytes × Held)) → option_map (meaning nodes) (keyword_held name keyed) ≡ keyword name (map (with_key nodes) keyed)
+  keyword_same name [] = refl
+  keyword_same name (kv ∷ kvs) = by (bytes_eq kv.0 name) (keyword_same name kvs)
+    where
+      by : (b : Bool) → option_map (meaning nodes) (keyword_held name kvs) ≡ keyword name (map (with_key nodes) kvs)
+          → option_map (meaning nodes) (if b then Some kv.1 else keyword_held name kvs) ≡ option_map (λ (e : List ℕ × Value). e.1) (if b then Some (with_key nodes kv) else find (λ (e : List ℕ × Value). bytes_eq e.0 name) (map (with_key nodes) kvs))
+      by true rest = refl
+      by false rest = rest
+
+  third : (plain : List Held) (keyed : List (TextBytes × Held))
+      → option_map (meaning nodes) (get_or (map Some plain) 2 (keyword_held (codes "coords") keyed))
+      ≡ get_or (map Some (map (meaning nodes) plain) ++ map (λ name. keyword name (map (with_key nodes) keyed)) (drop (length (map (meaning nodes) plain)) parameters)) 2 None
+  third [] keyed = keyword_same (codes "coords") keyed
+  third (a ∷ []) keyed = keyword_same (codes "coords") keyed
+  third (a ∷ b ∷ []) keyed = keyword_same (codes "coords") keyed
+  third (a ∷ b ∷ c ∷ plain) keyed = refl
+
+  met : {X : Type 0} (view : X → Held) (o : Option X) → option_map (λ x. meaning nodes (view x)) o ≡ option_map (meaning nodes) (option_map view o)
+  met view None = refl
+  met view (Some x) = refl
+
+  pub met_coords : {X : Type 0} (view : X → Held) (o : Option X) (h : Option Held) → option_map view o ≡ h → option_map (λ x. meaning nodes (view x)) o ≡ option_map (meaning nodes) h
+  met_coords view o h is = met view o ∙ ap (option_map (meaning nodes)) is
+
+  pub coords_same : (args : Args) (vs : List (Option Value)) → bound parameters (given nodes args) ≡ Ok vs → option_map (meaning nodes) (coords_held args) ≡ argument vs 2
+  unfolding bound given
+  coords_same args vs told = third args.plain.items args.keyed.items ∙ ap (λ os. argument os 2) (by (unless _ BadArgument) _ told)
+    where
+      by : (r : Result (Unit {0}) Fault) (ws : List (Option Value)) → (r >>= λ u. Ok ws) ≡ Ok vs → ws ≡ vs
+      by (Ok u) ws is = cc
+      by (Err e) ws is = absurd cc
+
+-- ---- of a plan
+
+pub table_inside : (nodes : List Node) (v : Held) (t : Vec (TextBytes × Held) Global) → v ≡ variants.Table t → IsValueIn nodes v → All (IsEntryIn nodes) t.items
+unfolding roll-Value denote.Hole.Carrier.roll
+table_inside nodes v t is inside = subst (IsLayerIn nodes) (ap (λ w. out-Value w) is ∙ out-roll-Value (held.Table t)) (value_out nodes v inside)
+
+keyword_inside : (nodes : List Node) (name : List ℕ) (kvs : List (TextBytes × Held)) → All (IsEntryIn nodes) kvs → MatchOption (keyword_held name kvs) ⊤ (IsValueIn nodes)
+keyword_inside nodes name [] all = tt
+keyword_inside nodes name (kv ∷ kvs) all = by (bytes_eq kv.0 name) (keyword_inside nodes name kvs (All-tail (IsEntryIn nodes) kv kvs all))
+  where
+    by : (b : Bool) → MatchOption (keyword_held name kvs) ⊤ (IsValueIn nodes) → MatchOption (if b then Some kv.1 else keyword_held name kvs) ⊤ (IsValueIn nodes)
+    by true rest = All-head (IsEntryIn nodes) kv kvs all
+    by false rest = rest
+
+coords_inside : (nodes : List Node) (args : Args) → AreArgsIn nodes args → MatchOption (coords_held args) ⊤ (IsValueIn nodes)
+coords_inside nodes args are = by args.plain.items are.plain
+  where
+    by : (plain : List Held) → All (IsValueIn nodes) plain → MatchOption (get_or (map Some plain) 2 (keyword_held (codes "coords") args.keyed.items)) ⊤ (IsValueIn nodes)
+    by [] all = keyword_inside nodes (codes "coords") args.keyed.items are.keyed
+    by (a ∷ []) all = keyword_inside nodes (codes "coords") args.keyed.items are.keyed
+    by (a ∷ b ∷ []) all = keyword_inside nodes (codes "coords") args.keyed.items are.keyed
+    by (a ∷ b ∷ c ∷ plain) all = All-head (IsValueIn nodes) c plain (All-tail (IsValueIn nodes) b (c ∷ plain) (All-tail (IsValueIn nodes) a (b ∷ c ∷ plain) all))
+
+-- the argument is one of the plan
+pub argument_inside : (nodes : List Node) (args : Args) (view : Bor Held → Held) (o : Option (Bor Held)) → option_map view o ≡ coords_held args → AreArgsIn nodes args → MatchOption o ⊤ (λ x. IsValueIn nodes (view x))
+argument_inside nodes args view o is are = by o (subst (λ h. MatchOption h ⊤ (IsValueIn nodes)) (sym is) (coords_inside nodes args are))
+  where
+    by : (o : Option (Bor Held)) → MatchOption (option_map view o) ⊤ (IsValueIn nodes) → MatchOption o ⊤ (λ x. IsValueIn nodes (view x))
+    by None inside = tt
+    by (Some x) inside = inside

@@ -1,0 +1,98 @@
+//! The entries of the argument `coords`.
+ghost use Rattle.std.specs.Prelude.{◌≡◌, List, Some, All, map, option_map, IfOk, MatchOption, ⊤};
+ghost use Rattle.std.specs.List.{list_all};
+ghost use Rattle.xr_defs.specs.declared.node.Node.{Node};
+ghost use Rattle.xr_defs.specs.Results.{Answers};
+ghost use Rattle.xr_defs.specs.Building as of;
+ghost use Rattle.xr_values.specs.Meaning.{meaning, with_key, IsEntryIn, IsValueIn};
+ghost use Rattle.xr_building.specs.Outlined.{table_entries};
+ghost use Rattle.xr_building.specs.Written.{coords_held, entries_held, keyword_held};
+
+use crate::check::check_entries;
+use crate::given::is_named;
+use xr_types::{Axis, CallFault, Fault, TextBytes};
+use xr_values::{Args, Value};
+
+// The argument by this keyword.
+fn by_keyword<'a>(name: &str, keyed: &'a [(TextBytes, Value)]) -> Option<&'a Value>
+    ensures { option_map (λ v. v.now) result ≡ keyword_held name.now keyed.now }
+{
+    for entry in keyed {
+        if entry.0.as_str() == name {
+            return Some(&entry.1);
+        }
+    }
+    None
+}
+
+/// The argument for `coords`, which is the third one where it has no name.
+pub fn coords_argument(args: &Args) -> Option<&Value>
+    ensures { option_map (λ v. v.now) result ≡ coords_held args.now }
+{
+    match args.plain.as_slice().get(2) {
+        Some(value) => Some(value),
+        None => by_keyword("coords", args.keyed.as_slice()),
+    }
+}
+
+fn are_named(entries: &[(TextBytes, Value)]) -> bool
+    ensures { (nodes : List Node) → result ≡ list_all of.is_named_entry (map (with_key nodes) entries.now) }
+{
+    for entry in entries {
+        if !is_named(&entry.0) {
+            return false;
+        }
+    }
+    true
+}
+
+// Refuses what no entry may be, and then entries without a name.
+#[tactic(auto, unfolding(crate::specs::Outlined::table_entries, xr_defs::specs::Results::unless))]
+fn check_table(axes: &[Axis], entries: &[(TextBytes, Value)]) -> Result<(), CallFault>
+    ensures answers { (nodes : List Node) → Answers (λ u. map (with_key nodes) entries.now) result (table_entries axes.now (map (with_key nodes) entries.now)) }
+{
+    check_entries(axes, entries)?;
+    if are_named(entries) {
+        Ok(())
+    } else {
+        Err(CallFault::Refused(Fault::BadArgument))
+    }
+}
+
+// The entries of a table; `None` has none.
+#[tactic(auto, using(xr_arguments::proofs::Variants::is_absent, xr_arguments::proofs::Variants::is_table, xr_values::proofs::Meaning::meaning_out), unfolding(xr_defs::specs::Building::entries_given))]
+fn table_given<'a>(axes: &[Axis], value: &'a Value) -> Result<&'a [(TextBytes, Value)], CallFault>
+    ensures answers { (nodes : List Node) → Answers (λ es. map (with_key nodes) es.now) result (of.entries_given axes.now (of.given_value (Some (meaning nodes value.now)))) }
+    ensures held { IfOk result (λ es. es.now ≡ entries_held (Some value.now)) }
+    ensures inside { (nodes : List Node) → IsValueIn nodes value.now → IfOk result (λ es. All (IsEntryIn nodes) es.now) }
+{
+    match value {
+        Value::Absent => Ok(&[]),
+        Value::Table(table) => {
+            let entries = table.as_slice();
+            check_table(axes, entries)?;
+            Ok(entries)
+        }
+        _ => Err(CallFault::Refused(Fault::WrongKind)),
+    }
+}
+
+/// The entries of a table; none where no argument is given.
+///
+/// # Errors
+/// `WrongKind` for another value, and for an entry that can't be labels, or no coordinate; `BadArgument` for an array that is masked
+/// or doesn't lie along the dimension alone, or has more than one where it is no labels; then `BadArgument` for an entry without a name.
+#[tactic(auto, unfolding(xr_defs::specs::Building::entries_given))]
+pub fn entries_given<'a>(
+    axes: &[Axis],
+    coords: Option<&'a Value>,
+) -> Result<&'a [(TextBytes, Value)], CallFault>
+    ensures answers { (nodes : List Node) → Answers (λ es. map (with_key nodes) es.now) result (of.entries_given axes.now (of.given_value (option_map (λ v. meaning nodes v.now) coords.entry))) }
+    ensures held { IfOk result (λ es. es.now ≡ entries_held (option_map (λ v. v.now) coords.entry)) }
+    ensures inside { (nodes : List Node) → MatchOption coords.entry ⊤ (λ v. IsValueIn nodes v.now) → IfOk result (λ es. All (IsEntryIn nodes) es.now) }
+{
+    match coords {
+        None => Ok(&[]),
+        Some(value) => table_given(axes, value),
+    }
+}

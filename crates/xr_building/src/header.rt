@@ -1,0 +1,48 @@
+//! What an array is besides its cells and its axes.
+ghost use Rattle.std.specs.Prelude.{◌≡◌, ◌≢◌, List, true, option_map, IfOk, MatchOption, ⊤};
+ghost use Rattle.xr_types.specs.declared.kind.DType.TheVariants as kinds;
+ghost use Rattle.xr_defs.specs.declared.node.Node.{Node};
+ghost use Rattle.xr_defs.specs.Classic.{is_name};
+ghost use Rattle.xr_defs.specs.Results.{Answers};
+ghost use Rattle.xr_values.specs.Meaning.{meaning};
+ghost use Rattle.xr_building.specs.Gathered.{suits_all};
+ghost use Rattle.xr_building.specs.Outlined.{header_of};
+
+use crate::cells::{kind_for, suits};
+use crate::elements::Elements;
+use crate::given::{kind_given, name_given};
+use std::alloc::Global;
+use xr_types::{CallFault, DType, Fault, Name};
+use xr_values::Value;
+
+/// The name of an array and the kind of its cells.
+#[derive(Drop)]
+pub struct Header {
+    pub name: Option<Name>,
+    pub kind: DType,
+}
+
+/// The name that is given, and the kind that is given or that of the elements.
+///
+/// # Errors
+/// Those of the name and of the kind; then `WrongKind` for elements of another kind.
+#[tactic(auto, unfolding(crate::specs::Outlined::header_of, xr_defs::specs::Results::unless))]
+pub fn header_of(
+    alloc: Global,
+    elements: &Elements,
+    name: Option<&Value>,
+    dtype: Option<&Value>,
+) -> Result<Header, CallFault>
+    ensures answers { (nodes : List Node) → Answers (λ h. h) result (header_of elements.now (option_map (λ v. meaning nodes v.now) name.entry) (option_map (λ v. meaning nodes v.now) dtype.entry)) }
+    ensures name { IfOk result (λ h. MatchOption h.name ⊤ (λ n. is_name n ≡ true)) }
+    ensures number { IfOk result (λ h. h.kind ≢ kinds.Char) }
+    ensures suits { IfOk result (λ h. suits_all h.kind elements.now ≡ true) }
+{
+    let name = name_given(alloc, name)?;
+    let kind = kind_for(elements, kind_given(dtype)?);
+    if suits(kind, elements) {
+        Ok(Header { name, kind })
+    } else {
+        Err(CallFault::Refused(Fault::WrongKind))
+    }
+}
