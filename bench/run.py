@@ -18,6 +18,9 @@ import time
 from setting import PYTHON, begin
 
 
+OUTPUTS = ["n.nc", "w.nc", "x.nc"]
+
+
 def padded_name(name):
     data = name.encode()
     return len(data).to_bytes(4, "big") + data + bytes(-len(data) % 4)
@@ -58,7 +61,11 @@ def cube(path):
 
 
 def timed(command, folder):
-    """Seconds of a whole process, and its peak memory in MiB."""
+    """Seconds of a whole process, and its peak memory in MiB. What an earlier run wrote is removed first, since a file
+    that takes the place of another waits until that one's blocks are free."""
+    for name in OUTPUTS:
+        if os.path.exists(os.path.join(folder, name)):
+            os.remove(os.path.join(folder, name))
     start = time.perf_counter()
     child = subprocess.Popen(command, cwd=folder, stdout=subprocess.DEVNULL)
     _, status, usage = os.wait4(child.pid, 0)
@@ -82,18 +89,21 @@ def has(module):
 TIMED = "import time\n{before}\nstart = time.perf_counter()\n{code}\nprint(time.perf_counter() - start)\n"
 
 
-def sliced(name, masked, unmasked):
-    """A cube that is opened, sliced along its first dimension and written; with these words behind the name, ours and xarray's."""
-    peer = f'import xarray\nxarray.open_dataset("v.nc"{unmasked}).isel(time=slice(128, 384)).to_netcdf("x.nc", format="NETCDF3_CLASSIC")'
+def of_cube(name, call, nco, masked="", unmasked=", mask_and_scale=False"):
+    """A cube that is opened and written after a call; xarray has the same calls, and NCO these words."""
+    peer = f'import xarray\nds = xarray.open_dataset("v.nc"{unmasked})\n{call}.to_netcdf("x.nc", format="NETCDF3_CLASSIC")'
     return {
         "name": name,
         "file": cube,
-        "script": f'ds = open_dataset("v.nc"{masked})\nds.isel(time=slice(128, 384)).to_netcdf("w.nc")\n',
+        "script": f'ds = open_dataset("v.nc"{masked})\n{call}.to_netcdf("w.nc")\n',
         "peers": [],
         "whole": [("xarray, whole", "xarray", peer)],
-        "tools": [("NCO, whole", ["ncks", "-O", "-d", "time,128,383", "v.nc", "n.nc"])],
+        "tools": [("NCO, whole", nco + ["v.nc", "n.nc"])],
     }
 
+
+HALF = "ds.isel(time=slice(128, 384))"
+NCO_HALF = ["ncks", "-O", "-d", "time,128,383"]
 
 JOBS = [
     {
@@ -129,8 +139,11 @@ JOBS = [
         ],
         "whole": [],
     },
-    sliced("open, slice and write a cube of 2^25 shorts", "", ", mask_and_scale=False"),
-    sliced("the same with missing cells", ", mask=True", ""),
+    of_cube("open, slice and write a cube of 2^25 shorts", HALF, NCO_HALF),
+    of_cube("the same with missing cells", HALF, NCO_HALF, ", mask=True", ""),
+    of_cube("every second time of the cube", "ds.isel(time=slice(0, 512, 2))", ["ncks", "-O", "-d", "time,0,511,2"]),
+    of_cube("every second column of the cube", "ds.isel(x=slice(0, 256, 2))", ["ncks", "-O", "-d", "x,0,255,2"]),
+    of_cube("the cube with its dimensions turned around", 'ds["v"].transpose("x", "y", "time")', ["ncpdq", "-O", "-a", "x,y,time"]),
 ]
 
 
