@@ -4,12 +4,13 @@
     beside_xarray.py PROGRAM [--count N] [--seed S]
 
 The names of the calls are xarray's, so that the text of a script is a program of both. Each begins with a random file or
-an array that it writes out, takes up to five steps and writes what it has. The two files are compared as xarray reads them: dimensions, coordinates,
-variables, their kinds, cells and attributes. One script in six ends in a step that has to be refused.
-Without xarray all is skipped, and the output says so. The last line is 'N the same, M differ'.
+an array that it writes out, takes up to five steps and writes what it has. The two files are compared as xarray reads
+them: dimensions, coordinates, variables, their kinds, cells and attributes. One script in six ends in a step that has to
+be refused. Without xarray all is skipped, and the output says so. The last line is 'N the same, M differ'.
 """
 import argparse
 import os
+import random
 import subprocess
 import sys
 import tempfile
@@ -25,12 +26,9 @@ except ImportError:
     print("skipped: scripts beside xarray need xarray")
     sys.exit(0)
 
-import random
-
 KINDS = ["int8", "int16", "int32"]
 LEAST = {"int8": -128, "int16": -(1 << 15), "int32": -(1 << 31)}
 FILL = -99
-MISSING = float("nan")
 
 
 class Random:
@@ -75,7 +73,6 @@ class Random:
         variables = {}
         for name in ["a", "b"]:
             dims = self.r.sample(list(sizes), self.r.randrange(0, len(sizes) + 1))
-            # A variable along one dimension without labels is told from an index by its name alone.
             kind = self.r.choice(KINDS)
             attributes = self.attributes()
             if self.r.random() < 0.4:
@@ -86,7 +83,7 @@ class Random:
     def array(self):
         """An array that a script writes out, as its text."""
         sizes = {name: self.r.choice([1, 2, 3]) for name in self.r.sample(["x", "y", "time"], self.r.randrange(0, 4))}
-        data = numpy.array(self.cells("int16", list(sizes.values()))).tolist()
+        data = self.cells("int16", list(sizes.values())).tolist()
         coords = {"k": self.r.randrange(-9, 9)} if self.r.random() < 0.3 else {}
         for name, size in sizes.items():
             if self.r.random() < 0.5:
