@@ -1,4 +1,3 @@
-pub mod Decoded
 pub mod KnownNames
 pub mod Loop
 pub mod Capped

@@ -1,5 +1,5 @@
 -- Values at places that stop at a bound beyond the file's end.
-use Rattle.std.proofs.Common.{◌≡◌, ◌<◌, ◌≤◌, ◌+◌, ◌*◌, ◌∙◌, sym, ap, ℕ, min, zero, suc, List, [], ◌∷◌, ◌++◌, length, take, drop, refl, arith, inl, inr, length-drop, add-one, zero-add}
+use Rattle.std.proofs.Common.{◌≡◌, ◌<◌, ◌≤◌, ◌+◌, ◌-◌, ◌*◌, ◌∙◌, sym, ap, ℕ, min, zero, suc, List, [], ◌∷◌, ◌++◌, length, take, drop, refl, arith, inl, inr, length-drop, add-one, zero-add}
 use Rattle.std.specs.List.{range_with_len, flat_map}
 use Rattle.std.proofs.Math.Nat.{add-zero}
 use Rattle.std.proofs.lemmas.List.{nil_from_length, take_all, append-nil}
@@ -35,6 +35,24 @@ take_min n bound bytes short =
 -- bytes from a place on, whose size stops at the bound, are the same bytes
 pub values_within : (n begin : ℕ) (bytes : List ℕ) → length bytes < 18446744073709551616 → take (capped n) (drop begin bytes) ≡ take n (drop begin bytes)
 values_within n begin bytes short = take_min n 18446744073709551615 (drop begin bytes) (omega (arith, length-drop begin bytes))
+
+drop_min : (n bound : ℕ) (bytes : List ℕ) → length bytes ≤ bound → drop (min bound n) bytes ≡ drop n bytes
+drop_min n bound bytes short =
+    elim (ordered bound n) [
+      | inl large ↦ past (min bound n) bytes (omega arith) ∙ sym (past n bytes (omega arith))
+      | inr small ↦ let same : min bound n ≡ n = omega arith in ap (λ (k : ℕ). drop k bytes) same
+    ]
+
+-- a range that ends where the bytes end is all that there is
+pub front_within : (bytes : List ℕ) (begin n : ℕ)
+    → take (min (length bytes - min (length bytes) begin) n) (drop (min (length bytes) begin) bytes) ≡ take n (drop begin bytes)
+front_within bytes begin n =
+    let start : ℕ = min (length bytes) begin in
+    let left : ℕ = length bytes - start in
+    let other : min left n ≡ min n left = omega arith in
+    ap (λ (k : ℕ). take k (drop start bytes)) other
+    ∙ take_min n left (drop start bytes) (omega (arith, length-drop start bytes))
+    ∙ ap (take n) (drop_min begin (length bytes) bytes (omega arith))
 
 add_capped : (b x y : ℕ) → capped x ≡ capped y → capped (b + x) ≡ capped (b + y)
 add_capped b x y e = omega arith

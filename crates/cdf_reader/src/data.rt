@@ -7,9 +7,9 @@ ghost use Rattle.xr_defs.specs.Files.{most_bytes, head_size, recsize, end_of, is
 ghost use Rattle.cdf_reader.specs.Sizes.{capped, pieces};
 
 use crate::sizes::{cells_of, head_size_of, is_record};
+use bytes::Bytes;
 use std::alloc::{AllocError, Global};
 use xr_defs::{CdfDim, CdfVar, VarHead};
-use xr_types::{ByteList, Items};
 
 /// Where values stand: the dimensions, how many records there are, and how far they lie apart.
 #[derive(Clone, Copy)]
@@ -37,6 +37,17 @@ fn front_at(bytes: &[u8], begin: u64, n: u64) -> &[u8]
     front
 }
 
+// The bytes of the file from a place on, as many as there are, shared with the file's.
+#[tactic(auto, using(crate::proofs::Placed::front_within))]
+fn shared_front_at(bytes: &Bytes, begin: u64, n: u64) -> Result<Bytes, AllocError>
+    ensures front { IfOk result (λ front. front ≡ take n (drop begin bytes.now)) }
+    ensures short { length bytes.now < 2 ^ 64 }
+{
+    let start = bytes.len().min(begin as usize);
+    let count = (bytes.len() - start).min(n as usize);
+    bytes.slice(start..start + count)
+}
+
 // The pieces of a variable, one each step.
 fn gathered(
     alloc: Global,
@@ -45,7 +56,7 @@ fn gathered(
     step: u64,
     n: u64,
     count: u64,
-) -> Result<ByteList, AllocError>
+) -> Result<Bytes, AllocError>
     requires { length bytes.now ≤ most_bytes }
     ensures { IfOk result (λ raw. raw ≡ pieces bytes.now begin step n count) }
 {
@@ -54,7 +65,7 @@ fn gathered(
         let at = begin.saturating_add(r.saturating_mul(step));
         raw.extend_from_slice(front_at(bytes, at, n))?;
     }
-    Ok(Items::of(raw))
+    Ok(Bytes::from_vec(raw)?)
 }
 
 // Behind the last value of a variable.
@@ -91,13 +102,24 @@ pub(crate) fn fixed_values<'a>(bytes: &'a [u8], dims: &[CdfDim], var: &VarHead) 
     front_at(bytes, var.begin, head_size_of(dims, var))
 }
 
+/// The values of a variable that is no record variable, shared with the file's bytes.
+pub(crate) fn shared_fixed(
+    bytes: &Bytes,
+    dims: &[CdfDim],
+    var: &VarHead,
+) -> Result<Bytes, AllocError>
+    ensures { IfOk result (λ raw. raw ≡ take (head_size dims.now var.now) (drop var.now.begin bytes.now)) }
+{
+    shared_front_at(bytes, var.begin, head_size_of(dims, var))
+}
+
 /// The values of a variable.
 pub(crate) fn raw_at(
     alloc: Global,
     places: Places<'_>,
     bytes: &[u8],
     var: &VarHead,
-) -> Result<ByteList, AllocError>
+) -> Result<Bytes, AllocError>
     requires { length bytes.now ≤ most_bytes }
     ensures { IfOk result (λ raw. (h : Header) → h.dims ≡ places.entry.dims.now → places.entry.distance ≡ capped (recsize h) → raw ≡ raw_of bytes.now h places.entry.numrecs var.now) }
 {
@@ -112,6 +134,6 @@ pub(crate) fn raw_at(
             places.numrecs,
         )
     } else {
-        Items::from_slice(alloc, fixed_values(bytes, places.dims, var))
+        Bytes::copy_from_slice(alloc, fixed_values(bytes, places.dims, var))
     }
 }

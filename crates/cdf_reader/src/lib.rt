@@ -13,15 +13,13 @@ mod names;
 mod reading;
 mod records;
 mod sizes;
-#[cfg(test)]
-mod tests;
 mod values;
 mod variables;
 
 pub use cells::Numbers;
-pub use decode::{numbers, numbers_in, sum_of_ints};
+pub use decode::numbers;
 pub use fault::CdfFault;
-pub use heads::{FileHead, copied_values, values_at};
+pub use heads::{FileHead, copied_values, shared_values, values_at};
 pub use laws::{most_records, one_answer};
 pub use reading::{read, read_head};
 pub use sizes::is_record;

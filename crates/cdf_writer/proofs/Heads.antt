@@ -1,5 +1,5 @@
 -- The header of a file and its places, and that its text spells it.
-use Rattle.std.proofs.Common.{◌≡◌, ℕ, suc, ◌+◌, ◌<◌, ◌^◌, true, false, not, cond, eqb, ltb, List, [], ◌∷◌, ◌++◌, length, map, refl, subst, sym, ap, ◌∙◌, arith}
+use Rattle.std.proofs.Common.{◌≡◌, ℕ, ◌+◌, ◌<◌, ◌^◌, true, false, not, cond, eqb, ltb, List, [], ◌∷◌, ◌++◌, length, map, refl, subst, sym, ap, ◌∙◌, arith}
 use Rattle.std.proofs.lemmas.Bool.{and_parts, leb-true, lt-ltb, ne_eqb}
 use Rattle.std.proofs.lemmas.List.{map_push, length-append}
 use Rattle.std.specs.Int.{w32, w64, to_be_bytes}

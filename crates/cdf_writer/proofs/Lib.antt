@@ -10,7 +10,6 @@ pub mod Standing
 pub mod Reread
 pub mod Kept
 pub mod Again
-pub mod TestFiles
 pub mod Held
 pub mod Fillings
 pub mod Whole

@@ -6,6 +6,7 @@ mod answer;
 mod hold;
 mod laws;
 mod measure;
+mod pieces;
 mod room;
 mod size;
 mod spell;
@@ -15,7 +16,4 @@ mod values;
 pub use answer::{Layout, WriteFault};
 pub use laws::reads_again;
 pub use measure::layout;
-pub use spell::write;
-
-#[cfg(test)]
-mod tests;
+pub use spell::{write, write_pieces};

@@ -1,8 +1,8 @@
-//! The bytes of values: those of fixed variables, and then record by record.
+//! The bytes of fillings and of records.
 ghost use Rattle.std.specs.Prelude.{◌≡◌, ◌≢◌, ◌*◌, ◌-◌, ◌<◌, ◌++◌, length, map, flat_map, take, drop, true, OnOk, IfOk};
 ghost use Rattle.xr_defs.specs.Classic.{padding};
 ghost use Rattle.std.specs.List.{range_with_len};
-ghost use Rattle.xr_defs.specs.Canonical.{IsFile, IsVar, can_hold, default_fill, fill_of, filling, fixed_vars, is_own_fill, is_record, record_text, record_vars, slab, values_text, with_filling};
+ghost use Rattle.xr_defs.specs.Canonical.{IsFile, can_hold, default_fill, fill_of, filling, is_own_fill, record_text, record_vars, slab};
 
 use crate::room::{is_record, width};
 use crate::size::padding;
@@ -51,8 +51,8 @@ fn put_front(out: &mut Vec<u8>, fill: &[u8], n: usize) -> Result<usize, AllocErr
     Ok(n - count)
 }
 
-// up to three bytes that repeat the variable's fill
-fn put_filling(out: &mut Vec<u8>, var: &CdfVar, n: usize) -> Result<(), AllocError>
+/// Up to three bytes that repeat the variable's fill.
+pub fn put_filling(out: &mut Vec<u8>, var: &CdfVar, n: usize) -> Result<(), AllocError>
     ensures { OnOk result (out.new.items ≡ out.old.items ++ filling var.now n) }
 {
     let fill = fill_of(var);
@@ -73,20 +73,8 @@ fn put_padded(out: &mut Vec<u8>, var: &CdfVar, raw: &[u8]) -> Result<(), AllocEr
     }
 }
 
-fn put_fixed(out: &mut Vec<u8>, file: &CdfFile) -> Result<(), AllocError>
-    requires file { IsFile file.now }
-    requires held { can_hold file.now ≡ true }
-    ensures { OnOk result (out.new.items ≡ out.old.items ++ flat_map (λ v. with_filling file.now v v.raw) (fixed_vars file.now)) }
-{
-    for var in file.vars.as_slice() {
-        if !is_record(file, var) {
-            put_padded(out, var, var.raw.as_slice())?;
-        }
-    }
-    Ok(())
-}
-
-fn record_vars<'a>(alloc: Global, file: &'a CdfFile) -> Result<Vec<&'a CdfVar>, AllocError>
+/// The variables that have records.
+pub fn record_vars<'a>(alloc: Global, file: &'a CdfFile) -> Result<Vec<&'a CdfVar>, AllocError>
     requires { IsFile file.now }
     ensures { IfOk result (λ vars. map (λ v. v.now) vars.items ≡ record_vars file.now) }
 {
@@ -131,7 +119,12 @@ fn put_record(
     Ok(())
 }
 
-fn put_each_record(out: &mut Vec<u8>, file: &CdfFile, vars: &[&CdfVar]) -> Result<(), AllocError>
+/// The records of several variables, one behind the other.
+pub fn put_each_record(
+    out: &mut Vec<u8>,
+    file: &CdfFile,
+    vars: &[&CdfVar],
+) -> Result<(), AllocError>
     requires file { IsFile file.now }
     requires held { can_hold file.now ≡ true }
     requires vars { map (λ v. v.now) vars.now ≡ record_vars file.now }
@@ -142,28 +135,4 @@ fn put_each_record(out: &mut Vec<u8>, file: &CdfFile, vars: &[&CdfVar]) -> Resul
         put_record(out, file, vars, index)?;
     }
     Ok(())
-}
-
-// records of no variable are empty, and those of a lone one stand as its values do
-fn put_records(alloc: Global, out: &mut Vec<u8>, file: &CdfFile) -> Result<(), AllocError>
-    requires file { IsFile file.now }
-    requires held { can_hold file.now ≡ true }
-    ensures { OnOk result (out.new.items ≡ out.old.items ++ flat_map (λ r. flat_map (record_text file.now r) (record_vars file.now)) (range_with_len 0 file.now.numrecs)) }
-{
-    let vars = record_vars(alloc, file)?;
-    match vars.as_slice() {
-        [] => Ok(()),
-        [var] => out.extend_from_slice(var.raw.as_slice()),
-        several => put_each_record(out, file, several),
-    }
-}
-
-/// The values of a file that its version can hold.
-pub fn put_values(alloc: Global, out: &mut Vec<u8>, file: &CdfFile) -> Result<(), AllocError>
-    requires file { IsFile file.now }
-    requires held { can_hold file.now ≡ true }
-    ensures { OnOk result (out.new.items ≡ out.old.items ++ values_text file.now) }
-{
-    put_fixed(out, file)?;
-    put_records(alloc, out, file)
 }

@@ -13,7 +13,7 @@ use Rattle.xr_defs.specs.declared.time.Freq.TheVariants as freq
 use Rattle.std.proofs.lemmas.List.Elements.{filter-append}
 use Rattle.std.proofs.lemmas.List.FromFn.{length-range_with_len}
 use Rattle.std.proofs.lemmas.Bool.Decides.{nat_tests}
-use Rattle.xr_defs.specs.Times.{IsCivil, IsTime, epoch, seconds_since, month_days, year_days, days_of_years, day_number, year_at, month_at, day_at}
+use Rattle.xr_defs.specs.Times.{IsCivil, IsTime, epoch, seconds_since, month_days, year_days, days_of_years, day_number, year_at, month_at}
 use Rattle.xr_defs.proofs.Calendar.{Dated, dated, years_more, years_mono}
 use Rattle.xr_defs.proofs.LabelPlaces.{filter_none, filter_all, range_with_len-add}
 

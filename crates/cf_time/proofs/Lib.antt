@@ -4,3 +4,4 @@ pub mod Runs
 pub mod Binned
 pub mod Counted
 pub mod Days
+pub mod Mapped

@@ -2,7 +2,7 @@
 -- spaces and tabs.
 -- CF Conventions, "Time Coordinate". That fractions of a second are zeros, that no time zone follows, and that
 -- `standard` isn't read before 1582-10-15, is this project's own.
-use Rattle.std.specs.Prelude.{◌+◌, ◌*◌, ◌==◌, ◌&&◌, ◌||◌, ℕ, ℤ, nat_lt, nat_le, Option, Some, None, option_and_then, Bool, true, false, not, List, [], ◌∷◌, length, take, drop, codes, if◌then◌else◌}
+use Rattle.std.specs.Prelude.{◌+◌, ◌*◌, ◌==◌, ◌&&◌, ◌||◌, ℕ, ℤ, nat_lt, nat_le, Option, Some, None, option_and_then, Bool, true, false, not, List, [], ◌∷◌, length, drop, codes, if◌then◌else◌}
 use Rattle.std.specs.List.{take_while, prefix_len, list_all}
 use Rattle.std.specs.Char.{is_ascii_digit}
 use Rattle.std.specs.Str.{bytes_eq}

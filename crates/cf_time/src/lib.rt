@@ -19,6 +19,3 @@ pub use each_field::fields;
 pub use read::read_date;
 pub use units::decode;
 pub use units_text::read_units;
-
-#[cfg(test)]
-mod tests;

@@ -15,12 +15,8 @@ mod numbers;
 mod pairs;
 mod picks;
 mod signs;
-#[cfg(test)]
-mod tests;
 mod truths;
 mod typed;
-#[cfg(test)]
-mod view_tests;
 
 pub use calls::{binary, cast, choose, compare, fill, unary};
 pub use cell::one_cell;

@@ -6,19 +6,21 @@ use std::process::Abort;
 use xr_defs::FoldKind;
 use xr_types::{DType, Elem};
 
-const FOLDS: [FoldKind; 11] = [
-    FoldKind::Sum,
-    FoldKind::Prod,
-    FoldKind::Min,
-    FoldKind::Max,
-    FoldKind::First,
-    FoldKind::Last,
-    FoldKind::ArgMin,
-    FoldKind::ArgMax,
-    FoldKind::Count,
-    FoldKind::Any,
-    FoldKind::All,
-];
+fn folds() -> [FoldKind; 11] {
+    [
+        FoldKind::Sum,
+        FoldKind::Prod,
+        FoldKind::Min,
+        FoldKind::Max,
+        FoldKind::First,
+        FoldKind::Last,
+        FoldKind::ArgMin,
+        FoldKind::ArgMax,
+        FoldKind::Count,
+        FoldKind::Any,
+        FoldKind::All,
+    ]
+}
 
 /// The fold of cells from position 0 on, as one run.
 fn of_run<T: Elem>(fold: FoldKind, of: DType, cells: &[T]) -> Option<i128>
@@ -59,7 +61,9 @@ fn of_cells<T: Elem>(fold: FoldKind, of: DType, cells: &[T], mask: &[u8]) -> Opt
     partial.finish()
 }
 
-const MASK: [u8; 6] = [1, 0, 0, 0, 1, 0];
+fn mask() -> [u8; 6] {
+    [1, 0, 0, 0, 1, 0]
+}
 
 /// Tries each fold of the six cells, without the mask above and with it.
 fn try_kind<T: Elem>(
@@ -69,8 +73,9 @@ fn try_kind<T: Elem>(
     whole: &[i128; 11],
     masked: &[i128; 11],
 ) {
+    let folds = folds();
     for i in 0..11 {
-        let fold = FOLDS[i];
+        let fold = folds[i];
         assert_eq!(rt; of_run(fold, of, cells), Some(whole[i]), "fold {i}");
         assert_eq!(rt;
             of_cells(fold, of, cells, &[0; 6]),
@@ -78,12 +83,12 @@ fn try_kind<T: Elem>(
             "fold {i}"
         );
         assert_eq!(rt;
-            of_masked(fold, of, cells, &MASK),
+            of_masked(fold, of, cells, &mask()),
             Some(masked[i]),
             "fold {i}"
         );
         assert_eq!(rt;
-            of_cells(fold, of, cells, &MASK),
+            of_cells(fold, of, cells, &mask()),
             Some(masked[i]),
             "fold {i}"
         );
@@ -193,34 +198,54 @@ fn wide_kinds(rt: HostRuntime) {
     );
 }
 
+/// What a fold of missing cells gives, as two runs with a mask.
+fn of_hidden(fold: FoldKind) -> Option<i128> {
+    of_masked::<i16>(fold, DType::Int16, &[4, 5], &[1, 1])
+}
+
+fn of_no_cells(fold: FoldKind) -> Option<i128> {
+    of_run::<i16>(fold, DType::Int16, &[])
+}
+
+fn of_nothing() -> [Option<i128>; 11] {
+    [
+        Some(0),
+        Some(1),
+        None,
+        None,
+        None,
+        None,
+        None,
+        None,
+        Some(0),
+        Some(0),
+        Some(1),
+    ]
+}
+
 // Over missing cells alone a sum is 0, a product 1, a count 0, any false, all true, and the others give a missing cell.
 #[test]
 fn nothing_present(rt: HostRuntime) {
-    let wanted = [
-        Some(0),
-        Some(1),
-        None,
-        None,
-        None,
-        None,
-        None,
-        None,
-        Some(0),
-        Some(0),
-        Some(1),
-    ];
+    let folds = folds();
+    let wanted = of_nothing();
     for i in 0..11 {
-        let fold = FOLDS[i];
-        assert_eq!(rt;
-            of_masked::<i16>(fold, DType::Int16, &[4, 5], &[1, 1]),
-            wanted[i],
-            "fold {i}"
-        );
-        assert_eq!(rt;
-            of_run::<i16>(fold, DType::Int16, &[]),
-            wanted[i],
-            "fold {i}"
-        );
+        assert_eq!(rt; of_hidden(folds[i]), wanted[i], "fold {i}");
+        assert_eq!(rt; of_no_cells(folds[i]), wanted[i], "fold {i}");
+    }
+}
+
+fn cells() -> [i8; 4] {
+    [100, -128, 127, 5]
+}
+
+/// The second is hidden.
+fn mask_of_cells() -> [u8; 4] {
+    [0, 1, 0, 0]
+}
+
+fn are(rt: &impl Abort, sums: [i64; 4], wanted: [i64; 4]) {
+    for i in 0..4 {
+        assert_eq!(rt; sums[i], wanted[i], "cell {i}");
     }
 }
 
@@ -228,16 +253,13 @@ fn nothing_present(rt: HostRuntime) {
 // the second cell masked and filled by 0.
 #[test]
 fn running_sums(rt: HostRuntime) {
-    let cells = [100i8, -128, 127, 5];
     let mut before = Partial::empty(FoldKind::Sum, DType::Int8);
     before.absorb(0, Some(1000));
-    let mut whole = [0i64; 4];
-    let after = scan_run(before, &cells, &mut whole);
-    let mut masked = [0i64; 4];
-    let last = scan_masked(after, &cells, &[0, 1, 0, 0], &mut masked);
-    for i in 0..4 {
-        assert_eq!(rt; whole[i], [1100, 972, 1099, 1104][i], "cell {i}");
-        assert_eq!(rt; masked[i], [1204, 1204, 1331, 1336][i], "cell {i}");
-    }
+    let mut whole = [0; 4];
+    let after = scan_run(before, &cells(), &mut whole);
+    let mut masked = [0; 4];
+    let last = scan_masked(after, &cells(), &mask_of_cells(), &mut masked);
+    are(&rt, whole, [1100, 972, 1099, 1104]);
+    are(&rt, masked, [1204, 1204, 1331, 1336]);
     assert_eq!(rt; last.finish(), Some(1336));
 }

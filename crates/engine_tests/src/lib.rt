@@ -2,8 +2,16 @@
 #![tactic(auto)]
 
 #[cfg(test)]
+mod blocks;
+#[cfg(test)]
 mod folds;
 #[cfg(test)]
 mod indexes;
 #[cfg(test)]
+mod operations;
+#[cfg(test)]
 mod running_lines;
+#[cfg(test)]
+mod times;
+#[cfg(test)]
+mod views;

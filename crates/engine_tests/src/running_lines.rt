@@ -1,6 +1,7 @@
 //! Running sums along lines of blocks, against NumPy's `cumsum`.
-ghost use Rattle.std.specs.Prelude.{◌≡◌, [], ◌∷◌, IfOk};
+ghost use Rattle.std.specs.Prelude.{◌≡◌, ◌<◌, [], ◌∷◌, All, IfOk};
 ghost use Rattle.xr_types.specs.declared.kind.DType.TheVariants.{Int8, Int64};
+ghost use Rattle.xr_defs.specs.Arrays.{IsCell};
 ghost use Rattle.strided_block.specs.Typed.{block_kind, win_kind};
 ghost use Rattle.strided_block.specs.Views.{IsWhole};
 
@@ -8,7 +9,7 @@ use fold_kernel::{Partial, scan};
 use std::alloc::Global;
 use std::process::Abort;
 use std::test::Fail;
-use strided_block::{CellBlock, CellWin};
+use strided_block::{CellBlock, CellView, CellWin};
 use xr_defs::FoldKind;
 use xr_types::{DType, Shape};
 
@@ -57,19 +58,36 @@ fn two_columns_of_sums(alloc: Global) -> Result<CellWin, Fail>
     Ok(CellWin::whole(zeros))
 }
 
+/// The sums down the second column, of a block as large.
+fn column_of_sums(alloc: Global, block: &CellBlock) -> Result<CellBlock, Fail>
+    requires shape { block.now.mask.shape ≡ 3 ∷ 2 ∷ [] }
+    requires numbers { block_kind block.now.cells ≡ Int8 }
+    ensures { IfOk result (λ b. b.mask.shape ≡ 3 ∷ 2 ∷ []) }
+{
+    let mut out = two_columns_of_sums(alloc)?;
+    scan_column(block, &mut out);
+    Ok(out.into_block())
+}
+
+/// A row of the block holds a missing cell and this sum.
+fn has_row(rt: &impl Abort, view: &CellView<'_>, row: u64, sum: i128)
+    requires shape { view.now.mask.shape ≡ 3 ∷ 2 ∷ [] }
+    requires row { row < 3 }
+{
+    let first = view.get(&Shape::from_slice(&[row, 0]));
+    let second = view.get(&Shape::from_slice(&[row, 1]));
+    assert!(rt; first.is_none() && second == Some(sum), "row {row}");
+}
+
 // `1000 + numpy.ma.array([100, 0, 127], mask=[0, 1, 0], dtype="int8").filled(0).cumsum(dtype="int64")`
 #[test]
 fn sums_down_a_column(rt: HostRuntime) -> Result<(), Fail> {
     let block = two_columns(rt.alloc())?;
-    let mut out = two_columns_of_sums(rt.alloc())?;
-    scan_column(&block, &mut out);
-    let made = out.into_block();
+    let made = column_of_sums(rt.alloc(), &block)?;
     let view = made.view();
-    for i in 0..3 {
-        let sum = view.get(&Shape::from_slice(&[i, 1]));
-        assert_eq!(rt; sum, Some([1100, 1100, 1227][i as usize]), "row {i}");
-        assert_eq!(rt; view.get(&Shape::from_slice(&[i, 0])), None, "row {i}");
-    }
+    has_row(&rt, &view, 0, 1100);
+    has_row(&rt, &view, 1, 1100);
+    has_row(&rt, &view, 2, 1227);
     Ok(())
 }
 
@@ -87,67 +105,88 @@ fn scan_row(block: &CellBlock, out: &mut CellWin)
     scan(before, &block.view(), 0, &Shape::from_slice(&[0]), out);
 }
 
-/// The sums along a row of a kind are these.
-fn try_row(rt: &impl Abort, alloc: Global, block: &CellBlock, sums: &[i128; 4]) -> Result<(), Fail>
-    requires { block.now.mask.shape ≡ 4 ∷ [] }
+fn four() -> Shape
+    ensures { result ≡ 4 ∷ [] }
 {
-    let zeros = CellBlock::zeroed(alloc, DType::Int64, &Shape::from_slice(&[4]))
+    Shape::from_slice(&[4])
+}
+
+/// A row of four cells of a kind.
+fn row_of(alloc: Global, kind: DType) -> Result<CellBlock, Fail>
+    ensures { IfOk result (λ b. b.mask.shape ≡ 4 ∷ []) }
+{
+    Ok(
+        CellBlock::from_slice(alloc, kind, &four(), &cells_of(kind))
+            .ok()
+            .ok_or("memory")?,
+    )
+}
+
+fn row_of_sums(alloc: Global, block: &CellBlock) -> Result<CellBlock, Fail>
+    requires { block.now.mask.shape ≡ 4 ∷ [] }
+    ensures { IfOk result (λ b. b.mask.shape ≡ 4 ∷ []) }
+{
+    let zeros = CellBlock::zeroed(alloc, DType::Int64, &four())
         .ok()
         .ok_or("memory")?;
     let mut out = CellWin::whole(zeros);
     scan_row(block, &mut out);
-    let made = out.into_block();
-    let view = made.view();
+    Ok(out.into_block())
+}
+
+fn has_cells(rt: &impl Abort, block: &CellBlock, sums: [i128; 4])
+    requires { block.now.mask.shape ≡ 4 ∷ [] }
+{
+    let view = block.view();
     for i in 0..4 {
         let sum = view.get(&Shape::from_slice(&[i]));
         assert_eq!(rt; sum, Some(sums[i as usize]), "cell {i}");
     }
-    Ok(())
+}
+
+fn cells_of(kind: DType) -> [Option<i128>; 4]
+    ensures { All (IsCell kind) result }
+{
+    match kind {
+        DType::Bool => [Some(1), Some(0), Some(1), Some(1)],
+        DType::Char => [Some(97), Some(255), None, Some(255)],
+        DType::Int8 => [Some(100), Some(-128), Some(127), Some(5)],
+        DType::Int16 => [Some(32767), None, Some(32767), Some(-1)],
+        DType::Int32 => [None, Some(-2147483648), Some(-1), Some(7)],
+        DType::Int64 => [Some(9223372036854775807), Some(1), Some(-1), Some(5)],
+    }
 }
 
 // `numpy.array(cells, dtype=kind).cumsum(dtype="int64")`, a missing cell being 0; `uint8` for bytes of text.
-#[test]
-fn sums_along_a_row(rt: HostRuntime) -> Result<(), Fail> {
-    let alloc = rt.alloc();
-    let row = Shape::from_slice(&[4]);
-    let truths = [Some(1), Some(0), Some(1), Some(1)];
-    let block = CellBlock::from_slice(alloc, DType::Bool, &row, &truths)
-        .ok()
-        .ok_or("memory")?;
-    try_row(&rt, alloc, &block, &[1, 1, 2, 3])?;
-    let text = [Some(97), Some(255), None, Some(255)];
-    let block = CellBlock::from_slice(alloc, DType::Char, &row, &text)
-        .ok()
-        .ok_or("memory")?;
-    try_row(&rt, alloc, &block, &[97, 352, 352, 607])?;
-    let shorts = [Some(32767), None, Some(32767), Some(-1)];
-    let block = CellBlock::from_slice(alloc, DType::Int16, &row, &shorts)
-        .ok()
-        .ok_or("memory")?;
-    try_row(&rt, alloc, &block, &[32767, 32767, 65534, 65533])?;
-    let ints = [None, Some(-2147483648), Some(-1), Some(7)];
-    let block = CellBlock::from_slice(alloc, DType::Int32, &row, &ints)
-        .ok()
-        .ok_or("memory")?;
-    try_row(
-        &rt,
-        alloc,
-        &block,
-        &[0, -2147483648, -2147483649, -2147483642],
-    )?;
-    let longs = [Some(9223372036854775807), Some(1), Some(-1), Some(5)];
-    let block = CellBlock::from_slice(alloc, DType::Int64, &row, &longs)
-        .ok()
-        .ok_or("memory")?;
-    try_row(
-        &rt,
-        alloc,
-        &block,
-        &[
+fn sums_of(kind: DType) -> [i128; 4] {
+    match kind {
+        DType::Bool => [1, 1, 2, 3],
+        DType::Char => [97, 352, 352, 607],
+        DType::Int8 => [100, -28, 99, 104],
+        DType::Int16 => [32767, 32767, 65534, 65533],
+        DType::Int32 => [0, -2147483648, -2147483649, -2147483642],
+        DType::Int64 => [
             9223372036854775807,
             -9223372036854775808,
             9223372036854775807,
             -9223372036854775804,
         ],
-    )
+    }
+}
+
+fn try_row(rt: &impl Abort, alloc: Global, kind: DType) -> Result<(), Fail> {
+    let block = row_of(alloc, kind)?;
+    let made = row_of_sums(alloc, &block)?;
+    has_cells(rt, &made, sums_of(kind));
+    Ok(())
+}
+
+#[test]
+fn sums_along_a_row(rt: HostRuntime) -> Result<(), Fail> {
+    try_row(&rt, rt.alloc(), DType::Bool)?;
+    try_row(&rt, rt.alloc(), DType::Char)?;
+    try_row(&rt, rt.alloc(), DType::Int8)?;
+    try_row(&rt, rt.alloc(), DType::Int16)?;
+    try_row(&rt, rt.alloc(), DType::Int32)?;
+    try_row(&rt, rt.alloc(), DType::Int64)
 }

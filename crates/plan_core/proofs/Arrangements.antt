@@ -12,8 +12,8 @@ use Rattle.xr_types.specs.declared.kind.DType.TheVariants as kinds
 use Rattle.xr_types.proofs.Wrapping.{wrapped_only}
 use Rattle.xr_defs.specs.Points.{size, tab, place, IsPoint}
 use Rattle.xr_defs.specs.Arrays.{Array, cell, hidden, wide, kind_of, InKind, IsCell}
-use Rattle.xr_defs.specs.declared.array.Cells.{Cells}
-use Rattle.xr_defs.specs.declared.array.Cells.TheVariants.{Bool as Truths, Char, Int8, Int16, Int32, Int64}
+use Rattle.xr_defs.specs.declared.typed.Cells.{Cells}
+use Rattle.xr_defs.specs.declared.typed.Cells.TheVariants.{Bool as Truths, Char, Int8, Int16, Int32, Int64}
 use Rattle.plan_core.specs.Arrangements.{shown, arranged, arranged_cells, arranged_mask, filling, gap, cell_from, rearranged, LieInside, ShowsAll}
 use Rattle.plan_core.proofs.Tabs.{tab_same, tab-map, tab-zip, tab-length, place_below, All-tab}
 
@@ -194,10 +194,11 @@ rearranged_is a x m t point holes fill parts inside all fits =
 
 -- ---- from what the code has at hand
 
-pub parts_of : {B : Type 0} (now : B → List ℕ) (a : Array) (x : Cells) (o : Option B) → kind_of x ≡ a.kind → InKind x → MatchOption o (a.cells ≡ hidden (wide x) None) (λ m. a.cells ≡ hidden (wide x) (Some (now m))) → length (wide x) ≡ size a.shape
-    → MatchOption o (length (wide x) ≡ size a.shape) (λ m. length (now m) ≡ size a.shape) → AreParts a x (option_map now o)
-parts_of now a x None kind range cells whole mask = record { kind = sym kind; range = range; cells = cells; whole = whole; mask = tt }
-parts_of now a x (Some m) kind range cells whole mask = record { kind = sym kind; range = range; cells = cells; whole = whole; mask = mask }
+-- the parts of an array with typed cells, as those of the array that it is
+pub parts_of : {B : Type 0} (now : B → List ℕ) (typed a : Array) (x : Cells) (o : Option B) → typed ≡ a → kind_of x ≡ typed.kind → InKind x → MatchOption o (typed.cells ≡ hidden (wide x) None) (λ m. typed.cells ≡ hidden (wide x) (Some (now m))) → length (wide x) ≡ size typed.shape
+    → MatchOption o (length (wide x) ≡ size typed.shape) (λ m. length (now m) ≡ size typed.shape) → AreParts a x (option_map now o)
+parts_of now typed a x None same kind range cells whole mask = subst (λ (b : Array). AreParts b x None) same (record { kind = sym kind; range = range; cells = cells; whole = whole; mask = tt })
+parts_of now typed a x (Some m) same kind range cells whole mask = subst (λ (b : Array). AreParts b x (Some (now m))) same (record { kind = sym kind; range = range; cells = cells; whole = whole; mask = mask })
 
 pub rearranged_here : (a : Array) (x z : Cells) (m r : Option (List ℕ)) (s t u : List ℕ) (point : List ℕ → Option (List ℕ)) (holes : Bool) (fill : Option ℤ) (n : ℤ)
     → s ≡ a.shape → AreParts a x m → LieInside s t point → (holes ≡ false → ShowsAll t point) → IsCell a.kind fill

@@ -9,7 +9,7 @@ use Rattle.std.proofs.Math.ListN.{get_or-append}
 use Rattle.std.proofs.lemmas.List.{append-nil, drop_all, take_all, take_more, map-append, length-map, length-replicate}
 use Rattle.xr_defs.specs.Points.{size, place, IsPoint}
 use Rattle.xr_defs.specs.Arrays.{Array, at, cell, hidden, wide}
-use Rattle.xr_defs.specs.declared.array.Cells.{Cells}
+use Rattle.xr_defs.specs.declared.typed.Cells.{Cells}
 use Rattle.xr_types.specs.declared.kind.DType.{DType}
 use Rattle.xr_defs.specs.Nodes.{along, end_to_end, Continues, concatenated, first_array, most_node_cells}
 use Rattle.plan_core.specs.Concats.{joined_mask, row_of}

@@ -1,9 +1,12 @@
 -- Folds of a row of cells, one cell after the other.
-use Rattle.std.proofs.Common.{◌≡◌, ◌+◌, ℕ, ℤ, ◌+ℤ◌, ◌*ℤ◌, List, [], ◌∷◌, map, Option, Some, None, refl, sym, ap, ◌∙◌}
+use Rattle.std.proofs.Common.{◌≡◌, ◌+◌, ℕ, ℤ, ◌+ℤ◌, ◌*ℤ◌, Bool, true, false, not, cond, List, [], ◌∷◌, map, drop, zip, Option, Some, None, refl, sym, ap, ◌∙◌}
 use Rattle.std.specs.Int.{int_wrap, w64}
 use Rattle.std.proofs.lemmas.Int.{int_wrap-add_left, int_wrap-add_right, int_wrap-mul_left, int_wrap-mul_right}
-use Rattle.xr_defs.specs.Folds.{numbers, present, numbered}
+use Rattle.xr_defs.specs.Arrays.{cell}
+use Rattle.xr_defs.specs.Folds.{numbers, present, numbered, sum_of}
+use Rattle.xr_defs.specs.Stored.{is_fill, unless_fill}
 use Rattle.xr_defs.proofs.Folds.{add_assoc_ℤ, mul_assoc_ℤ}
+use Rattle.stored_cells.specs.Counted.{present as shown}
 use Rattle.plan_core.specs.Rows.{those}
 
 pub those_are : (p : ℕ) (cells : List (Option ℤ)) → numbers (present (numbered p cells)) ≡ those cells
@@ -16,6 +19,18 @@ sum_step s n r =
     let m = int_wrap w64 n in
     int_wrap-add_left w64 (s +ℤ m) r ∙ ap (int_wrap w64) (sym (add_assoc_ℤ s m r)) ∙ sym (int_wrap-add_right w64 s (m +ℤ r)) ∙ ap (λ k. int_wrap w64 (s +ℤ k)) (int_wrap-add_left w64 n r) ∙ int_wrap-add_right w64 s (n +ℤ r)
 
+-- the sum with one element more
+pub sum_more : {X : Type 0} (number : X → ℤ) (xs : List X) (i : ℕ) (x : X) (before now base : ℤ) → drop i xs ≡ x ∷ drop (i + 1) xs → ((rest : ℤ) → int_wrap w64 (now +ℤ rest) ≡ int_wrap w64 (before +ℤ (number x +ℤ rest)))
+    → int_wrap w64 (before +ℤ sum_of (map number (drop i xs))) ≡ base → int_wrap w64 (now +ℤ sum_of (map number (drop (i + 1) xs))) ≡ base
+sum_more number xs i x before now base first more so_far = more (sum_of (map number (drop (i + 1) xs))) ∙ ap (λ ys. int_wrap w64 (before +ℤ sum_of (map number ys))) (sym first) ∙ so_far
+
+pub masked_more : {X : Type 0} (number : X → ℤ) (xs : List X) (bytes : List ℕ) (i : ℕ) (x : X) (byte : ℕ) (before now base : ℤ) → drop i xs ≡ x ∷ drop (i + 1) xs → drop i bytes ≡ byte ∷ drop (i + 1) bytes
+    → ((rest : List (Option ℤ)) → int_wrap w64 (now +ℤ sum_of (those rest)) ≡ int_wrap w64 (before +ℤ sum_of (those (cell (number x, byte) ∷ rest)))) → int_wrap w64 (before +ℤ sum_of (those (map cell (zip (map number (drop i xs)) (drop i bytes))))) ≡ base
+    → int_wrap w64 (now +ℤ sum_of (those (map cell (zip (map number (drop (i + 1) xs)) (drop (i + 1) bytes))))) ≡ base
+masked_more number xs bytes i x byte before now base first first_byte more so_far =
+    more (map cell (zip (map number (drop (i + 1) xs)) (drop (i + 1) bytes))) ∙ ap (λ ys. int_wrap w64 (before +ℤ sum_of (those (map cell (zip (map number ys) (byte ∷ drop (i + 1) bytes)))))) (sym first)
+    ∙ ap (λ bs. int_wrap w64 (before +ℤ sum_of (those (map cell (zip (map number (drop i xs)) bs))))) (sym first_byte) ∙ so_far
+
 pub product_step : (s n r : ℤ) → int_wrap w64 (int_wrap w64 (s *ℤ int_wrap w64 n) *ℤ r) ≡ int_wrap w64 (s *ℤ (n *ℤ r))
 product_step s n r =
     let m = int_wrap w64 n in
@@ -24,3 +39,12 @@ product_step s n r =
 pub those_bare : (xs : List ℤ) → those (map Some xs) ≡ xs
 those_bare [] = refl
 those_bare (x ∷ xs) = ap (λ t. x ∷ t) (those_bare xs)
+
+-- the numbers that no fill number hides
+pub those_present : (fills ns : List ℤ) → those (map (unless_fill fills) ns) ≡ shown fills ns
+those_present fills [] = refl
+those_present fills (n ∷ ns) = one (is_fill fills n) n (map (unless_fill fills) ns) (shown fills ns) (those_present fills ns)
+  where
+    one : (hidden : Bool) (n : ℤ) (cells : List (Option ℤ)) (rest : List ℤ) → those cells ≡ rest → those (cond hidden None (Some n) ∷ cells) ≡ cond (not hidden) (n ∷ rest) rest
+    one true n cells rest e = e
+    one false n cells rest e = ap (λ t. n ∷ t) e

@@ -1,5 +1,5 @@
 -- The fold of rows of an array whose axes are sorted is the fold of the array.
-use Rattle.std.proofs.Common.{◌≡◌, ◌<◌, ◌≤◌, ◌+◌, ◌-◌, ◌*◌, ◌^◌, ℕ, ℤ, zero, suc, List, [], ◌∷◌, ◌++◌, length, take, drop, Option, Some, None, refl, sym, ap, subst, ◌∙◌, arith, length-drop, min}
+use Rattle.std.proofs.Common.{◌≡◌, ◌<◌, ◌≤◌, ◌+◌, ◌-◌, ◌*◌, ◌^◌, ℕ, ℤ, zero, suc, List, [], ◌∷◌, ◌++◌, length, take, drop, Option, Some, None, refl, sym, ap, ◌∙◌, arith, length-drop, min}
 use Rattle.std.specs.Int.{int_wrap, w64}
 use Rattle.std.specs.List.{All}
 use Rattle.std.proofs.lemmas.List.{take_at, drop_at, length-take-le, nil_from_length}
@@ -126,24 +126,24 @@ sizes_sorted (feed.All ∷ fs) (n ∷ ns) e = swapped (size (kept fs ns)) n (siz
     swapped : (a n b : ℕ) → a * (n * b) ≡ n * (a * b)
     swapped a n b = grind arith
 
+pub sorted_is : (fs : List Feed) (a sorted : Array) (shape : List ℕ) → shape ≡ a.shape → sorted ≡ rearranged a (sorted_sizes fs shape) (sorted_point fs shape) None → sorted ≡ rearranged a (sorted_sizes fs a.shape) (sorted_point fs a.shape) None
+sorted_is fs a sorted shape is_shape is = is ∙ ap (λ (t : List ℕ). rearranged a (sorted_sizes fs t) (sorted_point fs t) None) is_shape
+
 pub record FoldHere (k : FoldKind) (fs : List Feed) (a : Array) (rows width : ℕ) (cells : List (Option ℤ)) : Type 0 where
   pub whole : length cells ≡ rows * width
   pub is : folded_rows k a.kind width rows cells ≡ (folded k fs a).cells
   pub range : All (IsCell (folded_kind k a.kind)) (folded_rows k a.kind width rows cells)
 
-pub fold_here : (k : FoldKind) (fs : List Feed) (a sorted : Array) (shape spreads : List ℕ) (rows width : ℕ) (cells : List (Option ℤ)) → length fs ≡ length a.shape → size a.shape ≤ 2 ^ 50 → shape ≡ a.shape → rows ≡ size (kept fs a.shape) → 0 < rows
-    → spreads ≡ spread fs shape → width ≡ min (size spreads) (2 ^ 64 - 1) → sorted ≡ rearranged a (sorted_sizes fs shape) (sorted_point fs shape) None → cells ≡ sorted.cells → All (IsCell sorted.kind) cells → FoldHere k fs a rows width cells
-fold_here k fs a sorted shape spreads rows width cells e few is_shape is_rows some is_spreads is_width is_sorted is_cells range =
+pub fold_here : (k : FoldKind) (fs : List Feed) (a : Array) (spreads : List ℕ) (rows width : ℕ) (cells : List (Option ℤ)) → length fs ≡ length a.shape → size a.shape ≤ 2 ^ 50 → rows ≡ size (kept fs a.shape) → 0 < rows
+    → spreads ≡ spread fs a.shape → width ≡ min (size spreads) (2 ^ 64 - 1) → cells ≡ (rearranged a (sorted_sizes fs a.shape) (sorted_point fs a.shape) None).cells → All (IsCell a.kind) cells → FoldHere k fs a rows width cells
+fold_here k fs a spreads rows width cells e few is_rows some is_spreads is_width same kinds =
     let s : List ℕ = a.shape in
     let b = size (spread fs s) in
     let both : rows * b ≡ size s = ap (λ n. n * b) is_rows ∙ sizes_sorted fs s e in
     let all : rows * b ≤ 2 ^ 50 = omega (arith, both, few) in
     let small : b ≤ 2 ^ 50 = factor_small rows b some all in
-    let w : width ≡ b = let m = is_width ∙ ap (λ t. min (size t) (2 ^ 64 - 1)) (is_spreads ∙ ap (spread fs) is_shape) in omega (arith, m, small) in
-    let made : sorted ≡ rearranged a (sorted_sizes fs s) (sorted_point fs s) None = is_sorted ∙ ap (λ (t : List ℕ). rearranged a (sorted_sizes fs t) (sorted_point fs t) None) is_shape in
-    let same : cells ≡ (rearranged a (sorted_sizes fs s) (sorted_point fs s) None).cells = is_cells ∙ ap (λ (x : Array). x.cells) made in
+    let w : width ≡ b = let m = is_width ∙ ap (λ t. min (size t) (2 ^ 64 - 1)) is_spreads in omega (arith, m, small) in
     let long : length cells ≡ rows * width = ap length same ∙ tab-length (sorted_sizes fs s) (λ r. cell_from a None (sorted_point fs s r)) ∙ size_both (kept fs s) (spread fs s) ∙ ap (λ n. n * b) (sym is_rows) ∙ ap (λ n. rows * n) (sym w) in
-    let kinds : All (IsCell a.kind) cells = subst (λ t. All (IsCell t) cells) (ap (λ (x : Array). x.kind) made) range in
     record {
       whole = long;
       is = ap (λ n. folded_rows k a.kind n rows cells) w ∙ ap (λ n. folded_rows k a.kind b n cells) is_rows ∙ ap (folded_rows k a.kind b (size (kept fs s))) same ∙ rows_are k fs a e;

@@ -1,5 +1,5 @@
 -- Lists one after the other, read as one along an axis.
-use Rattle.std.proofs.Common.{◌≡◌, ◌<◌, ◌≤◌, ◌+◌, ◌-◌, ◌*◌, ◌^◌, ℕ, zero, suc, cond, List, [], ◌∷◌, ◌++◌, length, min, take, drop, set, sum, fold, get_or, refl, sym, ap, subst, ◌∙◌, arith, append_assoc, add-one, ltb}
+use Rattle.std.proofs.Common.{◌≡◌, ◌<◌, ◌≤◌, ◌+◌, ◌-◌, ◌*◌, ◌^◌, ℕ, zero, suc, cond, List, [], ◌∷◌, ◌++◌, length, min, take, drop, set, sum, fold, get_or, refl, sym, ap, subst, ◌∙◌, arith, append_assoc, add-one, ltb, Fits, w64}
 use Rattle.std.specs.List.{flat_map, range_with_len}
 use Rattle.std.proofs.lemmas.Bool.{lt-ltb, le-ltb}
 use Rattle.std.proofs.lemmas.Grind.{flat_map-append}
@@ -148,6 +148,29 @@ row_fits row outer before start n len ns lies lt =
     let a : before * (n * row) + n * row ≤ outer * (n * row) = within before outer (n * row) lt in
     omega (arith, lies, e, a)
 
+pub lies_more : (row outer start i len : ℕ) (counts : List ℕ) → i < length counts → LieIn row outer start (drop i counts) len → LieIn row outer start (get_or counts i 0 ∷ drop (i + 1) counts) len
+lies_more row outer start i len counts lt lies = subst (λ (ns : List ℕ). LieIn row outer start ns len) (at_axis counts i lt) lies
+
+-- each number on the way to a block is within what is there
+pub record StepsFit (row outer before start n len : ℕ) : Type 0 where
+  pub of_block : n * row ≤ len
+  pub blocks_before : before * (n * row) ≤ len
+  pub block_start : start + before * (n * row) ≤ len
+  pub all_blocks : outer * (n * row) ≤ len
+  pub next_start : start + outer * (n * row) ≤ len
+
+steps_fit : (row outer before start n len : ℕ) (ns : List ℕ) → LieIn row outer start (n ∷ ns) len → before < outer → StepsFit row outer before start n len
+steps_fit row outer before start n len ns lies lt =
+    let e = both_counts outer n (joined_total ns) row in
+    let a : before * (n * row) + n * row ≤ outer * (n * row) = within before outer (n * row) lt in
+    record { of_block = omega (arith, lies, e, a); blocks_before = omega (arith, lies, e, a); block_start = omega (arith, lies, e, a); all_blocks = omega (arith, lies, e); next_start = omega (arith, lies, e) }
+
+pub steps_more : (row outer before start i len : ℕ) (counts : List ℕ) → i < length counts → LieIn row outer start (drop i counts) len → before < outer → StepsFit row outer before start (get_or counts i 0) len
+steps_more row outer before start i len counts lt lies below = steps_fit row outer before start (get_or counts i 0) len (drop (i + 1) counts) (lies_more row outer start i len counts lt lies) below
+
+pub below_64 : (n len : ℕ) → n ≤ len → len < 2 ^ 63 → Fits w64 n
+below_64 n len le small = omega (arith, le, small)
+
 -- one list more
 pub row_more : {X : Type 0} (row outer o start i : ℕ) (counts : List ℕ) (xs out more here base : List X) → i < length counts → more ≡ out ++ here → here ≡ take (get_or counts i 0 * row) (drop (start + o * (get_or counts i 0 * row)) xs)
     → out ++ joined_row row outer o start (drop i counts) xs ≡ base → more ++ joined_row row outer o (start + outer * (get_or counts i 0 * row)) (drop (i + 1) counts) xs ≡ base
@@ -155,9 +178,6 @@ row_more row outer o start i counts xs out more here base lt is_more is_here so_
     let n = get_or counts i 0 in
     let rest = joined_row row outer o (start + outer * (n * row)) (drop (i + 1) counts) xs in
     ap (λ t. t ++ rest) is_more ∙ append_assoc out here rest ∙ ap (λ t. out ++ (t ++ rest)) is_here ∙ ap (λ k. out ++ joined_row row outer o start k xs) (sym (at_axis counts i lt)) ∙ so_far
-
-pub lies_more : (row outer start i len : ℕ) (counts : List ℕ) → i < length counts → LieIn row outer start (drop i counts) len → LieIn row outer start (get_or counts i 0 ∷ drop (i + 1) counts) len
-lies_more row outer start i len counts lt lies = subst (λ (ns : List ℕ). LieIn row outer start ns len) (at_axis counts i lt) lies
 
 pub row_done : {X : Type 0} (row outer o start i : ℕ) (counts : List ℕ) (xs out base : List X) → length counts ≤ i → out ++ joined_row row outer o start (drop i counts) xs ≡ base → out ≡ base
 row_done row outer o start i counts xs out base le so_far = sym (append-nil out) ∙ ap (λ k. out ++ joined_row row outer o start k xs) (sym (drop_all i counts le)) ∙ so_far

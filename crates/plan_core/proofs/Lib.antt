@@ -3,9 +3,11 @@ pub mod Added
 pub mod Tabs
 pub mod Products
 pub mod Arrangements
+pub mod Steps
 pub mod Takes
 pub mod Widens
 pub mod Strides
+pub mod Blocks
 pub mod Boxes
 pub mod Moves
 pub mod Joins

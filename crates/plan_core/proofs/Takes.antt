@@ -247,7 +247,7 @@ size_without [] axis lt = absurd (omega arith)
 size_without (n ∷ ns) zero lt = one_times (size ns) ∙ one_times (1 * size ns)
 size_without (n ∷ ns) (suc axis) lt = ap (λ x. n * x) (size_without ns axis (omega arith)) ∙ regroup n (size (take axis ns)) (1 * size (drop (suc axis) ns))
 
-taking_size : (drops : Bool) (s : List ℕ) (axis : ℕ) (from : List (Option ℕ)) → axis < length s → (drops ≡ true → length from ≡ 1) → size (taking_sizes drops s axis from) ≡ size (take axis s) * (length from * size (drop (suc axis) s))
+pub taking_size : (drops : Bool) (s : List ℕ) (axis : ℕ) (from : List (Option ℕ)) → axis < length s → (drops ≡ true → length from ≡ 1) → size (taking_sizes drops s axis from) ≡ size (take axis s) * (length from * size (drop (suc axis) s))
 taking_size true s axis from lt one = size_without s axis lt ∙ ap (λ k. size (take axis s) * (k * size (drop (suc axis) s))) (sym (one refl))
 taking_size false s axis from lt one = size_set s axis (length from) lt
 

@@ -4,8 +4,8 @@ use Rattle.xr_types.specs.Kinds.{wrap_to}
 use Rattle.xr_types.specs.declared.kind.DType.TheVariants as kinds
 use Rattle.xr_defs.specs.Points.{size, tab, place, IsPoint}
 use Rattle.xr_defs.specs.Arrays.{Array, at, made}
-use Rattle.xr_defs.specs.declared.array.Cells.{Cells}
-use Rattle.xr_defs.specs.declared.array.Cells.TheVariants.{Bool as Truths, Char, Int8, Int16, Int32, Int64}
+use Rattle.xr_defs.specs.declared.typed.Cells.{Cells}
+use Rattle.xr_defs.specs.declared.typed.Cells.TheVariants.{Bool as Truths, Char, Int8, Int16, Int32, Int64}
 
 -- ---- arrays
 

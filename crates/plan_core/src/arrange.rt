@@ -5,6 +5,7 @@ ghost use Rattle.xr_defs.specs.Arrays.{wide, IsCell};
 ghost use Rattle.plan_core.specs.Arrangements.{arranged, arranged_cells, arranged_mask, filling, gap, rearranged, LieInside, ShowsAll};
 
 use std::alloc::{AllocError, Global};
+use stored_cells::{Typed, as_typed};
 use xr_defs::{ArrayValue, Cells};
 use xr_types::{Elem, Items};
 
@@ -38,6 +39,19 @@ pub trait Arrangement {
         ensures { IfOk result (λ v. v.items ≡ arranged (from self.now) (to self.now) (point self.now) hole cells.now) };
 }
 
+fn arrange_items<A: Arrangement, T: Copy>(
+    alloc: Global,
+    by: &A,
+    cells: &Items<T>,
+    hole: T,
+) -> Result<Items<T>, AllocError>
+    requires fits { A.Fits by.now }
+    requires whole { length cells.now ≡ size (A.from by.now) }
+    ensures { IfOk result (λ v. v ≡ arranged (A.from by.now) (A.to by.now) (A.point by.now) hole cells.now) }
+{
+    Ok(Items::of(by.arrange(alloc, cells.as_slice(), hole)?))
+}
+
 fn arrange_cells<A: Arrangement>(
     alloc: Global,
     by: &A,
@@ -49,36 +63,12 @@ fn arrange_cells<A: Arrangement>(
     ensures { IfOk result (λ c. c ≡ arranged_cells (A.from by.now) (A.to by.now) (A.point by.now) hole cells.now) }
 {
     Ok(match cells {
-        Cells::Bool(v) => Cells::Bool(Items::of(by.arrange(
-            alloc,
-            v.as_slice(),
-            u8::wrap_from(hole),
-        )?)),
-        Cells::Char(v) => Cells::Char(Items::of(by.arrange(
-            alloc,
-            v.as_slice(),
-            u8::wrap_from(hole),
-        )?)),
-        Cells::Int8(v) => Cells::Int8(Items::of(by.arrange(
-            alloc,
-            v.as_slice(),
-            i8::wrap_from(hole),
-        )?)),
-        Cells::Int16(v) => Cells::Int16(Items::of(by.arrange(
-            alloc,
-            v.as_slice(),
-            i16::wrap_from(hole),
-        )?)),
-        Cells::Int32(v) => Cells::Int32(Items::of(by.arrange(
-            alloc,
-            v.as_slice(),
-            i32::wrap_from(hole),
-        )?)),
-        Cells::Int64(v) => Cells::Int64(Items::of(by.arrange(
-            alloc,
-            v.as_slice(),
-            i64::wrap_from(hole),
-        )?)),
+        Cells::Bool(v) => Cells::Bool(arrange_items(alloc, by, v, u8::wrap_from(hole))?),
+        Cells::Char(v) => Cells::Char(arrange_items(alloc, by, v, u8::wrap_from(hole))?),
+        Cells::Int8(v) => Cells::Int8(arrange_items(alloc, by, v, i8::wrap_from(hole))?),
+        Cells::Int16(v) => Cells::Int16(arrange_items(alloc, by, v, i16::wrap_from(hole))?),
+        Cells::Int32(v) => Cells::Int32(arrange_items(alloc, by, v, i32::wrap_from(hole))?),
+        Cells::Int64(v) => Cells::Int64(arrange_items(alloc, by, v, i64::wrap_from(hole))?),
     })
 }
 
@@ -129,6 +119,26 @@ fn arrange_mask<A: Arrangement>(
     }
 }
 
+// The array that shows these cells in this arrangement, its holes filled.
+fn rearrange_typed<A: Arrangement>(
+    alloc: Global,
+    typed: &Typed,
+    by: &A,
+    fill: Option<i128>,
+) -> Result<ArrayValue, AllocError>
+    requires fits { A.Fits by.now }
+    requires shape { A.from by.now ≡ typed.now.shape }
+    requires inside { LieInside (A.from by.now) (A.to by.now) (A.point by.now) }
+    requires fill { IsCell typed.now.kind fill }
+    ensures { IfOk result (λ b. b ≡ rearranged typed.now (A.to by.now) (A.point by.now) fill) }
+{
+    let (cells, mask) = typed.parts();
+    let shape = by.shape(alloc)?;
+    let new_mask = arrange_mask(alloc, by, count(cells), mask, fill, by.has_holes())?;
+    let new_cells = arrange_cells(alloc, by, cells, filling(fill))?;
+    Ok(ArrayValue::of(shape, new_cells, new_mask))
+}
+
 /// The array that shows the cells of another one in this arrangement, its holes filled.
 pub fn rearrange<A: Arrangement>(
     alloc: Global,
@@ -142,9 +152,6 @@ pub fn rearrange<A: Arrangement>(
     requires fill { IsCell a.now.kind fill }
     ensures { IfOk result (λ b. b ≡ rearranged a.now (A.to by.now) (A.point by.now) fill) }
 {
-    let (cells, mask) = a.parts();
-    let new_cells = arrange_cells(alloc, by, cells, filling(fill))?;
-    let new_mask = arrange_mask(alloc, by, count(cells), mask, fill, by.has_holes())?;
-    let shape = by.shape(alloc)?;
-    Ok(ArrayValue::of(shape, new_cells, new_mask))
+    let typed = as_typed(alloc, a)?;
+    rearrange_typed(alloc, &typed, by, fill)
 }

@@ -13,6 +13,7 @@ use crate::shapes::size_of;
 use crate::take::push_holes;
 use crate::typed::Typed;
 use std::alloc::{AllocError, Global};
+use stored_cells::as_typed;
 use xr_defs::{ArrayValue, Cells};
 use xr_types::{DType, Items};
 
@@ -46,6 +47,29 @@ fn next_mask(
     Ok(Some(Items::of(bytes)))
 }
 
+fn with_typed<T: Typed>(
+    alloc: Global,
+    so_far: Gathered<T>,
+    typed: &stored_cells::Typed,
+) -> Result<Gathered<T>, AllocError>
+    requires kind { T.Keeps typed.now.kind }
+    requires mask { IfSome so_far.mask (λ m. length m ≡ length so_far.cells) }
+    ensures cells { IfOk result (λ g. hidden (map T.number g.cells) g.mask ≡ hidden (map T.number so_far.cells) so_far.mask ++ typed.now.cells) }
+    ensures mask { IfOk result (λ g. IfSome g.mask (λ m. length m ≡ length g.cells)) }
+    ensures whole { IfOk result (λ g. length typed.now.cells ≡ size typed.now.shape) }
+    ensures truths { typed.now.kind ≡ Bool → All (λ x. InRange Bool (T.number x)) so_far.cells → IfOk result (λ g. All (λ x. InRange Bool (T.number x)) g.cells) }
+{
+    let (cells, mask) = typed.parts();
+    let more = T::slice(cells);
+    let mut all = so_far.cells.into_vec();
+    let mask = next_mask(alloc, so_far.mask, all.len(), more.len(), mask)?;
+    all.extend_from_slice(more)?;
+    Ok(Gathered {
+        cells: Items::of(all),
+        mask,
+    })
+}
+
 fn with_input<T: Typed>(
     alloc: Global,
     so_far: Gathered<T>,
@@ -58,15 +82,8 @@ fn with_input<T: Typed>(
     ensures whole { IfOk result (λ g. length a.now.cells ≡ size a.now.shape) }
     ensures truths { a.now.kind ≡ Bool → All (λ x. InRange Bool (T.number x)) so_far.cells → IfOk result (λ g. All (λ x. InRange Bool (T.number x)) g.cells) }
 {
-    let (cells, mask) = a.parts();
-    let more = T::slice(cells);
-    let mut all = so_far.cells.into_vec();
-    let mask = next_mask(alloc, so_far.mask, all.len(), more.len(), mask)?;
-    all.extend_from_slice(more)?;
-    Ok(Gathered {
-        cells: Items::of(all),
-        mask,
-    })
+    let typed = as_typed(alloc, a)?;
+    with_typed(alloc, so_far, &typed)
 }
 
 fn gather<T: Typed>(
@@ -177,8 +194,8 @@ pub fn concat(alloc: Global, inputs: &[&ArrayValue], axis: usize) -> Result<Arra
     ensures { IfOk result (λ b. b ≡ concatenated (map (λ a. a.now) inputs.now) axis) }
 {
     let first = inputs[0];
-    let all = one_after_the_other(alloc, inputs, first.kind())?;
     let counts = positions(alloc, inputs, axis)?;
+    let all = one_after_the_other(alloc, inputs, first.kind())?;
     let joining = Joining {
         shape: first.shape(),
         axis,

@@ -9,6 +9,8 @@ ghost use Rattle.xr_defs.specs.Arrays.{cell, IsCell, made};
 ghost use Rattle.xr_defs.specs.Folds.{folded_kind, sum_of};
 ghost use Rattle.xr_defs.specs.Nodes.{kept, folded, most_node_cells};
 ghost use Rattle.plan_core.specs.Rows.{those, folded_rows};
+ghost use Rattle.plan_core.specs.Arrangements.{rearranged};
+ghost use Rattle.plan_core.specs.Strides.{sorted_sizes, sorted_point};
 
 use crate::arrange::rearrange;
 use crate::fold_row::fold_row;
@@ -51,6 +53,25 @@ fn fold_rows(
     Ok(folds)
 }
 
+// The cells with the axes that are kept before those that are folded.
+fn sorted_cells(
+    alloc: Global,
+    a: &ArrayValue,
+    feeds: &[Feed],
+) -> Result<Vec<Option<i128>>, AllocError>
+    requires feeds { length feeds.now ≡ length a.now.shape }
+    requires few { size a.now.shape ≤ most_node_cells }
+    ensures cells { IfOk result (λ v. v.items ≡ (rearranged a.now (sorted_sizes feeds.now a.now.shape) (sorted_point feeds.now a.now.shape) None).cells) }
+    ensures range { IfOk result (λ v. All (IsCell a.now.kind) v.items) }
+{
+    let sorting = Sorting {
+        shape: a.shape(),
+        feeds,
+    };
+    let sorted = rearrange(alloc, a, &sorting, None)?;
+    numbers_of(alloc, &sorted)
+}
+
 // The cells of the fold, where there are any.
 fn fold_cells(
     alloc: Global,
@@ -67,12 +88,7 @@ fn fold_cells(
     ensures range { IfOk result (λ v. All (IsCell (folded_kind fold a.now.kind)) v.items) }
 {
     let width = points(&folded_sizes(alloc, feeds, a.shape())?);
-    let sorting = Sorting {
-        shape: a.shape(),
-        feeds,
-    };
-    let sorted = rearrange(alloc, a, &sorting, None)?;
-    let cells = numbers_of(alloc, &sorted)?;
+    let cells = sorted_cells(alloc, a, feeds)?;
     fold_rows(alloc, fold, rows as usize, width as usize, &cells)
 }
 

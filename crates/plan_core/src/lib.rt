@@ -18,8 +18,6 @@ mod shapes;
 mod sort;
 mod stride;
 mod take;
-#[cfg(test)]
-mod tests;
 mod total;
 mod typed;
 mod whole;

@@ -8,6 +8,7 @@ ghost use Rattle.xr_defs.specs.Arrays.{hidden, cell, kind_of, wide, IsCell, InKi
 ghost use Rattle.plan_core.specs.Arrangements.{filling, gap};
 
 use std::alloc::{AllocError, Global};
+use stored_cells::{Typed, as_typed};
 use xr_defs::{ArrayValue, Cells};
 use xr_types::{DType, Elem, Items};
 
@@ -68,12 +69,11 @@ fn numbers_in<T: Elem>(
     }
 }
 
-/// The cells of an array.
-pub fn numbers_of(alloc: Global, a: &ArrayValue) -> Result<Vec<Option<i128>>, AllocError>
-    ensures cells { IfOk result (λ v. v.items ≡ a.now.cells) }
-    ensures range { IfOk result (λ v. All (IsCell a.now.kind) v.items) }
+fn typed_numbers(alloc: Global, typed: &Typed) -> Result<Vec<Option<i128>>, AllocError>
+    ensures cells { IfOk result (λ v. v.items ≡ typed.now.cells) }
+    ensures range { IfOk result (λ v. All (IsCell typed.now.kind) v.items) }
 {
-    let (cells, mask) = a.parts();
+    let (cells, mask) = typed.parts();
     match cells {
         Cells::Bool(v) => numbers_in(alloc, v.as_slice(), mask),
         Cells::Char(v) => numbers_in(alloc, v.as_slice(), mask),
@@ -82,6 +82,15 @@ pub fn numbers_of(alloc: Global, a: &ArrayValue) -> Result<Vec<Option<i128>>, Al
         Cells::Int32(v) => numbers_in(alloc, v.as_slice(), mask),
         Cells::Int64(v) => numbers_in(alloc, v.as_slice(), mask),
     }
+}
+
+/// The cells of an array.
+pub fn numbers_of(alloc: Global, a: &ArrayValue) -> Result<Vec<Option<i128>>, AllocError>
+    ensures cells { IfOk result (λ v. v.items ≡ a.now.cells) }
+    ensures range { IfOk result (λ v. All (IsCell a.now.kind) v.items) }
+{
+    let typed = as_typed(alloc, a)?;
+    typed_numbers(alloc, &typed)
 }
 
 // A number's cell, or that of 0 where there is none.

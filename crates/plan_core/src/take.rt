@@ -155,7 +155,8 @@ fn push_blocks<T: Copy>(
     Ok(())
 }
 
-fn taken_shape(
+/// The sizes with another one for an axis, or without it.
+pub fn taken_shape(
     alloc: Global,
     shape: &[u64],
     axis: usize,

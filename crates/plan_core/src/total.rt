@@ -7,7 +7,8 @@ ghost use Rattle.xr_defs.specs.Folds.{sum_of};
 ghost use Rattle.plan_core.specs.Rows.{those};
 
 use crate::fold_row::added;
-use xr_defs::{ArrayValue, Cells};
+use stored_cells::sum;
+use xr_defs::{ArrayValue, Cells, Form, StoredArray, TypedArray};
 use xr_types::{Elem, Items};
 
 // The sum with one more cell.
@@ -69,11 +70,29 @@ fn total_cells(cells: &Cells, mask: Option<&Items<u8>>) -> i64
     }
 }
 
+fn total_typed(array: &TypedArray) -> i64
+    ensures whole { length array.now.cells ≡ size array.now.shape }
+    ensures sum { result ≡ int_wrap w64 (sum_of (those array.now.cells)) }
+{
+    let (cells, mask) = array.parts();
+    total_cells(cells, mask)
+}
+
+fn total_stored(array: &StoredArray) -> i64
+    ensures whole { length array.now.cells ≡ size array.now.shape }
+    ensures sum { result ≡ int_wrap w64 (sum_of (those array.now.cells)) }
+{
+    let parts = array.parts();
+    sum(parts.kind, parts.bytes.as_slice(), parts.fills)
+}
+
 /// The sum of the cells that aren't missing, wrapped at 64 bits.
 pub fn total(a: &ArrayValue) -> i64
     ensures whole { length a.now.cells ≡ size a.now.shape }
     ensures sum { result ≡ int_wrap w64 (sum_of (those a.now.cells)) }
 {
-    let (cells, mask) = a.parts();
-    total_cells(cells, mask)
+    match a.form() {
+        Form::Typed(array) => total_typed(array),
+        Form::Stored(array) => total_stored(array),
+    }
 }

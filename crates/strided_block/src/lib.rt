@@ -6,8 +6,6 @@ mod cells;
 mod line;
 mod place;
 mod row;
-#[cfg(test)]
-mod tests;
 mod typed;
 mod view;
 mod win;

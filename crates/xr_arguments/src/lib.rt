@@ -8,6 +8,3 @@ mod texts;
 pub use arguments::{as_text, nothing_given, only};
 pub use parameters::{argument, bound, option, required};
 pub use texts::texts_in;
-
-#[cfg(test)]
-mod tests;

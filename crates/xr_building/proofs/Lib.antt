@@ -24,7 +24,6 @@ pub mod Standing
 pub mod Stays
 pub mod Steps
 pub mod Tables
-pub mod TestValues
 pub mod Undeclined
 pub mod Unlabelled
 pub mod Unrefused

@@ -22,6 +22,7 @@ use crate::labels::{cell_labels, in_64_bits, list_labels};
 use plan_core::Compute;
 use std::alloc::{AllocError, Global};
 use std::thread::Threads;
+use stored_cells::as_typed;
 use xr_defs::{ArrayValue, Content, Coord};
 use xr_types::{Axis, CallFault, DType, DeepCopy, Items, Labels, TextBytes};
 use xr_values::{Cx, DataArray, Value};
@@ -31,7 +32,8 @@ fn array_labels(alloc: Global, array: &DataArray, cells: &ArrayValue) -> Result<
     requires seen { array.now.masked ≡ false }
     ensures { (nodes : List Node) → IsArrayIn nodes array.now → cells.now ≡ value_of nodes array.now.node → IfOk result (λ l. Some l ≡ labels_in (Array (array_in nodes array.now))) }
 {
-    let (numbers, _) = cells.parts();
+    let typed = as_typed(alloc, cells)?;
+    let (numbers, _) = typed.parts();
     Ok(Labels {
         list: cell_labels(alloc, array.kind, numbers)?,
         attrs: array.attrs.deep_copy(alloc)?,

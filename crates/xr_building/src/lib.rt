@@ -27,6 +27,3 @@ mod written;
 pub use assigned::assign_to_array;
 pub use assigned_sets::assign_to_set;
 pub use written::array_written_out;
-
-#[cfg(test)]
-mod tests;

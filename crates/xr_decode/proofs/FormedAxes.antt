@@ -18,10 +18,10 @@ use Rattle.xr_defs.specs.Points.{size}
 use Rattle.xr_defs.specs.Numbers.{cells_kind, numbers_of, is_whole}
 use Rattle.xr_defs.specs.Values.{label_count}
 use Rattle.xr_defs.specs.Decoding.{is_integer, is_char, all_there, text_in, row, rows_of, var_shape, is_named_as_first, number_labels, text_labels, or_else, labels_in, unlisted}
+use Rattle.stored_cells.proofs.Lengths.{numbers-length}
 use Rattle.xr_values.specs.WellFormed.{IsIndex, AreLabels}
 use Rattle.xr_decode.specs.Readable.{IsReadableVar}
 use Rattle.xr_decode.specs.Stored.{AreBytes}
-use Rattle.xr_decode.proofs.Arrays.{numbers-length}
 use Rattle.xr_decode.proofs.FormedCells.{without_formed}
 use Rattle.xr_decode.proofs.Members.{bytes_same}
 use Rattle.xr_decode.proofs.Ranges.{numbers_fit}
@@ -67,7 +67,7 @@ numbers_formed f v h r bytes integer one =
     let kind = integer_kind v.kind integer in
     let single : h.others ≡ [] = alone h.first h.others (ap length (sym h.dims) ∙ eqb-true (length v.dims) 1 one) in
     let size_is : length (numbers_of v.kind v.raw) ≡ positions f.numrecs (dim_at f.dims h.first) * 1 =
-    numbers-length f v r kind.1 ∙ ap (λ ids. size (map (λ i. positions f.numrecs (dim_at f.dims i)) ids)) (h.dims ∙ ap (λ ids. h.first ∷ ids) single) in
+    numbers-length v.kind v.raw (size (var_shape f v)) kind.1 (r.whole kind.1) ∙ ap (λ ids. size (map (λ i. positions f.numrecs (dim_at f.dims i)) ids)) (h.dims ∙ ap (λ ids. h.first ∷ ids) single) in
     record { first = h; count = size_is ∙ omega arith; range = (kind.0, numbers_fit v.kind v.raw kind.1 bytes) }
 
 texts-length : (os : List (Option (List ℕ))) (texts : List (List ℕ)) → all_there os ≡ Some texts → length texts ≡ length os

@@ -8,13 +8,15 @@ use Rattle.xr_defs.specs.declared.file.CdfVar.{CdfVar}
 use Rattle.xr_defs.specs.declared.file.CdfFile.{CdfFile}
 use Rattle.xr_defs.specs.Classic.{dim_at}
 use Rattle.xr_defs.specs.Files.{positions}
-use Rattle.xr_defs.specs.Decoding.{is_char_attr, without_text_attr, unlisted, is_masked, fill_numbers, is_bool, truth, unless_fill, var_shape, variable_of, variable_as_stored, as_truths}
+use Rattle.xr_defs.specs.Decoding.{is_char_attr, without_text_attr, unlisted, is_masked, fill_numbers, is_bool, truth, var_shape, variable_of, variable_as_stored, as_truths}
 use Rattle.xr_defs.specs.Numbers.{numbers_of}
+use Rattle.xr_defs.specs.Points.{size}
+use Rattle.xr_defs.specs.Stored.{unless_fill}
+use Rattle.stored_cells.proofs.Lengths.{numbers-length}
 use Rattle.xr_values.specs.WellFormed.{IsAttribute, AreAttributes, AreCells, AreSeen}
 use Rattle.xr_decode.specs.Cells.{fills_used, attrs_as}
 use Rattle.xr_decode.specs.Readable.{IsReadableVar}
 use Rattle.xr_decode.specs.Stored.{AreBytes}
-use Rattle.xr_decode.proofs.Arrays.{numbers-length}
 use Rattle.xr_decode.proofs.Loaded.{IsLoaded}
 use Rattle.xr_decode.proofs.Members.{every, at_member, has_filtered}
 use Rattle.xr_decode.proofs.OneByOne.{distinct_filter}
@@ -76,7 +78,7 @@ seen_formed f m v = by (is_bool v)
 pub cells_formed : (f : CdfFile) (m : Bool) (v : CdfVar) → IsReadableVar f v → IsLoaded f v → AreBytes v.raw → AreCells (var_shape f v) (variable_of f m v).kind (variable_of f m v).masked (variable_of f m v).cells
 cells_formed f m v r l bytes =
     record {
-      whole = variable-length f m v ∙ numbers-length f v r l.whole;
+      whole = variable-length f m v ∙ numbers-length v.kind v.raw (size (var_shape f v)) l.whole (r.whole l.whole);
       range = variable_fits f m v l.whole bytes;
       seen = seen_formed f m v;
       low_rank = let rank = length-map v.dims (λ i. positions f.numrecs (dim_at f.dims i)) in let few = l.low_rank in omega arith;

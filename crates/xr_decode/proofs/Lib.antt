@@ -9,7 +9,6 @@ pub mod HeldSets
 pub mod Lengths
 pub mod ListedNames
 pub mod Loaded
-pub mod MaskedCells
 pub mod Members
 pub mod OneByOne
 pub mod Products
@@ -18,3 +17,4 @@ pub mod Ranges
 pub mod Rooms
 pub mod Rows
 pub mod Spelled
+pub mod TruthCells

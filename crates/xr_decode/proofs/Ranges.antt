@@ -17,17 +17,19 @@ use Rattle.xr_defs.specs.declared.file.CdfVar.{CdfVar}
 use Rattle.xr_defs.specs.declared.file.CdfFile.{CdfFile}
 use Rattle.xr_defs.specs.Arrays.{IsArray, IsCell}
 use Rattle.xr_defs.specs.Classic.{width}
-use Rattle.xr_defs.specs.Decoding.{variable_of, variable_as_stored, as_truths, is_bool, truth, is_fill, unless_fill}
+use Rattle.xr_defs.specs.Points.{size}
+use Rattle.xr_defs.specs.Decoding.{var_shape, variable_of, variable_as_stored, as_truths, is_bool, truth}
 use Rattle.xr_defs.specs.Numbers.{is_whole, cells_kind, number_in, value_at, numbers_of}
-use Rattle.cdf_reader.proofs.Decoded.{one_byte, two_bytes, four_bytes}
+use Rattle.xr_defs.specs.Stored.{is_fill, unless_fill}
+use Rattle.stored_cells.proofs.Lengths.{numbers-length}
+use Rattle.stored_cells.proofs.NumbersInBytes.{one_byte, two_bytes, four_bytes}
 use Rattle.xr_decode.specs.Cells.{array_in, fills_used}
 use Rattle.xr_decode.specs.Readable.{IsReadableVar}
 use Rattle.xr_decode.specs.Stored.{AreBytes}
-use Rattle.xr_decode.proofs.Arrays.{numbers-length}
 
 -- ---- one number
 
-byte_at : (raw : List ℕ) (i : ℕ) → AreBytes raw → get_or raw i 0 < 256
+pub byte_at : (raw : List ℕ) (i : ℕ) → AreBytes raw → get_or raw i 0 < 256
 byte_at raw i all = elim (cases_lt i (length raw)) [ inl lt ↦ All-get_or (λ b. b < 256) raw i 0 lt all | inr le ↦ let none = get_or_past raw i 0 le in omega arith ]
 
 signed_8 : (n : ℕ) → n < 256 → InRange kinds.Int8 (cast_signed w8 n)
@@ -116,4 +118,4 @@ variable-length f m v = by (is_bool v)
     by false = cells-length (fills_used m v) (numbers_of v.kind v.raw)
 
 pub is_array : (f : CdfFile) (m : Bool) (v : CdfVar) → IsReadableVar f v → is_whole v.kind ≡ true → AreBytes v.raw → IsArray (array_in f m v)
-is_array f m v r e bytes = record { whole = variable-length f m v ∙ numbers-length f v r e; range = variable_fits f m v e bytes }
+is_array f m v r e bytes = record { whole = variable-length f m v ∙ numbers-length v.kind v.raw (size (var_shape f v)) e (r.whole e); range = variable_fits f m v e bytes }

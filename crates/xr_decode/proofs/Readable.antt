@@ -1,5 +1,5 @@
--- What a readable variable's values are: as many whole numbers as its shape has cells.
-use Rattle.std.proofs.Common.{◌≡◌, ◌*◌, ◌%◌, ℕ, true, List, [], ◌∷◌, length, refl, ap, ◌∙◌, arith}
+-- What a readable variable's values are.
+use Rattle.std.proofs.Common.{◌≡◌, ◌*◌, ℕ, true, List, [], ◌∷◌, length, refl, ap, ◌∙◌, arith}
 use Rattle.std.specs.Prelude.{All}
 use Rattle.std.specs.List.{Contains}
 use Rattle.std.proofs.lemmas.List.Elements.{All-contains}
@@ -9,33 +9,18 @@ use Rattle.xr_defs.specs.declared.file.CdfVar.{CdfVar}
 use Rattle.xr_defs.specs.declared.file.CdfFile.{CdfFile}
 use Rattle.xr_defs.specs.Points.{size}
 use Rattle.xr_defs.specs.Classic.{width}
-use Rattle.xr_defs.specs.Files.{shape_of}
 use Rattle.xr_defs.specs.Decoding.{is_char, is_integer, var_shape}
 use Rattle.xr_defs.specs.Numbers.{is_whole}
 use Rattle.xr_decode.specs.Readable.{IsReadableVar}
 
-multiple_by : (kind : NcType) (n s : ℕ) → is_whole kind ≡ true → n ≡ s * width kind → n % width kind ≡ 0
-multiple_by Byte n s e is = omega arith
-multiple_by Char n s e is = omega arith
-multiple_by Short n s e is = omega arith
-multiple_by Int n s e is = omega arith
-multiple_by Float n s e is = absurd cc
-multiple_by Double n s e is = absurd cc
-
-integer_is_whole : (kind : NcType) → is_integer kind ≡ true → is_whole kind ≡ true
+-- whole numbers that are no texts
+pub integer_is_whole : (kind : NcType) → is_integer kind ≡ true → is_whole kind ≡ true
 integer_is_whole Byte e = refl
 integer_is_whole Char e = refl
 integer_is_whole Short e = refl
 integer_is_whole Int e = refl
 integer_is_whole Float e = absurd cc
 integer_is_whole Double e = absurd cc
-
--- whole numbers, without a rest
-pub whole_values : (f : CdfFile) (v : CdfVar) → IsReadableVar f v → is_whole v.kind ≡ true → length v.raw % width v.kind ≡ 0
-whole_values f v r e = multiple_by v.kind (length v.raw) (size (shape_of f.dims f.numrecs v.dims)) e (r.whole e)
-
-pub integer_values : (f : CdfFile) (v : CdfVar) → IsReadableVar f v → is_integer v.kind ≡ true → (is_whole v.kind ≡ true) × (length v.raw % width v.kind ≡ 0)
-integer_values f v r e = let w = integer_is_whole v.kind e in (w, whole_values f v r w)
 
 one_byte : (kind : NcType) → is_char kind ≡ true → (is_whole kind ≡ true) × (width kind ≡ 1)
 one_byte Byte e = absurd cc

@@ -9,16 +9,10 @@ use Rattle.cdf_reader.specs.Heads.{var_seen}
 use Rattle.xr_decode.specs.Readable.{IsReadable}
 use Rattle.xr_decode.specs.declared.place.Place.{Place}
 use Rattle.xr_decode.specs.declared.place.Place.TheVariants.{Together, InRecords}
-use Rattle.xr_decode.specs.declared.place.Kept.{Kept}
-use Rattle.xr_decode.specs.declared.place.Kept.TheVariants.{Lent, Owned}
 
 abbrev pub values_in : Place → List ℕ
-values_in (Together raw) = raw.now
+values_in (Together raw) = raw
 values_in (InRecords bytes head var) = (var_seen bytes.now head.now var.now).raw
-
-abbrev pub bytes_in : Kept → List ℕ
-bytes_in (Lent bytes) = bytes.now
-bytes_in (Owned bytes) = bytes
 
 abbrev pub AreBytes : List ℕ → Type 0
 AreBytes raw = All (λ b. b < 256) raw

@@ -9,7 +9,9 @@ ghost use Rattle.xr_values.specs.Stands.{dataset_in};
 ghost use Rattle.xr_decode.specs.Readable.{IsReadable};
 
 use crate::stored::Source;
+use crate::values::are_bytes;
 use crate::whole::set_of;
+use bytes::Bytes;
 use cdf_reader::{CdfFault, read_head};
 use plan_core::{Compute, Plan};
 use std::alloc::Global;
@@ -54,8 +56,8 @@ pub fn decode_set<C: Compute>(
     decode_into(alloc, &mut cx.plan, file, mask)
 }
 
-/// The dataset of the file that the bytes spell, as `decode_into` gives it, without a copy of the file. Values of variables that
-/// have no records are read where they lie; those of a record variable are put together, one variable at a time.
+/// The dataset of the file that the bytes spell, as `decode_into` gives it. Whole numbers stay as they stand in the file: those of a
+/// variable that has no records share its bytes, and those of a record variable are put together in new memory.
 ///
 /// # Errors
 /// `BadFile`, with the first fault and its byte, where the bytes spell no file; and what `decode_into` answers.
@@ -63,14 +65,16 @@ pub fn decode_set<C: Compute>(
 pub fn decode_bytes(
     alloc: Global,
     plan: &mut Plan,
-    bytes: &[u8],
+    bytes: &Bytes,
     mask: bool,
 ) -> Result<Dataset, CallFault>
     ensures answers { AnswersSet plan.new result (set_in bytes.now mask) }
     ensures grows { Grows plan.old plan.new }
     ensures room { IfOk result (λ s. AddsAtMost plan.old plan.new (room (of_set (dataset_in plan.new s) ∷ []))) }
 {
-    match read_head(alloc, bytes) {
+    let all = bytes.as_slice();
+    are_bytes(all);
+    match read_head(alloc, all) {
         Ok(head) => {
             let source = Source::of_head(alloc, bytes, &head)?;
             set_of(alloc, plan, &source, mask)

@@ -1,9 +1,7 @@
 //! The cells and attributes of a variable.
 ghost use Rattle.std.specs.Prelude.{◌≡◌, ◌==◌, not, length, true, false, Bool, IfOk};
-ghost use Rattle.xr_defs.specs.Arrays.{kind_of, wide, InKind};
 ghost use Rattle.xr_defs.specs.Decoding.{is_bool, is_masked};
-ghost use Rattle.xr_defs.specs.Numbers.{is_whole, cells_kind, numbers_of};
-ghost use Rattle.xr_values.specs.WellFormed.{AreAttributes};
+ghost use Rattle.xr_defs.specs.Numbers.{is_whole};
 ghost use Rattle.xr_decode.specs.Cells.{fills_used, attrs_as, array_in, IsDecoded};
 ghost use Rattle.xr_decode.specs.Readable.{IsReadableVar};
 
@@ -11,12 +9,11 @@ use crate::attributes::{attr_says, copy_without};
 use crate::dims::var_shape;
 use crate::fills::fill_numbers;
 use crate::kinds::{is_byte, is_char};
-use crate::masks::mask_for;
 use crate::stored::{Source, StoredVar};
-use crate::truths::cells_as;
-use cdf_reader::numbers_in;
+use crate::truths::as_truths;
 use std::alloc::{AllocError, Global};
-use xr_defs::{ArrayValue, Cells};
+use stored_cells::{decoded_cells, mask_for};
+use xr_defs::{ArrayValue, StoredArray};
 use xr_types::{Attr, Items, NoMemory};
 
 /// The cells of a variable, whether missing ones may stand among them, and the attributes that are kept.
@@ -36,7 +33,6 @@ fn is_bool(var: &StoredVar<'_>) -> bool
 
 // The numbers that stand for missing cells, where missing cells are asked for.
 fn fills_used(alloc: Global, var: &StoredVar<'_>, mask: bool) -> Result<Items<i64>, NoMemory>
-    requires { AreAttributes var.now.attrs }
     ensures fills { IfOk result (λ ns. ns ≡ fills_used mask var.now) }
     ensures masked { IfOk result (λ ns. is_masked mask var.now ≡ not (length ns == 0)) }
 {
@@ -46,17 +42,41 @@ fn fills_used(alloc: Global, var: &StoredVar<'_>, mask: bool) -> Result<Items<i6
     fill_numbers(alloc, var.attrs())
 }
 
-#[tactic(auto, using(crate::proofs::Readable::whole_values, crate::proofs::Arrays::kept_in_kind))]
-fn numbers_of(alloc: Global, source: &Source<'_>, var: &StoredVar<'_>) -> Result<Cells, NoMemory>
+// The array of a variable of truth values, with its cells in new memory. Those that hold one of the fill numbers are missing.
+fn truths_in(
+    alloc: Global,
+    source: &Source<'_>,
+    var: &StoredVar<'_>,
+    fills: &[i64],
+) -> Result<ArrayValue, NoMemory>
     requires readable { IsReadableVar source.now var.now }
-    requires whole { is_whole var.now.kind ≡ true }
-    ensures kind { IfOk result (λ c. kind_of c ≡ cells_kind var.now.kind) }
-    ensures numbers { IfOk result (λ c. wide c ≡ numbers_of var.now.kind var.now.raw) }
-    ensures range { IfOk result (λ c. InKind c) }
+    requires truths { is_bool var.now ≡ true }
+    ensures { IfOk result (λ a. (mask : Bool) → fills.now ≡ fills_used mask var.now → a ≡ array_in source.now mask var.now) }
 {
     let raw = var.raw(alloc)?;
-    let read = numbers_in(alloc, var.kind(), raw.as_slice())?;
-    Ok(read.cells)
+    let numbers = decoded_cells(alloc, var.kind(), raw.as_slice())?;
+    let mask = mask_for(alloc, &numbers, fills)?;
+    let cells = as_truths(alloc, &numbers)?;
+    let shape = var_shape(alloc, source, var)?;
+    Ok(ArrayValue::of(shape, cells, mask))
+}
+
+// The array of a variable of other whole numbers, as they stand in the file.
+fn numbers_in(
+    alloc: Global,
+    source: &Source<'_>,
+    var: &StoredVar<'_>,
+    fills: Items<i64>,
+) -> Result<ArrayValue, NoMemory>
+    requires readable { IsReadableVar source.now var.now }
+    requires whole { is_whole var.now.kind ≡ true }
+    requires numbers { is_bool var.now ≡ false }
+    ensures { IfOk result (λ a. (mask : Bool) → fills ≡ fills_used mask var.now → a ≡ array_in source.now mask var.now) }
+{
+    let raw = var.raw(alloc)?;
+    let shape = var_shape(alloc, source, var)?;
+    let array = StoredArray::of(shape, var.kind(), raw, fills);
+    Ok(ArrayValue::stored(array))
 }
 
 // The cells of a variable. Those that hold one of the fill numbers are missing.
@@ -64,17 +84,17 @@ fn array_in(
     alloc: Global,
     source: &Source<'_>,
     var: &StoredVar<'_>,
-    fills: &[i64],
+    fills: Items<i64>,
 ) -> Result<ArrayValue, NoMemory>
     requires readable { IsReadableVar source.now var.now }
     requires whole { is_whole var.now.kind ≡ true }
-    ensures { IfOk result (λ a. (mask : Bool) → fills.now ≡ fills_used mask var.now → a ≡ array_in source.now mask var.now) }
+    ensures { IfOk result (λ a. (mask : Bool) → fills ≡ fills_used mask var.now → a ≡ array_in source.now mask var.now) }
 {
-    let numbers = numbers_of(alloc, source, var)?;
-    let mask = mask_for(alloc, &numbers, fills)?;
-    let cells = cells_as(alloc, numbers, is_bool(var))?;
-    let shape = var_shape(alloc, source, var)?;
-    Ok(ArrayValue::of(shape, cells, mask))
+    if is_bool(var) {
+        truths_in(alloc, source, var, fills.as_slice())
+    } else {
+        numbers_in(alloc, source, var, fills)
+    }
 }
 
 // The attributes that a variable keeps.
@@ -100,10 +120,11 @@ pub(crate) fn decode_var(
     ensures { IfOk result (IsDecoded source.now mask var.now) }
 {
     let fills = fills_used(alloc, var, mask)?;
-    let array = array_in(alloc, source, var, fills.as_slice())?;
+    let masked = !fills.as_slice().is_empty();
+    let array = array_in(alloc, source, var, fills)?;
     Ok(Decoded {
         array,
-        masked: !fills.as_slice().is_empty(),
+        masked,
         attrs: attrs_of(alloc, var)?,
     })
 }

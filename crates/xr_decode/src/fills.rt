@@ -1,17 +1,15 @@
 //! Whole numbers in attributes, and those that stand for missing cells.
-ghost use Rattle.std.specs.Prelude.{◌≡◌, ◌++◌, ◌*◌, ◌/◌, ◌≤ℤ◌, [], map, length, IfOk, OnOk, if◌then◌else◌};
+ghost use Rattle.std.specs.Prelude.{◌≡◌, ◌++◌, ◌≤ℤ◌, [], map, IfOk, OnOk, if◌then◌else◌};
 ghost use Rattle.xr_types.specs.Kinds.{low, high};
 ghost use Rattle.xr_types.specs.declared.kind.DType.TheVariants as kinds;
 ghost use Rattle.xr_defs.specs.Arrays.{wide};
-ghost use Rattle.xr_defs.specs.Classic.{width};
 ghost use Rattle.xr_defs.specs.Decoding.{is_integer, attr_numbers, the_one, fill_numbers};
 ghost use Rattle.xr_defs.specs.Numbers.{numbers_of};
-ghost use Rattle.xr_values.specs.WellFormed.{AreAttributes};
 
 use crate::attributes::find_attr;
 use crate::kinds::is_integer;
-use cdf_reader::numbers_in;
 use std::alloc::Global;
+use stored_cells::decoded_cells;
 use xr_defs::Cells;
 use xr_types::{Attr, Elem, Items, NoMemory};
 
@@ -39,16 +37,16 @@ pub(crate) fn push_numbers(out: &mut Items<i64>, cells: &Cells) -> Result<(), No
     }
 }
 
+#[tactic(auto, using(crate::proofs::Readable::integer_is_whole))]
 fn numbers_of_attr(alloc: Global, attr: &Attr) -> Result<Items<i64>, NoMemory>
-    requires whole { length attr.now.raw ≡ (length attr.now.raw / width attr.now.kind) * width attr.now.kind }
     ensures { IfOk result (λ ns. ns ≡ (if is_integer attr.now.kind then numbers_of attr.now.kind attr.now.raw else [])) }
 {
     let mut numbers = Items::new(alloc);
     if !is_integer(attr.kind) {
         return Ok(numbers);
     }
-    let read = numbers_in(alloc, attr.kind, attr.raw.as_slice())?;
-    push_numbers(&mut numbers, &read.cells)?;
+    let cells = decoded_cells(alloc, attr.kind, attr.raw.as_slice())?;
+    push_numbers(&mut numbers, &cells)?;
     Ok(numbers)
 }
 
@@ -58,7 +56,6 @@ pub(crate) fn attr_numbers(
     name: &str,
     attrs: &[Attr],
 ) -> Result<Items<i64>, NoMemory>
-    requires { AreAttributes attrs.now }
     ensures { IfOk result (λ ns. ns ≡ attr_numbers name.now attrs.now) }
 {
     match find_attr(name, attrs) {
@@ -69,7 +66,6 @@ pub(crate) fn attr_numbers(
 
 /// The numbers that stand for missing cells: the one of `_FillValue`, and all of `missing_value`.
 pub(crate) fn fill_numbers(alloc: Global, attrs: &[Attr]) -> Result<Items<i64>, NoMemory>
-    requires { AreAttributes attrs.now }
     ensures { IfOk result (λ ns. ns ≡ fill_numbers attrs.now) }
 {
     let own = attr_numbers(alloc, "_FillValue", attrs)?;

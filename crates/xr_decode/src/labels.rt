@@ -1,5 +1,5 @@
 //! Indexes: a variable that is named as its first dimension holds labels.
-ghost use Rattle.std.specs.Prelude.{◌≡◌, ◌==◌, ◌&&◌, ◌*◌, ◌%◌, length, is_some, option_map, true, IfOk};
+ghost use Rattle.std.specs.Prelude.{◌≡◌, ◌==◌, ◌&&◌, ◌*◌, length, is_some, option_map, true, IfOk};
 ghost use Rattle.xr_types.specs.declared.axis.LabelList.TheVariants as lists;
 ghost use Rattle.xr_defs.specs.Points.{size};
 ghost use Rattle.xr_defs.specs.Decoding.{is_char, is_integer, is_named_as_first, number_labels, text_labels, rows_of, labels_in, is_index, index_in};
@@ -13,8 +13,8 @@ use crate::kinds::{cells_kind, is_char, is_integer};
 use crate::shapes::dim_name;
 use crate::stored::{Source, StoredVar};
 use crate::text::{are_texts, texts_in};
-use cdf_reader::numbers_in;
 use std::alloc::{AllocError, Global};
+use stored_cells::decoded_cells;
 use xr_types::{Items, LabelList, Labels, NoMemory, TextBytes};
 
 fn is_named_as_first(source: &Source<'_>, var: &StoredVar<'_>) -> bool
@@ -33,20 +33,15 @@ fn has_number_labels(var: &StoredVar<'_>) -> bool
     is_integer(var.kind()) && var.dims().len() == 1
 }
 
-#[tactic(auto, using(crate::proofs::Readable::whole_values))]
-fn numbers_as_labels(
-    alloc: Global,
-    source: &Source<'_>,
-    var: &StoredVar<'_>,
-) -> Result<LabelList, NoMemory>
-    requires readable { IsReadableVar source.now var.now }
-    requires integer { is_integer var.now.kind ≡ true }
+#[tactic(auto, using(crate::proofs::Readable::integer_is_whole))]
+fn numbers_as_labels(alloc: Global, var: &StoredVar<'_>) -> Result<LabelList, NoMemory>
+    requires { is_integer var.now.kind ≡ true }
     ensures { IfOk result (λ l. l ≡ lists.Numbers (cells_kind var.now.kind) (numbers_of var.now.kind var.now.raw)) }
 {
     let raw = var.raw(alloc)?;
-    let read = numbers_in(alloc, var.kind(), raw.as_slice())?;
+    let cells = decoded_cells(alloc, var.kind(), raw.as_slice())?;
     let mut numbers = Items::new(alloc);
-    push_numbers(&mut numbers, &read.cells)?;
+    push_numbers(&mut numbers, &cells)?;
     Ok(LabelList::Numbers(cells_kind(var.kind()), numbers))
 }
 
@@ -124,7 +119,7 @@ pub(crate) fn labels_in(
         return Ok(None);
     }
     if has_number_labels(var) {
-        return Ok(Some(numbers_as_labels(alloc, source, var)?));
+        return Ok(Some(numbers_as_labels(alloc, var)?));
     }
     text_labels(alloc, source, var)
 }

@@ -13,15 +13,12 @@ mod kinds;
 mod labels;
 mod laws;
 mod listed;
-mod masks;
 mod parts;
 mod place;
 mod role;
 mod shapes;
 mod skip;
 mod stored;
-#[cfg(test)]
-mod tests;
 mod text;
 mod truths;
 mod values;

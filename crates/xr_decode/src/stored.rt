@@ -5,8 +5,9 @@ ghost use Rattle.cdf_reader.specs.Heads.{file_seen, var_seen};
 ghost use Rattle.xr_decode.specs.Readable.{IsReadable};
 ghost use Rattle.xr_decode.specs.Stored.{AreBytes, HoldsBytes};
 
-use crate::values::{Raw, Values};
-use cdf_reader::{FileHead, is_record, values_at};
+use crate::values::Values;
+use bytes::Bytes;
+use cdf_reader::{FileHead, is_record, shared_values};
 use std::alloc::{AllocError, Global};
 use std::marker::Model;
 use xr_defs::{CdfDim, CdfFile, CdfVar, VarHead};
@@ -79,8 +80,8 @@ impl<'a> StoredVar<'a> {
         self.kind
     }
 
-    /// The bytes of its values.
-    pub(crate) fn raw(&self, alloc: Global) -> Result<Raw<'a>, AllocError>
+    /// The bytes of its values, which are shared where they lie together.
+    pub(crate) fn raw(&self, alloc: Global) -> Result<Bytes, AllocError>
         ensures { IfOk result (λ r. r ≡ self.now.raw) }
     {
         self.values.raw(alloc)
@@ -117,6 +118,20 @@ impl<'a> Model for Source<'a> {
     ghost invariant = { λ s. IsSource (file_of s.version s.numrecs s.dims.now s.attrs.now s.vars.items) };
 }
 
+// A variable of a file that is read whole.
+fn file_var<'a>(var: &'a CdfVar) -> Result<StoredVar<'a>, AllocError>
+    ensures { IfOk result (λ v. v ≡ var.now) }
+{
+    let values = Values::together(var.raw.slice(..)?);
+    Ok(StoredVar::new(
+        &var.name,
+        var.dims.as_slice(),
+        var.attrs.as_slice(),
+        var.kind,
+        values,
+    ))
+}
+
 // The variables of a file that is read whole.
 fn file_vars<'a>(alloc: Global, vars: &'a [CdfVar]) -> Result<Vec<StoredVar<'a>>, AllocError>
     ensures vars { IfOk result (λ v. v.items ≡ vars.now) }
@@ -124,14 +139,7 @@ fn file_vars<'a>(alloc: Global, vars: &'a [CdfVar]) -> Result<Vec<StoredVar<'a>>
 {
     let mut stored = Vec::with_capacity(alloc, vars.len())?;
     for var in vars {
-        let values = Values::together(var.raw.as_slice());
-        let var = StoredVar::new(
-            &var.name,
-            var.dims.as_slice(),
-            var.attrs.as_slice(),
-            var.kind,
-            values,
-        );
+        let var = file_var(var)?;
         var.holds_bytes();
         stored.push(var)?;
     }
@@ -139,36 +147,44 @@ fn file_vars<'a>(alloc: Global, vars: &'a [CdfVar]) -> Result<Vec<StoredVar<'a>>
 }
 
 // The values of a variable of a head, where they lie in the bytes of its file.
-fn values_of<'a>(bytes: &'a [u8], head: &'a FileHead, var: &'a VarHead) -> Values<'a>
+fn values_of<'a>(
+    bytes: &'a Bytes,
+    head: &'a FileHead,
+    var: &'a VarHead,
+) -> Result<Values<'a>, AllocError>
     requires { length bytes.now ≤ most_bytes }
-    ensures { result ≡ (var_seen bytes.now head.now var.now).raw }
+    ensures { IfOk result (λ v. v ≡ (var_seen bytes.now head.now var.now).raw) }
 {
     if is_record(head.dims.as_slice(), var.dims.as_slice()) {
-        Values::in_records(bytes, head, var)
-    } else {
-        Values::together(values_at(bytes, head, var))
+        return Ok(Values::in_records(bytes, head, var));
     }
+    let raw = shared_values(bytes, head, var)?;
+    Ok(Values::together(raw))
 }
 
 // A variable of a head.
-fn head_var<'a>(bytes: &'a [u8], head: &'a FileHead, var: &'a VarHead) -> StoredVar<'a>
+fn head_var<'a>(
+    bytes: &'a Bytes,
+    head: &'a FileHead,
+    var: &'a VarHead,
+) -> Result<StoredVar<'a>, AllocError>
     requires { length bytes.now ≤ most_bytes }
-    ensures { result ≡ var_seen bytes.now head.now var.now }
+    ensures { IfOk result (λ v. v ≡ var_seen bytes.now head.now var.now) }
 {
-    let values = values_of(bytes, head, var);
-    StoredVar::new(
+    let values = values_of(bytes, head, var)?;
+    Ok(StoredVar::new(
         &var.name,
         var.dims.as_slice(),
         var.attrs.as_slice(),
         var.kind,
         values,
-    )
+    ))
 }
 
 // The variables of a head.
 fn head_vars<'a>(
     alloc: Global,
-    bytes: &'a [u8],
+    bytes: &'a Bytes,
     head: &'a FileHead,
 ) -> Result<Vec<StoredVar<'a>>, AllocError>
     requires { length bytes.now ≤ most_bytes }
@@ -178,7 +194,7 @@ fn head_vars<'a>(
     let heads = head.vars.as_slice();
     let mut stored = Vec::with_capacity(alloc, heads.len())?;
     for head_of_var in heads {
-        let var = head_var(bytes, head, head_of_var);
+        let var = head_var(bytes, head, head_of_var)?;
         var.holds_bytes();
         stored.push(var)?;
     }
@@ -186,7 +202,7 @@ fn head_vars<'a>(
 }
 
 impl<'a> Source<'a> {
-    /// A file that is read whole.
+    /// A file that is read whole. Its values are shared.
     pub(crate) fn of_file(alloc: Global, file: &'a CdfFile) -> Result<Source<'a>, AllocError>
         requires { IsReadable file.now }
         ensures { IfOk result (λ s. s ≡ file.now) }
@@ -204,7 +220,7 @@ impl<'a> Source<'a> {
     /// The file of which the bytes and the head are these.
     pub(crate) fn of_head(
         alloc: Global,
-        bytes: &'a [u8],
+        bytes: &'a Bytes,
         head: &'a FileHead,
     ) -> Result<Source<'a>, AllocError>
         requires short { length bytes.now ≤ most_bytes }

@@ -1,9 +1,8 @@
 //! Truth values: what isn't 0 is true.
-ghost use Rattle.std.specs.Prelude.{◌≡◌, ◌<◌, map, pos, All, true, IfOk};
+ghost use Rattle.std.specs.Prelude.{◌≡◌, ◌<◌, map, pos, All, IfOk};
 ghost use Rattle.xr_types.specs.declared.kind.DType.TheVariants as kinds;
 ghost use Rattle.xr_defs.specs.Arrays.{kind_of, wide, InKind};
 ghost use Rattle.xr_defs.specs.Decoding.{truth};
-ghost use Rattle.xr_decode.specs.Cells.{kind_as, numbers_as};
 
 use std::alloc::{AllocError, Global};
 use xr_defs::Cells;
@@ -20,18 +19,14 @@ fn truths_of(alloc: Global, numbers: &[i8]) -> Result<Items<u8>, AllocError>
     Ok(Items::of(truths))
 }
 
-/// The cells of bytes as truth values, where they are that; other cells stay.
-pub(crate) fn cells_as(alloc: Global, cells: Cells, is_bool: bool) -> Result<Cells, AllocError>
-    requires bytes { is_bool ≡ true → kind_of cells ≡ kinds.Int8 }
-    requires range { InKind cells }
-    ensures kind { IfOk result (λ c. kind_of c ≡ kind_as is_bool (kind_of cells)) }
-    ensures numbers { IfOk result (λ c. wide c ≡ numbers_as is_bool (wide cells)) }
+/// The cells of bytes as truth values.
+pub(crate) fn as_truths(alloc: Global, cells: &Cells) -> Result<Cells, AllocError>
+    requires { kind_of cells.now ≡ kinds.Int8 }
+    ensures kind { IfOk result (λ c. kind_of c ≡ kinds.Bool) }
+    ensures numbers { IfOk result (λ c. wide c ≡ map truth (wide cells.now)) }
     ensures range { IfOk result (λ c. InKind c) }
 {
-    if !is_bool {
-        return Ok(cells);
-    }
-    match &cells {
+    match cells {
         Cells::Int8(numbers) => Ok(Cells::Bool(truths_of(alloc, numbers.as_slice())?)),
         _ => unreachable!(),
     }

@@ -4,7 +4,8 @@ ghost use Rattle.xr_defs.specs.Files.{most_bytes};
 ghost use Rattle.cdf_reader.specs.Heads.{var_seen};
 ghost use Rattle.xr_decode.specs.Stored.{AreBytes};
 
-use crate::place::{Kept, Place};
+use crate::place::Place;
+use bytes::Bytes;
 use cdf_reader::{FileHead, copied_values};
 use std::alloc::{AllocError, Global};
 use std::marker::Model;
@@ -27,65 +28,43 @@ impl<'a> Model for Values<'a> {
     ghost invariant = { λ v. IsPlace v.place };
 }
 
-/// The bytes of all values, one behind the other.
-#[derive(Drop)]
-pub(crate) struct Raw<'a> {
-    kept: Kept<'a>,
-}
-
-impl<'a> Model for Raw<'a> {
-    ghost use Rattle.std.specs.Prelude.{List, ℕ};
-    ghost use Rattle.xr_decode.specs.Stored.{bytes_in};
-
-    ghost Value = { List ℕ };
-
-    ghost view = { λ r. bytes_in r.kept };
-}
-
-impl<'a> Raw<'a> {
-    pub(crate) fn as_slice(&self) -> &[u8]
-        ensures { result.now ≡ self.now }
-    {
-        match &self.kept {
-            Kept::Lent(bytes) => bytes,
-            Kept::Owned(bytes) => bytes.as_slice(),
-        }
-    }
+/// Bytes are bytes.
+pub(crate) fn are_bytes(bytes: &[u8])
+    ensures { AreBytes bytes.now }
+{
+    let _count = bytes.len();
 }
 
 impl<'a> Values<'a> {
     /// Values that lie one behind the other.
-    pub(crate) fn together(raw: &'a [u8]) -> Values<'a>
-        ensures { result ≡ raw.now }
+    pub(crate) fn together(raw: Bytes) -> Values<'a>
+        ensures { result ≡ raw }
     {
+        are_bytes(raw.as_slice());
         Values {
             place: Place::Together(raw),
         }
     }
 
     /// The values of a variable of a head, in the bytes of its file.
-    pub(crate) fn in_records(bytes: &'a [u8], head: &'a FileHead, var: &'a VarHead) -> Values<'a>
+    pub(crate) fn in_records(bytes: &'a Bytes, head: &'a FileHead, var: &'a VarHead) -> Values<'a>
         requires { length bytes.now ≤ most_bytes }
         ensures { result ≡ (var_seen bytes.now head.now var.now).raw }
     {
+        are_bytes(bytes.as_slice());
         Values {
             place: Place::InRecords(bytes, head, var),
         }
     }
 
-    /// Their bytes. Values that lie in records are put together.
-    pub(crate) fn raw(&self, alloc: Global) -> Result<Raw<'a>, AllocError>
+    /// Their bytes, which are shared. Values that lie in records are put together in new memory.
+    pub(crate) fn raw(&self, alloc: Global) -> Result<Bytes, AllocError>
         ensures { IfOk result (λ r. r ≡ self.now) }
     {
         match &self.place {
-            Place::Together(raw) => Ok(Raw {
-                kept: Kept::Lent(raw),
-            }),
+            Place::Together(raw) => raw.slice(..),
             Place::InRecords(bytes, head, var) => {
-                let raw = copied_values(alloc, bytes, head, var)?;
-                Ok(Raw {
-                    kept: Kept::Owned(raw),
-                })
+                copied_values(alloc, bytes.as_slice(), head, var)
             }
         }
     }

@@ -4,8 +4,8 @@ use Rattle.xr_types.specs.Kinds.{InRange}
 use Rattle.xr_types.specs.declared.kind.DType.{DType}
 use Rattle.xr_types.specs.declared.kind.DType.TheVariants as kinds
 use Rattle.xr_defs.specs.Points.{size, tab, place}
-use Rattle.xr_defs.specs.declared.array.Cells.{Cells}
-use Rattle.xr_defs.specs.declared.array.Cells.TheVariants.{Bool, Char, Int8, Int16, Int32, Int64}
+use Rattle.xr_defs.specs.declared.typed.Cells.{Cells}
+use Rattle.xr_defs.specs.declared.typed.Cells.TheVariants.{Bool, Char, Int8, Int16, Int32, Int64}
 
 -- a kind, a shape, and for each point in row order a number or a hole, which is a missing cell
 pub record Array : Type 0 where

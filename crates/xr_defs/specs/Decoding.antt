@@ -4,7 +4,6 @@ use Rattle.std.specs.Prelude.{◌+◌, ◌-◌, ◌*◌, ◌==◌, ◌&&◌, ◌
 use Rattle.std.specs.Fmt.{decimal}
 use Rattle.std.specs.Str.{is_utf8, bytes_eq}
 use Rattle.std.specs.List.{list_any, suffix_len, slice_split, range_with_len}
-use Rattle.std.specs.Ordering.{int_eq}
 use Rattle.xr_types.specs.declared.fault.Fault.{Fault}
 use Rattle.xr_types.specs.declared.fault.Fault.TheVariants.{TooLarge}
 use Rattle.xr_types.specs.declared.attr.Attr.{Attr}
@@ -25,6 +24,7 @@ use Rattle.xr_defs.specs.Points.{size}
 use Rattle.xr_defs.specs.Classic.{among, dim_at}
 use Rattle.xr_defs.specs.Files.{positions, shape_of}
 use Rattle.xr_defs.specs.Numbers.{is_whole, cells_kind, numbers_of}
+use Rattle.xr_defs.specs.Stored.{stored_cells}
 use Rattle.xr_defs.specs.Limits.{are_different, most_cells, most_dimensions, most_variables}
 use Rattle.xr_defs.specs.Values.{Dataset, Variable, shape_over, axis_names}
 
@@ -167,18 +167,12 @@ own_fill attrs = the_one (attr_numbers (codes "_FillValue") attrs)
 abbrev pub fill_numbers : List Attr → List ℤ
 fill_numbers attrs = own_fill attrs ++ attr_numbers (codes "missing_value") attrs
 
-abbrev pub is_fill : List ℤ → ℤ → Bool
-is_fill fills n = list_any (int_eq n) fills
-
 -- where masking is asked for, a variable of whole numbers with fill numbers is masked
 abbrev pub is_masked : Bool → CdfVar → Bool
 is_masked mask v = mask && not (is_char v.kind) && not (length (fill_numbers v.attrs) == 0)
 
-abbrev pub unless_fill : List ℤ → ℤ → Option ℤ
-unless_fill fills n = if is_fill fills n then None else Some n
-
 abbrev pub cells_in : Bool → CdfVar → List (Option ℤ)
-cells_in mask v = map (unless_fill (if is_masked mask v then fill_numbers v.attrs else [])) (numbers_of v.kind v.raw)
+cells_in mask v = stored_cells v.kind v.raw (if is_masked mask v then fill_numbers v.attrs else [])
 
 -- a byte variable whose `dtype` says bool holds truth values: what isn't 0 is true
 abbrev pub is_bool : CdfVar → Bool

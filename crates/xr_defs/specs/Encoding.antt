@@ -26,7 +26,8 @@ use Rattle.xr_defs.specs.Results.{◌>>=◌, unless, all_of}
 use Rattle.xr_defs.specs.Classic.{among}
 use Rattle.xr_defs.specs.Canonical.{is_small}
 use Rattle.xr_defs.specs.Values.{Dataset, Variable, axis_names}
-use Rattle.xr_defs.specs.Decoding.{is_attr, is_blank, own_fill, fill_numbers, is_fill, string_name}
+use Rattle.xr_defs.specs.Decoding.{is_attr, is_blank, own_fill, fill_numbers, string_name}
+use Rattle.xr_defs.specs.Stored.{is_fill}
 use Rattle.xr_defs.specs.Printing.{by_name}
 
 -- ---- types

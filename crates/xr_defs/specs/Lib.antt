@@ -8,6 +8,8 @@ pub mod Classic
 pub mod Files
 pub mod Canonical
 pub mod Numbers
+pub mod Stored
+pub mod Forms
 pub mod Slices
 pub mod Values
 pub mod Text

@@ -1,39 +1,42 @@
-//! An array's cells at the width of their kind, which contracts see as numbers or holes in row order.
-ghost use Rattle.std.specs.Prelude.{◌≡◌, length, Option, Some, None, MatchOption, IfOk};
+//! Arrays, which contracts see as numbers or holes in row order, however they are kept.
+ghost use Rattle.std.specs.Prelude.{◌≡◌, length, MatchOption, IfOk};
 ghost use Rattle.xr_defs.specs.Points.{size};
-ghost use Rattle.xr_defs.specs.Arrays.{kind_of, wide, hidden, InKind, Array};
+ghost use Rattle.xr_defs.specs.Arrays.{kind_of, wide, hidden, InKind};
+ghost use Rattle.xr_defs.specs.Forms.{Shows};
 
+use crate::stored::StoredArray;
+use crate::typed::{Cells, TypedArray};
 use std::alloc::{AllocError, Global};
 use std::marker::Model;
 use xr_types::{DType, Items};
 
-/// Cells of one kind, in row order. Truth values are 0 and 1.
+/// An array in one of its forms.
 #[derive(Drop)]
-pub enum Cells {
-    Bool(Items<u8>),
-    Char(Items<u8>),
-    Int8(Items<i8>),
-    Int16(Items<i16>),
-    Int32(Items<i32>),
-    Int64(Items<i64>),
+pub enum Held {
+    Typed(TypedArray),
+    Stored(StoredArray),
 }
 
-/// An array. Where it has a mask, the mask has a byte for each cell, and 0 marks a present one.
+/// The form of an array.
+#[derive(Clone, Copy)]
+pub enum Form<'a> {
+    Typed(&'a TypedArray),
+    Stored(&'a StoredArray),
+}
+
+/// An array, with its cells at the width of their kind or as they stand in a file.
 #[derive(Drop)]
 pub struct ArrayValue {
-    shape: Items<u64>,
-    cells: Cells,
-    mask: Option<Items<u8>>,
+    held: Held,
 }
 
 impl Model for ArrayValue {
-    ghost use Rattle.xr_defs.specs.Arrays.{Array, seen, AreWhole};
+    ghost use Rattle.xr_defs.specs.Arrays.{Array};
+    ghost use Rattle.xr_defs.specs.Forms.{held_array};
 
     ghost Value = { Array };
 
-    ghost view = { λ a. seen a.shape a.cells a.mask };
-
-    ghost invariant = { λ a. AreWhole a.shape a.cells a.mask };
+    ghost view = { λ a. held_array a.held };
 }
 
 impl ArrayValue {
@@ -44,65 +47,56 @@ impl ArrayValue {
         requires mask { MatchOption mask (length (wide cells) ≡ size shape) (λ m. length m ≡ size shape) }
         ensures { result ≡ record { kind = kind_of cells; shape = shape; cells = hidden (wide cells) mask } }
     {
-        ArrayValue { shape, cells, mask }
+        ArrayValue {
+            held: Held::Typed(TypedArray::of(shape, cells, mask)),
+        }
+    }
+
+    /// An array as it stands in a file.
+    pub fn stored(array: StoredArray) -> ArrayValue
+        ensures { result ≡ array }
+    {
+        ArrayValue {
+            held: Held::Stored(array),
+        }
     }
 
     pub fn kind(&self) -> DType
         ensures { result ≡ self.now.kind }
     {
-        match &self.cells {
-            Cells::Bool(_) => DType::Bool,
-            Cells::Char(_) => DType::Char,
-            Cells::Int8(_) => DType::Int8,
-            Cells::Int16(_) => DType::Int16,
-            Cells::Int32(_) => DType::Int32,
-            Cells::Int64(_) => DType::Int64,
+        match &self.held {
+            Held::Typed(array) => array.kind(),
+            Held::Stored(array) => array.kind(),
         }
     }
 
     pub fn shape(&self) -> &[u64]
         ensures { result.now ≡ self.now.shape }
     {
-        self.shape.as_slice()
-    }
-
-    /// The cells as they are kept, and the mask where there is one.
-    pub fn parts(&self) -> (&Cells, Option<&Items<u8>>)
-        ensures kind { kind_of result.0.now ≡ self.now.kind }
-        ensures range { InKind result.0.now }
-        ensures cells { MatchOption result.1 (self.now.cells ≡ hidden (wide result.0.now) None) (λ m. self.now.cells ≡ hidden (wide result.0.now) (Some m.now)) }
-        ensures whole { length (wide result.0.now) ≡ size self.now.shape }
-        ensures mask { MatchOption result.1 (length (wide result.0.now) ≡ size self.now.shape) (λ m. length m.now ≡ size self.now.shape) }
-    {
-        match &self.mask {
-            Some(mask) => (&self.cells, Some(mask)),
-            None => (&self.cells, None),
+        match &self.held {
+            Held::Typed(array) => array.shape(),
+            Held::Stored(array) => array.shape(),
         }
     }
 
-    /// An equal array in new memory.
+    /// The form in which it is kept.
+    pub fn form(&self) -> Form<'_>
+        ensures { Shows result self.now }
+    {
+        match &self.held {
+            Held::Typed(array) => Form::Typed(array),
+            Held::Stored(array) => Form::Stored(array),
+        }
+    }
+
+    /// An equal array. Bytes of a file are shared, and typed cells stand in new memory.
     pub fn copy(&self, alloc: Global) -> Result<ArrayValue, AllocError>
         ensures { IfOk result (λ a. a ≡ self.now) }
     {
-        let shape = Items::from_slice(alloc, self.shape.as_slice())?;
-        let cells = copy_cells(alloc, &self.cells)?;
-        let mask = match &self.mask {
-            Some(mask) => Some(Items::from_slice(alloc, mask.as_slice())?),
-            None => None,
+        let held = match &self.held {
+            Held::Typed(array) => Held::Typed(array.copy(alloc)?),
+            Held::Stored(array) => Held::Stored(array.copy(alloc)?),
         };
-        Ok(ArrayValue { shape, cells, mask })
+        Ok(ArrayValue { held })
     }
-}
-
-fn copy_cells(alloc: Global, cells: &Cells) -> Result<Cells, AllocError>
-    ensures { IfOk result (λ copy. copy ≡ cells.now) }
-{
-    Ok(match cells {
-        Cells::Bool(v) => Cells::Bool(Items::from_slice(alloc, v.as_slice())?),
-        Cells::Char(v) => Cells::Char(Items::from_slice(alloc, v.as_slice())?),
-        Cells::Int8(v) => Cells::Int8(Items::from_slice(alloc, v.as_slice())?),
-        Cells::Int16(v) => Cells::Int16(Items::from_slice(alloc, v.as_slice())?),
-        Cells::Int32(v) => Cells::Int32(Items::from_slice(alloc, v.as_slice())?),
-        Cells::Int64(v) => Cells::Int64(Items::from_slice(alloc, v.as_slice())?),
-    })
 }

@@ -1,5 +1,6 @@
 //! A classic file as its header lists it (Unidata, "The NetCDF Classic Format Specification").
-use xr_types::{Attr, ByteList, Items, Name, NcType};
+use bytes::Bytes;
+use xr_types::{Attr, Items, Name, NcType};
 
 /// A dimension. The length 0 marks the record dimension.
 #[derive(Drop)]
@@ -19,14 +20,14 @@ pub struct VarHead {
     pub begin: u64,
 }
 
-/// A variable with its values in row order, big-endian and without padding.
+/// A variable with its values in row order, big-endian and without padding. Other variables and arrays may share the bytes.
 #[derive(Drop)]
 pub struct CdfVar {
     pub name: Name,
     pub dims: Items<u64>,
     pub attrs: Items<Attr>,
     pub kind: NcType,
-    pub raw: ByteList,
+    pub raw: Bytes,
 }
 
 /// A whole file. `numrecs` is the number of records; of a streamed file, those that lie in it.

@@ -3,6 +3,7 @@ pub mod Once
 pub mod Values
 pub mod Attributes
 pub mod Runs
+pub mod Shared
 pub mod Ranges
 pub mod Bytes
 pub mod Written
@@ -16,4 +17,3 @@ pub mod Looked
 pub mod Fits
 pub mod Formed
 pub mod Whole
-pub mod TestSets

@@ -3,6 +3,7 @@ use Rattle.std.proofs.Common.{◌≡◌, ◌<◌, ◌+◌, ℕ, Bool, true, fals
 use Rattle.std.specs.Prelude.{not}
 use Rattle.std.specs.List.{AllByRecursion}
 use Rattle.std.proofs.lemmas.List.{at_drop_more, drop_more}
+use Rattle.xr_types.specs.declared.fault.Fault.{Fault}
 use Rattle.xr_types.specs.declared.fault.CallFault.{CallFault}
 use Rattle.xr_types.specs.declared.fault.CallFault.TheVariants.{Refused, Declined, NoMemory}
 use Rattle.xr_defs.specs.declared.file.CdfDim.{CdfDim}
@@ -10,12 +11,13 @@ use Rattle.xr_defs.specs.declared.file.CdfVar.{CdfVar}
 use Rattle.xr_defs.specs.declared.node.Node.{Node}
 use Rattle.xr_defs.specs.declared.value.Coord.{Coord}
 use Rattle.xr_defs.specs.declared.write_options.WriteOptions.{WriteOptions}
-use Rattle.xr_defs.specs.Results.{◌>>=◌, unless, all_of}
+use Rattle.xr_defs.specs.Results.{◌>>=◌, unless, all_of, Answers}
 use Rattle.xr_defs.specs.Arrays.{Array, IsCell}
 use Rattle.xr_defs.specs.Nodes.{value}
 use Rattle.xr_defs.specs.Encoding.{Stored, check_fit}
 use Rattle.xr_values.specs.declared.variable.Variable.{Variable}
 use Rattle.xr_values.specs.WellFormed.{AreSeen}
+use Rattle.xr_encode.specs.declared.outline.Outline.{Outline}
 use Rattle.xr_encode.specs.Sets.{variable_outline}
 use Rattle.xr_encode.specs.Encoded.{node_cells, computed_var, computed_from, IsReady, Follows, Adds, refused}
 use Rattle.xr_encode.specs.Walk.{var_checked}
@@ -39,6 +41,21 @@ range_is nodes v a ready is = subst (λ (b : Array). All (IsCell b.kind) b.cells
 
 pub seen_is : (nodes : List Node) (v : Variable) (a : Array) (masked : Bool) → IsReady nodes v → a ≡ value nodes v.node → masked ≡ v.masked → AreSeen masked a.cells
 seen_is nodes v a masked ready is m = subst (λ b. AreSeen b a.cells) (sym m) (subst (λ (b : Array). AreSeen v.masked b.cells) (sym is) ready.seen)
+
+follows : {A : Type 0} (r : Result A CallFault) (told : Result A Fault) → Answers (λ x. x) r told → Follows r (refused told)
+follows (Ok x) told e = ap refused e
+follows (Err (Refused f)) told e = ap refused e
+follows (Err (Declined n)) told e = absurd e
+follows (Err NoMemory) told e = tt
+
+-- a variable that is written of the cells that are given
+pub var_follows : (d : ℕ → Bool) (nodes : List Node) (small : Bool) (dims : List CdfDim) (options : WriteOptions) (coords : List Coord) (v : Variable) (a : Array) (o : Outline) (r : Result CdfVar CallFault) → node_cells d nodes v.node ≡ Ok a → o ≡ variable_outline coords v
+    → Answers (λ w. w) r (var_checked small dims options (filled_with a.cells o)) → Follows r (computed_var d nodes small dims options coords v)
+unfolding computed_var
+var_follows d nodes small dims options coords v a o r given is told =
+    let F : Array → Result CdfVar CallFault = λ b. refused (var_checked small dims options (filled_with b.cells (variable_outline coords v))) in
+    let after : F a ≡ (node_cells d nodes v.node >>= F) = ap (λ x. x >>= F) (sym given) in
+    subst (Follows r) after (follows r (var_checked small dims options (filled_with a.cells (variable_outline coords v))) (subst (λ p. Answers (λ w. w) r (var_checked small dims options (filled_with a.cells p))) is told))
 
 -- ---- a step
 

@@ -2,6 +2,7 @@
 use Rattle.std.proofs.Common.{◌≡◌, ℕ, ℤ, pos, Bool, true, false, List, [], ◌∷◌, ◌++◌, map, Option, Some, refl, sym, ap, ◌∙◌}
 use Rattle.std.specs.Prelude.{◌&&◌, ◌||◌, not, unwrap_or, flat_map, Ok, Err}
 use Rattle.std.specs.List.{list_all}
+use Rattle.xr_types.specs.declared.kind.DType.{DType}
 use Rattle.xr_types.specs.declared.kind.DType.TheVariants as kinds
 use Rattle.xr_types.specs.declared.attr.NcType.{NcType}
 use Rattle.xr_types.specs.declared.fault.Fault.TheVariants.{CannotHold}
@@ -73,7 +74,7 @@ pub told_written : (small : Bool) (dims : List CdfDim) (options : WriteOptions) 
 told_written small dims options o cells v raw s m h bytes is =
     told small dims options o cells m h ∙ ap (λ b. Ok (var_of dims options (cells_if b (filled_with cells o)))) s ∙ sym (ap Ok (is ∙ ap (var_with dims options o) bytes))
 
--- ---- bytes of labels and of texts
+-- ---- bytes of labels, of cells and of texts
 
 same_bytes : (t : NcType) (f g : ℤ) (ns : List ℤ) → cells_bytes t f (map Some ns) ≡ cells_bytes t g (map Some ns)
 same_bytes t f g [] = refl
@@ -81,6 +82,10 @@ same_bytes t f g (n ∷ ns) = ap (λ l. value_bytes t n ++ l) (same_bytes t f g 
 
 pub labels_written : (options : WriteOptions) (o : Outline) (ns : List ℤ) → cells_bytes (type_of o.kind) (pos 0) (map Some ns) ≡ written_bytes options (filled_with (map Some ns) o)
 labels_written options o ns = same_bytes (type_of o.kind) (pos 0) (unwrap_or (fill_for options (without_cells o)) (pos 0)) ns
+
+pub cells_written : (options : WriteOptions) (o : Outline) (kind : DType) (fill : ℤ) (cells : List (Option ℤ)) → kind ≡ o.kind → fill ≡ unwrap_or (fill_for options (without_cells o)) (pos 0)
+    → cells_bytes (type_of kind) fill cells ≡ written_bytes options (filled_with cells o)
+cells_written options o kind fill cells k is = ap (λ t. cells_bytes (type_of t) fill cells) k ∙ ap (λ f. cells_bytes (type_of o.kind) f cells) is
 
 pub texts_checked : (o : Outline) (texts : List (List ℕ)) → o.kind ≡ kinds.Char → AreBytes texts → list_all (holds_cell (type_of o.kind)) (text_cells texts) ≡ true
 texts_checked o texts k bytes = ap (λ t. list_all (holds_cell (type_of t)) (text_cells texts)) k ∙ texts_hold texts bytes

@@ -25,6 +25,10 @@ abbrev pub is_number : ℤ → Option ℤ → Bool
 is_number n None = false
 is_number n (Some m) = int_eq m n
 
+-- one of the numbers is this one
+abbrev pub stands : ℤ → List ℤ → Bool
+stands n ns = list_any (λ m. int_eq m n) ns
+
 -- a cell that is there has one of these numbers
 abbrev pub has_any : List ℤ → List (Option ℤ) → Bool
 has_any fills cells = list_any (λ n. list_any (is_number n) cells) fills

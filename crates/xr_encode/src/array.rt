@@ -8,9 +8,12 @@ ghost use Rattle.xr_encode.specs.Rows.{cells_bytes, are_held, is_number};
 
 use crate::number::Written;
 use crate::run::{Masked, Whole, are_ints, bytes_of, has_number};
+use crate::stored::{shared_bytes, stored_has, stored_holds};
+use bytes::Bytes;
 use std::alloc::{AllocError, Global};
-use xr_defs::{ArrayValue, Cells};
-use xr_types::{ByteList, Elem, Items};
+use stored_cells::as_typed;
+use xr_defs::{ArrayValue, Cells, Form};
+use xr_types::{Elem, Items};
 
 fn are_typed_ints(cells: &[i64], mask: Option<&Items<u8>>) -> bool
     ensures { result ≡ list_all (holds_cell types.Int) (hidden cells.now (option_copied mask.entry)) }
@@ -44,7 +47,7 @@ fn typed_bytes<T: Elem, W: Written>(
     cells: &[T],
     mask: Option<&Items<u8>>,
     fill: i128,
-) -> Result<ByteList, AllocError>
+) -> Result<Bytes, AllocError>
     requires { are_held W.kind fill (hidden (map T.number cells.now) (option_copied mask)) ≡ true }
     ensures { IfOk result (λ raw. raw ≡ cells_bytes W.kind fill (hidden (map T.number cells.now) (option_copied mask.entry))) }
 {
@@ -96,7 +99,7 @@ fn cells_bytes(
     cells: &Cells,
     mask: Option<&Items<u8>>,
     fill: i128,
-) -> Result<ByteList, AllocError>
+) -> Result<Bytes, AllocError>
     requires { are_held (type_of (kind_of cells.now)) fill (hidden (wide cells.now) (option_copied mask)) ≡ true }
     ensures { IfOk result (λ raw. raw ≡ cells_bytes (type_of (kind_of cells.now)) fill (hidden (wide cells.now) (option_copied mask.entry))) }
 {
@@ -115,23 +118,47 @@ pub fn array_holds(array: &ArrayValue) -> bool
     requires { All (IsCell array.now.kind) array.now.cells }
     ensures { result ≡ list_all (holds_cell (type_of array.now.kind)) array.now.cells }
 {
-    let (cells, mask) = array.parts();
-    cells_hold(cells, mask)
+    match array.form() {
+        Form::Typed(array) => {
+            let (cells, mask) = array.parts();
+            cells_hold(cells, mask)
+        }
+        Form::Stored(array) => stored_holds(array),
+    }
 }
 
 /// Whether a cell that is there has this number.
 pub fn array_has(array: &ArrayValue, number: i128) -> bool
     ensures { result ≡ list_any (is_number number) array.now.cells }
 {
-    let (cells, mask) = array.parts();
-    cells_have(cells, mask, number)
+    match array.form() {
+        Form::Typed(array) => {
+            let (cells, mask) = array.parts();
+            cells_have(cells, mask, number)
+        }
+        Form::Stored(array) => stored_has(array, number),
+    }
 }
 
-/// The bytes of an array's cells, with a number for each missing one.
-pub fn array_bytes(alloc: Global, array: &ArrayValue, fill: i128) -> Result<ByteList, AllocError>
+// The bytes of an array's cells in memory of their own.
+fn written_bytes(alloc: Global, array: &ArrayValue, fill: i128) -> Result<Bytes, AllocError>
     requires { are_held (type_of array.now.kind) fill array.now.cells ≡ true }
     ensures { IfOk result (λ raw. raw ≡ cells_bytes (type_of array.now.kind) fill array.now.cells) }
 {
-    let (cells, mask) = array.parts();
+    let typed = as_typed(alloc, array)?;
+    let (cells, mask) = typed.parts();
     cells_bytes(alloc, cells, mask, fill)
+}
+
+/// The bytes of an array's cells, with a number for each missing one. Those of a stored array are shared where they are the same.
+pub fn array_bytes(alloc: Global, array: &ArrayValue, fill: i128) -> Result<Bytes, AllocError>
+    requires { are_held (type_of array.now.kind) fill array.now.cells ≡ true }
+    ensures { IfOk result (λ raw. raw ≡ cells_bytes (type_of array.now.kind) fill array.now.cells) }
+{
+    if let Form::Stored(stored) = array.form() {
+        if let Some(raw) = shared_bytes(stored, fill)? {
+            return Ok(raw);
+        }
+    }
+    written_bytes(alloc, array, fill)
 }

@@ -58,7 +58,7 @@ fn computed_var<R: Threads + Sync, C: Compute>(
 {
     let array = node_cells(rt, alloc, cx, variable.node)?;
     let outline = variable_outline(alloc, coords, variable)?;
-    Ok(array_var(alloc, dims, options, &outline, &array, small)?)
+    array_var(alloc, dims, options, &outline, &array, small)
 }
 
 /// Adds the data variables, each computed, checked and then written.

@@ -14,9 +14,10 @@ use crate::check::refuse_unless;
 use crate::fill::{fill_for, fill_numbers, uses_option};
 use crate::frame::var_with;
 use crate::outline::Outline;
+use bytes::Bytes;
 use std::alloc::{AllocError, Global};
 use xr_defs::{ArrayValue, CdfDim, CdfVar, WriteOptions};
-use xr_types::{ByteList, CallFault, Fault, Items};
+use xr_types::{CallFault, Fault};
 
 fn has_any(array: &ArrayValue, numbers: &[i64]) -> bool
     ensures { result ≡ has_any numbers.now array.now.cells }
@@ -75,7 +76,7 @@ fn checked_bytes(
     options: &WriteOptions,
     outline: &Outline,
     array: &ArrayValue,
-) -> Result<ByteList, AllocError>
+) -> Result<Bytes, AllocError>
     requires kind { array.now.kind ≡ outline.now.kind }
     requires seen { AreSeen outline.now.masked array.now.cells }
     requires fit { check_fit options.now (without_cells outline.now) ≡ Ok tt }
@@ -105,7 +106,7 @@ pub fn array_var(
 {
     check_array(alloc, options, outline, array)?;
     if !small {
-        return Ok(var_with(alloc, dims, options, outline, Items::new(alloc))?);
+        return Ok(var_with(alloc, dims, options, outline, Bytes::new())?);
     }
     let raw = checked_bytes(alloc, options, outline, array)?;
     Ok(var_with(alloc, dims, options, outline, raw)?)

@@ -11,9 +11,10 @@ use crate::dims::{dims_of, numbers_of_dims, record_count};
 use crate::number::type_of;
 use crate::outline::Outline;
 use crate::parts::Parts;
+use bytes::Bytes;
 use std::alloc::{AllocError, Global};
 use xr_defs::{CdfDim, CdfFile, CdfVar, WriteOptions};
-use xr_types::{ByteList, DeepCopy, Items};
+use xr_types::{DeepCopy, Items};
 use xr_values::Dataset;
 
 /// A variable with these bytes as its values.
@@ -22,7 +23,7 @@ pub fn var_with(
     dims: &[CdfDim],
     options: &WriteOptions,
     outline: &Outline,
-    raw: ByteList,
+    raw: Bytes,
 ) -> Result<CdfVar, AllocError>
     requires { check_fit options.now (without_cells outline.now) ≡ Ok tt }
     ensures { IfOk result (λ v. v ≡ var_with dims.now options.now outline.now raw) }
@@ -47,7 +48,7 @@ fn frame_vars(
 {
     let mut vars = Items::new(alloc);
     for outline in outlines {
-        vars.push(var_with(alloc, dims, options, outline, Items::new(alloc))?)?;
+        vars.push(var_with(alloc, dims, options, outline, Bytes::new())?)?;
     }
     Ok(vars)
 }

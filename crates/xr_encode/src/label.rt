@@ -5,8 +5,9 @@ ghost use Rattle.xr_defs.specs.Encoding.{holds_cell, type_of};
 ghost use Rattle.xr_encode.specs.Rows.{MayHold, cells_bytes};
 
 use crate::run::{Whole, are_ints, bytes_of};
+use bytes::Bytes;
 use std::alloc::{AllocError, Global};
-use xr_types::{ByteList, DType};
+use xr_types::DType;
 
 /// Whether the type of their kind holds each label. Labels of a kind but int64 are of their kind.
 #[tactic(auto, using(crate::proofs::Runs::themselves))]
@@ -26,7 +27,7 @@ pub fn labels_hold(kind: DType, labels: &[i64]) -> bool
 
 /// The bytes of labels in the type of their kind.
 #[tactic(auto, using(crate::proofs::Runs::themselves, crate::proofs::Ranges::held_labels))]
-pub fn labels_bytes(alloc: Global, kind: DType, labels: &[i64]) -> Result<ByteList, AllocError>
+pub fn labels_bytes(alloc: Global, kind: DType, labels: &[i64]) -> Result<Bytes, AllocError>
     requires { list_all (holds_cell (type_of kind)) (map Some labels.now) ≡ true }
     ensures { IfOk result (λ raw. raw ≡ cells_bytes (type_of kind) (pos 0) (map Some labels.now)) }
 {

@@ -21,10 +21,8 @@ mod plain;
 mod run;
 mod set;
 mod size;
+mod stored;
 mod text;
 mod widths;
 
 pub use encode::encode_set;
-
-#[cfg(test)]
-mod tests;

@@ -1,5 +1,5 @@
 //! Numbers as the bytes of values, and back.
-ghost use Rattle.std.specs.Prelude.{◌≡◌, ◌<◌, ◌/◌, ◌++◌, true, length, ℤ, OnOk};
+ghost use Rattle.std.specs.Prelude.{◌≡◌, ◌<◌, ◌/◌, ◌++◌, true, length, pos, ℤ, OnOk};
 ghost use Rattle.xr_types.specs.declared.attr.NcType.{NcType as FileType};
 ghost use Rattle.xr_types.specs.declared.attr.NcType.TheVariants as types;
 ghost use Rattle.xr_defs.specs.Classic.{width};
@@ -60,6 +60,11 @@ pub trait Written {
     fn put(out: &mut Vec<u8>, n: i128) -> Result<(), AllocError>
         requires { holds kind n ≡ true }
         ensures { OnOk result (out.new.items ≡ out.old.items ++ value_bytes kind n) };
+
+    /// The number of the value at a place.
+    fn number_at(raw: &[u8], i: usize) -> i128
+        requires { i < length raw.now / width kind }
+        ensures { result ≡ number_in kind (value_at kind raw.now i) };
 }
 
 impl Written for u8 {
@@ -71,6 +76,10 @@ impl Written for u8 {
 
     fn put(out: &mut Vec<u8>, n: i128) -> Result<(), AllocError> {
         out.extend_from_slice(&(n as u8).to_be_bytes())
+    }
+
+    fn number_at(raw: &[u8], i: usize) -> i128 {
+        i128::from(char_at(raw, i))
     }
 }
 
@@ -84,6 +93,10 @@ impl Written for i8 {
     fn put(out: &mut Vec<u8>, n: i128) -> Result<(), AllocError> {
         out.extend_from_slice(&(n as i8).to_be_bytes())
     }
+
+    fn number_at(raw: &[u8], i: usize) -> i128 {
+        i128::from(byte_at(raw, i))
+    }
 }
 
 impl Written for i16 {
@@ -96,6 +109,10 @@ impl Written for i16 {
     fn put(out: &mut Vec<u8>, n: i128) -> Result<(), AllocError> {
         out.extend_from_slice(&(n as i16).to_be_bytes())
     }
+
+    fn number_at(raw: &[u8], i: usize) -> i128 {
+        i128::from(short_at(raw, i))
+    }
 }
 
 impl Written for i32 {
@@ -107,6 +124,10 @@ impl Written for i32 {
 
     fn put(out: &mut Vec<u8>, n: i128) -> Result<(), AllocError> {
         out.extend_from_slice(&(n as i32).to_be_bytes())
+    }
+
+    fn number_at(raw: &[u8], i: usize) -> i128 {
+        i128::from(int_at(raw, i))
     }
 }
 
@@ -142,6 +163,13 @@ pub fn value_count(kind: NcType, raw: &[u8]) -> usize
     ensures { result ≡ length raw.now / width kind }
 {
     raw.len() / width(kind)
+}
+
+fn char_at(raw: &[u8], i: usize) -> u8
+    requires { i < length raw.now / 1 }
+    ensures { pos result ≡ number_in types.Char (value_at types.Char raw.now i) }
+{
+    raw[i]
 }
 
 fn byte_at(raw: &[u8], i: usize) -> i8

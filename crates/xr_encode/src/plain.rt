@@ -11,9 +11,10 @@ use crate::frame::var_with;
 use crate::label::{labels_bytes, labels_hold};
 use crate::outline::Outline;
 use crate::text::{read_texts, texts_bytes};
+use bytes::Bytes;
 use std::alloc::Global;
 use xr_defs::{CdfDim, CdfVar, WriteOptions};
-use xr_types::{CallFault, Fault, Items, TextBytes};
+use xr_types::{CallFault, Fault, TextBytes};
 
 /// A variable of labels, which are written where the file is small.
 pub fn labels_var(
@@ -32,7 +33,7 @@ pub fn labels_var(
         return Err(CallFault::Refused(Fault::CannotHold));
     }
     if !small {
-        return Ok(var_with(alloc, dims, options, outline, Items::new(alloc))?);
+        return Ok(var_with(alloc, dims, options, outline, Bytes::new())?);
     }
     let raw = labels_bytes(alloc, outline.kind, labels)?;
     Ok(var_with(alloc, dims, options, outline, raw)?)
@@ -53,7 +54,7 @@ pub fn texts_var(
 {
     read_texts(texts);
     if !small {
-        return Ok(var_with(alloc, dims, options, outline, Items::new(alloc))?);
+        return Ok(var_with(alloc, dims, options, outline, Bytes::new())?);
     }
     let raw = texts_bytes(alloc, texts)?;
     Ok(var_with(alloc, dims, options, outline, raw)?)

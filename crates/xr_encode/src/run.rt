@@ -7,8 +7,9 @@ ghost use Rattle.xr_defs.specs.Encoding.{holds, holds_cell, value_bytes};
 ghost use Rattle.xr_encode.specs.Rows.{number_or, cells_bytes, are_held, is_number};
 
 use crate::number::Written;
+use bytes::Bytes;
 use std::alloc::{AllocError, Global};
-use xr_types::{ByteList, Elem, Items};
+use xr_types::Elem;
 
 /// Cells in row order, some of which may be missing.
 pub trait Run: Copy + Drop {
@@ -110,11 +111,7 @@ fn put_cell<W: Written>(out: &mut Vec<u8>, cell: Option<i128>, fill: i128) -> Re
 }
 
 /// The bytes of the cells in a type, with a number for each missing one.
-pub fn bytes_of<R: Run, W: Written>(
-    alloc: Global,
-    run: R,
-    fill: i128,
-) -> Result<ByteList, AllocError>
+pub fn bytes_of<R: Run, W: Written>(alloc: Global, run: R, fill: i128) -> Result<Bytes, AllocError>
     requires { are_held W.kind fill (R.cells run) ≡ true }
     ensures { IfOk result (λ raw. raw ≡ cells_bytes W.kind fill (R.cells run)) }
 {
@@ -122,5 +119,5 @@ pub fn bytes_of<R: Run, W: Written>(
     for i in 0..run.len() {
         put_cell::<W>(&mut out, run.number(i), fill)?;
     }
-    Ok(Items::of(out))
+    Ok(Bytes::from_vec(out)?)
 }

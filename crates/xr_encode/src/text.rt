@@ -4,8 +4,9 @@ ghost use Rattle.xr_defs.specs.Encoding.{filled_up, text_width};
 ghost use Rattle.xr_encode.specs.Texts.{AreBytes};
 
 use crate::name::text_width;
+use bytes::Bytes;
 use std::alloc::{AllocError, Global};
-use xr_types::{ByteList, Items, TextBytes};
+use xr_types::TextBytes;
 
 /// What texts hold are bytes, which is known once they are read.
 pub fn read_texts(texts: &[TextBytes])
@@ -35,7 +36,7 @@ fn push_text(out: &mut Vec<u8>, text: &TextBytes, width: usize) -> Result<(), Al
 }
 
 /// The texts one after the other, each filled up to the width of the longest.
-pub fn texts_bytes(alloc: Global, texts: &[TextBytes]) -> Result<ByteList, AllocError>
+pub fn texts_bytes(alloc: Global, texts: &[TextBytes]) -> Result<Bytes, AllocError>
     ensures { IfOk result (λ raw. raw ≡ flat_map (filled_up (text_width texts.now)) texts.now) }
 {
     let width = text_width(texts) as usize;
@@ -43,5 +44,5 @@ pub fn texts_bytes(alloc: Global, texts: &[TextBytes]) -> Result<ByteList, Alloc
     for text in texts {
         push_text(&mut out, text, width)?;
     }
-    Ok(Items::of(out))
+    Ok(Bytes::from_vec(out)?)
 }

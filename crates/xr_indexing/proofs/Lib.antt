@@ -22,5 +22,4 @@ pub mod TookVars
 pub mod TookSet
 pub mod VarCells
 pub mod SetSpanned
-pub mod TestArrays
 pub mod Rooms

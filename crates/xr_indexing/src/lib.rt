@@ -20,6 +20,3 @@ mod variables;
 pub use choice::{Choice, Positions, Selector, choice_of};
 pub use isel_arrays::isel_array;
 pub use isel_sets::isel_set;
-
-#[cfg(test)]
-mod tests;

@@ -12,4 +12,3 @@ pub mod Rest
 pub mod Permuted
 pub mod Turned
 pub mod Backward
-pub mod TestGrid

@@ -18,6 +18,3 @@ pub use names::{own_name, renamed};
 pub use orders::transposed;
 pub use picks::{pick_of_array, pick_of_set};
 pub use sums::sum_called;
-
-#[cfg(test)]
-mod tests;

@@ -8,6 +8,7 @@ use crate::cells::{CellText, Decimal, Truth};
 use crate::{masked_rows, rows};
 use itoa::Buffer;
 use std::alloc::AllocError;
+use stored_cells::as_typed;
 use xr_defs::{ArrayValue, Cells};
 use xr_types::Items;
 
@@ -102,7 +103,8 @@ pub(crate) fn push_cells(
 ) -> Result<(), AllocError>
     ensures { OnOk result (out.new.items ≡ out.old.items ++ after_blanks (map (cell_text array.now.kind) array.now.cells)) }
 {
-    let (cells, mask) = array.parts();
+    let typed = as_typed(*out.allocator(), array)?;
+    let (cells, mask) = typed.parts();
     push_shown(out, digits, cells, mask)
 }
 
@@ -115,6 +117,7 @@ pub(crate) fn push_cell_lines(
 ) -> Result<(), AllocError>
     ensures { OnOk result (out.new.items ≡ out.old.items ++ rows_text array.now.kind (length array.now.cells / n) n array.now.cells) }
 {
-    let (cells, mask) = array.parts();
+    let typed = as_typed(*out.allocator(), array)?;
+    let (cells, mask) = typed.parts();
     push_shown_lines(out, digits, cells, mask, n as usize)
 }

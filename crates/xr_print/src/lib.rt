@@ -19,6 +19,3 @@ mod times;
 
 pub use array::array_text;
 pub use dataset::set_text;
-
-#[cfg(test)]
-mod tests;

@@ -1,9 +1,6 @@
 -- One statement: what it does is found, and then done.
-use Rattle.std.proofs.Common.{◌≡◌, ◌≢◌, ◌∙◌, ℕ, Bool, List, ◌++◌, Result, Ok, Err, refl, sym, ap, subst}
-use Rattle.std.specs.Prelude.{IsTrue, Vec, codes}
-use Rattle.std.specs.declared.alloc.Global.{Global}
+use Rattle.std.proofs.Common.{◌≡◌, ◌∙◌, ℕ, Bool, List, ◌++◌, Result, Ok, Err, refl, sym, ap, subst}
 use Rattle.xr_types.specs.declared.text.TextBytes.{TextBytes}
-use Rattle.xr_types.specs.declared.fault.Fault.{Fault}
 use Rattle.xr_defs.specs.declared.node.Node.{Node}
 use Rattle.xr_defs.specs.Results.{◌>>=◌}
 use Rattle.xr_defs.specs.Stores.{Files}
@@ -19,8 +16,7 @@ use Rattle.xr_run.specs.declared.effect.Effect.TheVariants.{Bind, Print, Write}
 use Rattle.xr_run.specs.declared.stopped.Stopped.{Stopped}
 use Rattle.xr_run.specs.declared.stopped.Stopped.TheVariants.{Refused, Storage, NoMemory}
 use Rattle.xr_run.specs.Answers.{Gives, GivesOrFails}
-use Rattle.xr_run.specs.Steps.{at, done, EffectIs, EffectFits, PerformIs, PerformKeeps, PerformTallied, StepIs, StepKeeps, PutsName}
-use Rattle.xr_run.specs.Writing.{put_of}
+use Rattle.xr_run.specs.Steps.{at, done, EffectIs, EffectFits, PerformIs, PerformKeeps, PerformTallied, StepIs, StepKeeps}
 
 -- ---- to_netcdf
 
@@ -53,10 +49,10 @@ module _ (nodes : List Node) (names mid_names : Names) (files mid : Files) (e : 
         receiver_found text ∙ ap (λ x. x >>= λ y. set_written v y >>= λ w. Ok (with_file (at names files text) w.0 w.1)) here
         ∙ ap (λ u. set_written u g >>= λ w. Ok (with_file (at names files text) w.0 w.1)) (sym kept)
 
-    pub wrote_file : (name : TextBytes) (bytes : Vec ℕ Global) → Gives put_of (Ok (name, bytes)) (set_written later g) → EffectIs nodes (tree.Written (tree.Method e f gs)) names files (Ok (Write name bytes))
+    pub wrote_file : (name : TextBytes) (bytes : List ℕ) → Gives (λ w. w) (Ok (name, bytes)) (set_written later g) → EffectIs nodes (tree.Written (tree.Method e f gs)) names files (Ok (Write name bytes))
     wrote_file name bytes h = λ text. both_found text ∙ ap (λ x. x >>= λ w. Ok (with_file (at names files text) w.0 w.1)) h
 
-    pub unwritten : (s : Stopped) → Gives put_of (Err s) (set_written later g) → EffectIs nodes (tree.Written (tree.Method e f gs)) names files (Err s)
+    pub unwritten : (s : Stopped) → Gives (λ w. w) (Err s) (set_written later g) → EffectIs nodes (tree.Written (tree.Method e f gs)) names files (Err s)
     unwritten (Refused fault) h = λ text. both_found text ∙ ap (λ x. x >>= λ w. Ok (with_file (at names files text) w.0 w.1)) h
     unwritten Storage h = tt
     unwritten NoMemory h = tt
@@ -90,7 +86,7 @@ pub kept_by : (nodes : List Node) (l : Line) (e : Effect) (names : Names) (files
 kept_by nodes l (Bind name value) names files mid after same found fits keeps = λ n none. ap (λ (fs : Files). fs n) (keeps ∙ same)
 kept_by nodes l (Print text) names files mid after same found fits keeps = λ n none. ap (λ (fs : Files). fs n) (keeps ∙ same)
 kept_by nodes (tree.Written e) (Write name bytes) names files mid after same found fits keeps = λ n none.
-    keeps n (λ is. none (bytes.items, λ text. subst (λ (m : List ℕ). step (tree.Written e) (at names files text) ≡ Ok (with_file (at names files text) m bytes.items)) (sym is) (found text)))
+    keeps n (λ is. none (bytes, λ text. subst (λ (m : List ℕ). step (tree.Written e) (at names files text) ≡ Ok (with_file (at names files text) m bytes)) (sym is) (found text)))
     ∙ ap (λ (fs : Files). fs n) same
 kept_by nodes (tree.Assigned name e) (Write n bytes) names files mid after same found fits keeps = absurd fits
 kept_by nodes (tree.Aligned ns e) (Write n bytes) names files mid after same found fits keeps = absurd fits

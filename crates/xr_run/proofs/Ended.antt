@@ -14,7 +14,7 @@ use Rattle.xr_defs.specs.Scripts.{IsScriptText, IsFirstFault, FirstFault}
 use Rattle.xr_defs.specs.Runs.{Ended, ended, start, run_from, Run, no_words, no_script, script, ScriptRun, not_begun, begun as run_begun, IsPutInRun, put_by}
 use Rattle.xr_run.specs.declared.stopped.Stopped.{Stopped}
 use Rattle.xr_run.specs.declared.stopped.Stopped.TheVariants as stops
-use Rattle.xr_run.specs.Outside.{Rose}
+use Rattle.xr_outside.specs.Outside.{Rose}
 use Rattle.xr_run.specs.Ends.{IsEnd, Ends, ScriptEnds, CommandEnds, StatementsKeep, ScriptKeeps, CommandKeeps, StatusTallied, Untouched, status_of}
 use Rattle.xr_run.specs.Top.{RunEnds, RunCounted, unsaid}
 

@@ -1,9 +1,10 @@
 -- The value of an expression from those of its parts, and its fault from theirs.
-use Rattle.std.proofs.Common.{◌≡◌, ◌∙◌, ℕ, ◌+◌, ◌<◌, ◌≤◌, arith, suc, List, [], ◌∷◌, length, get_or, drop, Option, Some, None, Result, Ok, Err, refl, sym, ap, subst, add-one, drop-cons}
+use Rattle.std.proofs.Common.{◌≡◌, ◌∙◌, ℕ, ℤ, ◌+◌, ◌<◌, ◌≤◌, arith, suc, List, ◌∷◌, length, get_or, drop, Option, Result, Ok, Err, refl, sym, ap, subst, add-one, drop-cons}
 use Rattle.std.proofs.lemmas.List.{nil_from_length, length-drop}
 use Rattle.xr_types.specs.declared.text.TextBytes.{TextBytes}
 use Rattle.xr_types.specs.declared.fault.Fault.{Fault}
 use Rattle.xr_types.specs.declared.fault.Fault.TheVariants.{WrongKind}
+use Rattle.xr_defs.specs.declared.syntax.Constant.{Constant}
 use Rattle.xr_defs.specs.declared.syntax.Expr.{Expr}
 use Rattle.xr_defs.specs.declared.operation.OpKind.{OpKind}
 use Rattle.xr_defs.specs.Results.{◌>>=◌}
@@ -13,8 +14,8 @@ use Rattle.xr_defs.specs.Syntax.{Tree, Args, tree_of}
 use Rattle.xr_defs.specs.Meanings as of
 use Rattle.xr_defs.specs.Meanings.{Values, Entries, With, Entry, Given}
 use Rattle.xr_defs.specs.Arguments.{wrong}
-use Rattle.xr_defs.specs.Calls.{function_called, method_called}
-use Rattle.xr_defs.specs.Evaluation.{Names, value_of, values_of, entries_of, given_of}
+use Rattle.xr_defs.specs.Calls.{function_called, method_called, part_picked}
+use Rattle.xr_defs.specs.Evaluation.{Names, value_of, values_of, entries_of, given_of, constant_value, named}
 use Rattle.xr_run.specs.declared.stopped.Stopped.{Stopped}
 use Rattle.xr_run.specs.declared.stopped.Stopped.TheVariants.{Refused, Storage, NoMemory}
 use Rattle.xr_run.specs.Answers.{Gives, GivesOrFails, Tallied}
@@ -40,6 +41,30 @@ no_fault view (Err (Refused f)) told n h = refl
 no_fault view (Err Storage) told n h = absurd h
 no_fault view (Err NoMemory) told n h = refl
 
+name_is : (names : Names) (files : Files) (name : List ℕ) → value_of names files (tree.Variable name) ≡ named names name
+unfolding value_of given_of values_of entries_of
+name_is names files name = refl
+
+number_is : (names : Names) (files : Files) (n : ℤ) → value_of names files (tree.Whole n) ≡ Ok (of.Number n)
+unfolding value_of given_of values_of entries_of
+number_is names files n = refl
+
+text_is : (names : Names) (files : Files) (t : List ℕ) → value_of names files (tree.Words t) ≡ Ok (of.Text t)
+unfolding value_of given_of values_of entries_of
+text_is names files t = refl
+
+constant_is : (names : Names) (files : Files) (c : Constant) → value_of names files (tree.Constantly c) ≡ Ok (constant_value c)
+unfolding value_of given_of values_of entries_of
+constant_is names files c = refl
+
+unary_is : (names : Names) (files : Files) (op : OpKind) (a : Tree) → value_of names files (tree.Unary op a) ≡ (value_of names files a >>= λ v. wrong)
+unfolding value_of given_of values_of entries_of
+unary_is names files op a = refl
+
+index_is : (names : Names) (files : Files) (a : Tree) (t : List ℕ) → value_of names files (tree.Index a t) ≡ (value_of names files a >>= λ v. part_picked v t)
+unfolding value_of given_of values_of entries_of
+index_is names files a t = refl
+
 call_is : (names : Names) (files : Files) (name : List ℕ) (gs : Args) → value_of names files (tree.Call name gs) ≡ (given_of names files gs >>= λ g. function_called files name g)
 unfolding value_of given_of values_of entries_of
 call_is names files name gs = refl
@@ -60,6 +85,38 @@ items_is names files xs = refl
 table_is : (names : Names) (files : Files) (xs : tree.Entries) → value_of names files (tree.Table xs) ≡ (entries_of names files xs >>= λ vs. Ok (of.Table vs))
 unfolding value_of given_of values_of entries_of
 table_is names files xs = refl
+
+pub name_from : {V : Type 0} (view : V → of.Value) (names : Names) (files : Files) (e : Tree) (name : List ℕ) (r : Result V Stopped) → e ≡ tree.Variable name → Gives view r (named names name) → GivesOrFails view r (value_of names files e)
+name_from view names files e name r is h =
+    subst (λ x. GivesOrFails view r x) (sym (ap (value_of names files) is ∙ name_is names files name)) (gives_or view r (named names name) h)
+
+pub number_from : (names : Names) (files : Files) (e : Tree) (n : ℤ) (v : of.Value) → e ≡ tree.Whole n → v ≡ of.Number n → value_of names files e ≡ Ok v
+number_from names files e n v is means = ap (value_of names files) is ∙ number_is names files n ∙ ap Ok (sym means)
+
+pub text_from : (names : Names) (files : Files) (e : Tree) (t copy : List ℕ) (v : of.Value) → e ≡ tree.Words t → copy ≡ t → v ≡ of.Text copy → value_of names files e ≡ Ok v
+text_from names files e t copy v is same means = ap (value_of names files) is ∙ text_is names files t ∙ ap Ok (sym (means ∙ ap of.Text same))
+
+pub constant_from : (names : Names) (files : Files) (e : Tree) (c : Constant) (v : of.Value) → e ≡ tree.Constantly c → v ≡ constant_value c → value_of names files e ≡ Ok v
+constant_from names files e c v is means = ap (value_of names files) is ∙ constant_is names files c ∙ ap Ok (sym means)
+
+pub unary_wrong : (names : Names) (files : Files) (e a : Tree) (op : OpKind) (v : of.Value) → e ≡ tree.Unary op a → value_of names files a ≡ Ok v → value_of names files e ≡ Err WrongKind
+unary_wrong names files e a op v is value = ap (value_of names files) is ∙ unary_is names files op a ∙ ap (λ x. x >>= λ u. wrong) value
+
+pub unary_fails : {V A : Type 0} (view : V → of.Value) (seen : A → of.Value) (names : Names) (files : Files) (e a : Tree) (op : OpKind) (s : Stopped)
+    → e ≡ tree.Unary op a → GivesOrFails seen (Err s) (value_of names files a) → GivesOrFails view (Err s) (value_of names files e)
+unary_fails view seen names files e a op s is h =
+    passed seen view s (value_of names files a) (value_of names files e) (λ u. wrong) (ap (value_of names files) is ∙ unary_is names files op a) h
+
+pub index_from : {V : Type 0} (view : V → of.Value) (names : Names) (files : Files) (e a : Tree) (t : List ℕ) (v : of.Value) (r : Result V Stopped)
+    → e ≡ tree.Index a t → value_of names files a ≡ Ok v → Gives view r (part_picked v t) → GivesOrFails view r (value_of names files e)
+index_from view names files e a t v r is value h =
+    let q : value_of names files e ≡ part_picked v t = ap (value_of names files) is ∙ index_is names files a t ∙ ap (λ x. x >>= λ u. part_picked u t) value in
+    subst (λ x. GivesOrFails view r x) (sym q) (gives_or view r (part_picked v t) h)
+
+pub index_fails : {V A : Type 0} (view : V → of.Value) (seen : A → of.Value) (names : Names) (files : Files) (e a : Tree) (t : List ℕ) (s : Stopped)
+    → e ≡ tree.Index a t → GivesOrFails seen (Err s) (value_of names files a) → GivesOrFails view (Err s) (value_of names files e)
+index_fails view seen names files e a t s is h =
+    passed seen view s (value_of names files a) (value_of names files e) (λ v. part_picked v t) (ap (value_of names files) is ∙ index_is names files a t) h
 
 pub call_from : {V : Type 0} (view : V → of.Value) (names : Names) (files mid : Files) (e : Tree) (name : List ℕ) (gs : Args) (g : Given) (r : Result V Stopped)
     → e ≡ tree.Call name gs → given_of names files gs ≡ Ok g → mid ≡ files → GivesOrFails view r (function_called mid name g) → GivesOrFails view r (value_of names files e)
@@ -89,7 +146,18 @@ method_fails view given names mid_names files mid e a name gs v s is value same_
     (ap (value_of names files) is ∙ method_is names files a name gs ∙ ap (λ x. x >>= λ w. given_of names files gs >>= λ y. method_called w name y) value)
     (subst (λ (ns : Names). GivesOrFails given (Err s) (given_of ns files gs)) same_names (subst (λ (fs : Files). GivesOrFails given (Err s) (given_of mid_names fs gs)) same h))
 
+-- a receiver that isn't found
+pub receiver_fails : {V A : Type 0} (view : V → of.Value) (seen : A → of.Value) (names : Names) (files : Files) (e a : Tree) (name : List ℕ) (gs : Args) (s : Stopped)
+    → e ≡ tree.Method a name gs → GivesOrFails seen (Err s) (value_of names files a) → GivesOrFails view (Err s) (value_of names files e)
+receiver_fails view seen names files e a name gs s is h =
+    passed seen view s (value_of names files a) (value_of names files e) (λ v. given_of names files gs >>= λ g. method_called v name g) (ap (value_of names files) is ∙ method_is names files a name gs) h
+
 -- an operator, whose operands are both found before it
+pub operand_fails : {V A : Type 0} (view : V → of.Value) (seen : A → of.Value) (names : Names) (files : Files) (e a b : Tree) (op : OpKind) (s : Stopped)
+    → e ≡ tree.Binary op a b → GivesOrFails seen (Err s) (value_of names files a) → GivesOrFails view (Err s) (value_of names files e)
+operand_fails view seen names files e a b op s is h =
+    passed seen view s (value_of names files a) (value_of names files e) (λ v. value_of names files b >>= λ w. wrong) (ap (value_of names files) is ∙ binary_is names files op a b) h
+
 pub binary_fails : {V A : Type 0} (view : V → of.Value) (seen : A → of.Value) (names mid_names : Names) (files mid : Files) (e a b : Tree) (op : OpKind) (v : of.Value) (s : Stopped)
     → e ≡ tree.Binary op a b → value_of names files a ≡ Ok v → mid_names ≡ names → mid ≡ files → GivesOrFails seen (Err s) (value_of mid_names mid b)
     → GivesOrFails view (Err s) (value_of names files e)

@@ -1,9 +1,10 @@
 -- The trees of the program's calls, lists and tables, and what its lists and tables stand for.
-use Rattle.std.proofs.Common.{◌≡◌, ◌∙◌, List, Option, All, ap, sym, subst}
+use Rattle.std.proofs.Common.{◌≡◌, ◌∙◌, ℤ, List, Option, All, ap, sym, subst}
 use Rattle.std.specs.Prelude.{Vec, Box}
 use Rattle.std.specs.declared.alloc.Global.{Global}
 use Rattle.xr_types.specs.declared.text.TextBytes.{TextBytes}
 use Rattle.xr_defs.specs.declared.operation.OpKind.{OpKind}
+use Rattle.xr_defs.specs.declared.syntax.Constant.{Constant}
 use Rattle.xr_defs.specs.declared.syntax.Expr.{Expr}
 use Rattle.xr_defs.specs.declared.syntax.Expr.TheVariants as expr
 use Rattle.xr_defs.specs.declared.syntax.Expr.TheOpen as open-expr
@@ -27,6 +28,26 @@ use Rattle.xr_values.proofs.Meaning.{meaning_out, value_in}
 layer_is : (e : Expr) (layer : Expr-F Expr) → e ≡ roll-Expr layer → tree_of e ≡ layer_tree layer
 layer_is e layer is = ap tree_of is ∙ (tree_out (roll-Expr layer) ∙ ap layer_tree (out-roll-Expr layer))
 
+pub name_tree : (e : Expr) (n : TextBytes) → e ≡ expr.Name n → tree_of e ≡ tree.Variable n
+unfolding roll-Expr denote.Hole.Carrier.roll
+name_tree e n is = layer_is e (open-expr.Name n) is
+
+pub number_tree : (e : Expr) (n : ℤ) → e ≡ expr.Number n → tree_of e ≡ tree.Whole n
+unfolding roll-Expr denote.Hole.Carrier.roll
+number_tree e n is = layer_is e (open-expr.Number n) is
+
+pub text_tree : (e : Expr) (t : TextBytes) → e ≡ expr.Text t → tree_of e ≡ tree.Words t
+unfolding roll-Expr denote.Hole.Carrier.roll
+text_tree e t is = layer_is e (open-expr.Text t) is
+
+pub constant_tree : (e : Expr) (c : Constant) → e ≡ expr.Constant c → tree_of e ≡ tree.Constantly c
+unfolding roll-Expr denote.Hole.Carrier.roll
+constant_tree e c is = layer_is e (open-expr.Constant c) is
+
+pub unary_tree : (e : Expr) (op : OpKind) (a : Box Expr Global) → e ≡ expr.Unary op a → tree_of e ≡ tree.Unary op (tree_of a.value)
+unfolding roll-Expr denote.Hole.Carrier.roll
+unary_tree e op a is = layer_is e (open-expr.Unary op a) is
+
 pub binary_tree : (e : Expr) (op : OpKind) (a b : Box Expr Global) → e ≡ expr.Binary op a b → tree_of e ≡ tree.Binary op (tree_of a.value) (tree_of b.value)
 unfolding roll-Expr denote.Hole.Carrier.roll
 binary_tree e op a b is = layer_is e (open-expr.Binary op a b) is
@@ -38,6 +59,10 @@ call_tree e n gs is = layer_is e (open-expr.Call n gs) is
 pub method_tree : (e : Expr) (a : Box Expr Global) (n : TextBytes) (gs : Vec (Option TextBytes × Expr) Global) → e ≡ expr.Method a n gs → tree_of e ≡ tree.Method (tree_of a.value) n (all_arguments gs.items)
 unfolding roll-Expr denote.Hole.Carrier.roll
 method_tree e a n gs is = layer_is e (open-expr.Method a n gs) is
+
+pub index_tree : (e : Expr) (a : Box Expr Global) (t : TextBytes) → e ≡ expr.Index a t → tree_of e ≡ tree.Index (tree_of a.value) t
+unfolding roll-Expr denote.Hole.Carrier.roll
+index_tree e a t is = layer_is e (open-expr.Index a t) is
 
 pub items_tree : (e : Expr) (xs : Vec Expr Global) → e ≡ expr.List xs → tree_of e ≡ tree.Items (all_trees xs.items)
 unfolding roll-Expr denote.Hole.Carrier.roll

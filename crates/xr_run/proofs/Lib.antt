@@ -8,8 +8,6 @@ mod NamesKept
 mod OneEnd
 mod Parse
 mod Performed
-mod Pieces
-mod Puts
 mod Stepped
 mod Timed
 mod ValuesKept

@@ -1,11 +1,9 @@
 -- A file that is too long is refused before anything of it is read.
-use Rattle.std.proofs.Common.{◌≡◌, ◌<◌, ◌∙◌, ℕ, Bool, List, length, Option, Some, None, Result, Err, ltb, true, refl, ap, rules, tests}
+use Rattle.std.proofs.Common.{◌≡◌, ◌<◌, ◌∙◌, ℕ, Bool, List, length, Option, Some, None, Err, ltb, true, refl, ap, rules, tests}
 use Rattle.xr_types.specs.declared.fault.CdfKind.TheVariants.{TooLarge}
-use Rattle.xr_types.specs.declared.fault.Fault.{Fault}
 use Rattle.xr_types.specs.declared.fault.Fault.TheVariants.{BadFile, NoFile}
 use Rattle.xr_defs.specs.Files.{file_in}
 use Rattle.xr_defs.specs.Stores.{Files}
-use Rattle.xr_defs.specs.Values.{Dataset}
 use Rattle.xr_defs.specs.Calls.{set_in, opened_set}
 use Rattle.xr_run.specs.Functions.{set_value}
 

@@ -1,8 +1,6 @@
 -- What statements do, done.
-use Rattle.std.proofs.Common.{◌≡◌, ◌≢◌, ℕ, Bool, true, false, cond, List, [], ◌++◌, Option, Some, Ok, refl, sym, ap, ap₂, subst, ◌∙◌}
-use Rattle.std.specs.Prelude.{IsTrue, Vec}
+use Rattle.std.proofs.Common.{◌≡◌, ◌≢◌, ℕ, Bool, true, false, cond, List, [], Option, Some, Ok, refl, sym, ap, ap₂, subst, ◌∙◌}
 use Rattle.std.specs.Str.{bytes_eq}
-use Rattle.std.specs.declared.alloc.Global.{Global}
 use Rattle.std.proofs.Math.Path.{fun_ext}
 use Rattle.std.proofs.lemmas.Bool.{false≢true}
 use Rattle.std.proofs.lemmas.List.{append-nil}
@@ -16,7 +14,7 @@ use Rattle.xr_values.specs.declared.value.Value.{Value}
 use Rattle.xr_values.specs.Meaning.{meaning}
 use Rattle.xr_run.specs.declared.effect.Effect.{Effect}
 use Rattle.xr_run.specs.declared.effect.Effect.TheVariants.{Bind, Write}
-use Rattle.xr_run.specs.Outside.{OthersSame}
+use Rattle.xr_outside.specs.Outside.{OthersSame}
 use Rattle.xr_run.specs.Steps.{at, PerformIs}
 
 -- a map of which one name has a new entry
@@ -36,8 +34,8 @@ bound nodes e name value names after files told taken is same =
     subst (λ (x : Effect). PerformIs nodes x names after files files told taken taken (Ok tt)) (sym is)
     ([], λ t. sym (append-nil taken), λ text. ap₂ (λ (ns : Names) (w : List ℕ). at ns files w) (sym same) (sym (append-nil text)))
 
-pub wrote : (nodes : List Node) (e : Effect) (name : TextBytes) (bytes : Vec ℕ Global) (names : Names) (files after : Files) (told : Bool) (taken : List ℕ) → e ≡ Write name bytes
-    → after name ≡ Some bytes.items → OthersSame name files after → PerformIs nodes e names names files after told taken taken (Ok tt)
+pub wrote : (nodes : List Node) (e : Effect) (name : TextBytes) (bytes : List ℕ) (names : Names) (files after : Files) (told : Bool) (taken : List ℕ) → e ≡ Write name bytes
+    → after name ≡ Some bytes → OthersSame name files after → PerformIs nodes e names names files after told taken taken (Ok tt)
 wrote nodes e name bytes names files after told taken is here others =
     subst (λ (x : Effect). PerformIs nodes x names names files after told taken taken (Ok tt)) (sym is)
-    ([], λ t. sym (append-nil taken), λ text. ap₂ (λ (fs : Files) (w : List ℕ). at names fs w) (sym (put_is files after name bytes.items here others)) (sym (append-nil text)))
+    ([], λ t. sym (append-nil taken), λ text. ap₂ (λ (fs : Files) (w : List ℕ). at names fs w) (sym (put_is files after name bytes here others)) (sym (append-nil text)))

@@ -1,7 +1,7 @@
 -- What the parts of a statement answer.
 use Rattle.std.specs.Prelude.{◌≡◌, ◌≤◌, ℕ, Result, Ok, Err}
 use Rattle.xr_types.specs.declared.fault.Fault.{Fault}
-use Rattle.xr_run.specs.Outside.{Rose}
+use Rattle.xr_outside.specs.Outside.{Rose}
 use Rattle.xr_run.specs.declared.stopped.Stopped.{Stopped}
 use Rattle.xr_run.specs.declared.stopped.Stopped.TheVariants.{Refused, Storage, NoMemory}
 

@@ -1,5 +1,5 @@
 -- The lists of an expression from left to right, as the program walks them.
-use Rattle.std.specs.Prelude.{ℕ, List, [], ◌∷◌, Option, Some, None, Result, Ok, Err}
+use Rattle.std.specs.Prelude.{List, [], ◌∷◌, Option, Some, None, Result, Ok}
 use Rattle.xr_types.specs.declared.text.TextBytes.{TextBytes}
 use Rattle.xr_types.specs.declared.fault.Fault.{Fault}
 use Rattle.xr_defs.specs.declared.syntax.Expr.{Expr}

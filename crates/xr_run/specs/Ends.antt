@@ -8,7 +8,7 @@ use Rattle.xr_defs.specs.Scripts.{IsScriptText}
 use Rattle.xr_defs.specs.Runs.{Ended, Run, ScriptRun, IsPut, IsPutInRun, start}
 use Rattle.xr_run.specs.declared.stopped.Stopped.{Stopped}
 use Rattle.xr_run.specs.declared.stopped.Stopped.TheVariants.{Refused, Storage, NoMemory}
-use Rattle.xr_run.specs.Outside.{Rose}
+use Rattle.xr_outside.specs.Outside.{Rose}
 
 -- how a run ends that stops at a statement
 abbrev pub status_of : Stopped → ℕ → Status

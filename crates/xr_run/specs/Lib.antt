@@ -2,12 +2,8 @@ pub mod Answers
 pub mod Arguments
 pub mod Ends
 pub mod Functions
-pub mod Memory
 pub mod Named
-pub mod Outside
-pub mod PutLog
 pub mod Steps
 pub mod Stops
 pub mod Top
 pub mod Words
-pub mod Writing

@@ -1,5 +1,5 @@
 -- The values of names, as a map keeps them.
-use Rattle.std.specs.Prelude.{ℕ, List, Option, option_map, IfSome, String}
+use Rattle.std.specs.Prelude.{ℕ, List, option_map, IfSome, String}
 use Rattle.std.specs.BTreeMap.{BTreeMap, get_by_text}
 use Rattle.std.specs.declared.alloc.Global.{Global}
 use Rattle.xr_defs.specs.declared.node.Node.{Node}

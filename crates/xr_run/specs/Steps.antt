@@ -11,7 +11,7 @@ use Rattle.xr_run.specs.declared.effect.Effect.{Effect}
 use Rattle.xr_run.specs.declared.effect.Effect.TheVariants.{Bind, Print, Write}
 use Rattle.xr_run.specs.declared.stopped.Stopped.{Stopped}
 use Rattle.xr_run.specs.declared.stopped.Stopped.TheVariants.{Refused, Storage, NoMemory}
-use Rattle.xr_run.specs.Outside.{Rose}
+use Rattle.xr_outside.specs.Outside.{Rose}
 
 abbrev pub at : Names → Files → List ℕ → State
 at names files text = record { names = names; files = files; text = text }
@@ -20,7 +20,7 @@ at names files text = record { names = names; files = files; text = text }
 abbrev pub done : List Node → Effect → State → State
 done nodes (Bind name value) s = with_name s name (meaning nodes value)
 done nodes (Print text) s = with_text s text.items
-done nodes (Write name bytes) s = with_file s name bytes.items
+done nodes (Write name bytes) s = with_file s name bytes
 
 -- the arrays and datasets that it binds are of the plan
 abbrev pub IsEffectIn : List Node → Effect → Type 0

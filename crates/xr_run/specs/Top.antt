@@ -5,7 +5,7 @@ use Rattle.xr_types.specs.declared.status.Status.TheVariants.{Done, Refused, Bad
 use Rattle.xr_defs.specs.Stores.{Files}
 use Rattle.xr_defs.specs.Messages.{status_line}
 use Rattle.xr_defs.specs.Runs.{Ended, Run}
-use Rattle.xr_run.specs.Outside.{Rose}
+use Rattle.xr_outside.specs.Outside.{Rose}
 use Rattle.xr_run.specs.Ends.{IsEnd}
 
 -- unless something failed or memory ran out: the status, the files after the run and what the output sink gained are those of

@@ -1,4 +1,5 @@
 //! What a statement does once nothing refuses it.
+use bytes::BytesQueue;
 use xr_types::TextBytes;
 use xr_values::Value;
 
@@ -9,6 +10,6 @@ pub enum Effect {
     Bind(TextBytes, Value),
     /// A text is printed.
     Print(Vec<u8>),
-    /// Bytes become those of the file of a name.
-    Write(TextBytes, Vec<u8>),
+    /// The bytes of all pieces become those of the file of a name.
+    Write(TextBytes, BytesQueue),
 }

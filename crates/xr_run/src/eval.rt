@@ -16,13 +16,13 @@ ghost use Rattle.xr_run.specs.declared.stopped.Stopped.TheVariants as stops;
 
 use crate::functions::call_function;
 use crate::names::NameMap;
-use crate::outside::Store;
 use crate::stopped::Stopped;
 use dataset_core::{call_method, pick};
 use plan_core::{Plan, Whole};
 use std::alloc::{AllocError, Global};
 use std::thread::Threads;
 use xr_defs::{Argument, Constant, Expr};
+use xr_outside::Store;
 use xr_types::{DeepCopy, Fault, TextBytes};
 use xr_values::{Args, Cx, Value};
 
@@ -257,7 +257,6 @@ fn eval_entries<R: Threads + Sync, S: Store>(
 
 /// The value of an expression.
 #[cycle(evaluation)]
-#[tactic(auto, using(xr_defs::proofs::Trees::tree_out, plan_core::proofs::Plans::grows_by_none), unfolding(xr_defs::specs::Evaluation::value_of))]
 pub(crate) fn eval<R: Threads + Sync, S: Store>(
     rt: &R,
     alloc: Global,

@@ -7,25 +7,32 @@ ghost use Rattle.xr_values.specs.Meaning.{meaning, given, IsValueIn, AreArgsIn};
 ghost use Rattle.xr_run.specs.Answers.{Gives, GivesOrFails, Tallied};
 ghost use Rattle.xr_run.specs.Functions.{set_value, open_call};
 
-use crate::outside::{Got, Store, StoreFault};
 use crate::stopped::Stopped;
+use bytes::Bytes;
 use dataset_core::open_request;
 use plan_core::{Plan, Whole};
 use std::alloc::Global;
 use std::rc::Rc;
 use std::thread::Threads;
 use xr_decode::decode_bytes;
+use xr_outside::{Got, Store, StoreFault};
 use xr_types::{CdfKind, DeepCopy, Fault, MOST_FILE_BYTES, TextBytes};
 use xr_values::{Args, Cx, Value};
 
 // The dataset of a file's bytes.
 #[tactic(auto, using(xr_arguments::proofs::Variants::is_set, xr_arguments::proofs::Inside::set_inside))]
-fn opened_value(alloc: Global, plan: &mut Plan, bytes: &[u8], mask: bool) -> Result<Value, Stopped>
-    ensures value { Gives (meaning plan.new) result (set_value (set_in bytes.now mask)) }
+fn opened_value(
+    alloc: Global,
+    plan: &mut Plan,
+    bytes: Vec<u8>,
+    mask: bool,
+) -> Result<Value, Stopped>
+    ensures value { Gives (meaning plan.new) result (set_value (set_in bytes.items mask)) }
     ensures inside { IfOk result (IsValueIn plan.new) }
     ensures grows { Grows plan.old plan.new }
 {
-    match decode_bytes(alloc, plan, bytes, mask) {
+    let bytes = Bytes::from_vec(bytes)?;
+    match decode_bytes(alloc, plan, &bytes, mask) {
         Ok(set) => Ok(Value::Set(Rc::new(alloc, set)?)),
         Err(fault) => Err(Stopped::from(fault)),
     }
@@ -48,7 +55,7 @@ fn open_file<S: Store>(
     ensures tallied { Tallied (S.faults store.old) (S.faults store.new) result }
 {
     match store.get(alloc, name, MOST_FILE_BYTES as u64) {
-        Ok(Got::Found(bytes)) => opened_value(alloc, plan, &bytes, mask),
+        Ok(Got::Found(bytes)) => opened_value(alloc, plan, bytes, mask),
         Ok(Got::Absent) => match name.deep_copy(alloc) {
             Ok(name) => Err(Stopped::Refused(Fault::NoFile(name))),
             Err(_) => Err(Stopped::NoMemory),

@@ -6,13 +6,13 @@ ghost use Rattle.xr_defs.specs.Runs.{run_from, start};
 ghost use Rattle.xr_run.specs.Ends.{Ends, StatementsKeep, StatusTallied, Untouched, status_of};
 
 use crate::names::NameMap;
-use crate::outside::{Sink, Store};
 use crate::step::step;
 use crate::stopped::Stopped;
 use plan_core::{Plan, Whole};
 use std::alloc::Global;
 use std::thread::Threads;
 use xr_defs::Statement;
+use xr_outside::{Sink, Store};
 use xr_types::Status;
 use xr_values::Cx;
 

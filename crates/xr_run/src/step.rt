@@ -11,15 +11,14 @@ ghost use Rattle.xr_run.specs.Steps.{EffectIs, EffectFits, IsEffectIn, PerformIs
 use crate::effect::Effect;
 use crate::eval::{eval, eval_arguments};
 use crate::names::NameMap;
-use crate::outside::{Sink, Store};
 use crate::printing::printed;
 use crate::stopped::Stopped;
-use crate::write_all::write_all;
 use crate::writing::written;
 use plan_core::Whole;
 use std::alloc::Global;
 use std::thread::Threads;
 use xr_defs::{Argument, Expr, Statement};
+use xr_outside::{Sink, Store, StoreFault, write_all};
 use xr_types::{DeepCopy, Fault, TextBytes};
 use xr_values::Cx;
 
@@ -169,7 +168,7 @@ fn write<R: Threads + Sync, S: Store>(
     match eval(rt, alloc, receiver, names, store, cx) {
         Ok(value) => match eval_arguments(rt, alloc, arguments, names, store, cx) {
             Ok(args) => match written(rt, alloc, cx, &value, &args) {
-                Ok((name, bytes)) => Ok(Effect::Write(name, bytes)),
+                Ok((name, pieces)) => Ok(Effect::Write(name, pieces)),
                 Err(stopped) => Err(stopped),
             },
             Err(stopped) => Err(stopped),
@@ -242,9 +241,10 @@ fn perform<S: Store, O: Sink>(
             Ok(()) => Ok(()),
             Err(_) => Err(Stopped::Storage),
         },
-        Effect::Write(name, bytes) => match store.put(&name, &bytes) {
+        Effect::Write(name, pieces) => match store.put_pieces(alloc, &name, pieces) {
             Ok(()) => Ok(()),
-            Err(_) => Err(Stopped::Storage),
+            Err(StoreFault::Failed) => Err(Stopped::Storage),
+            Err(StoreFault::NoMemory) => Err(Stopped::NoMemory),
         },
     }
 }

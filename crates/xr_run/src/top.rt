@@ -6,12 +6,11 @@ ghost use Rattle.xr_run.specs.Ends.{ScriptEnds, CommandEnds, ScriptKeeps, Comman
 ghost use Rattle.xr_run.specs.Top.{RunEnds, RunCounted, unsaid, exit_of};
 
 use crate::message::status_line;
-use crate::outside::{Gate, Got, Sink, Store, StoreFault};
 use crate::run_statements::run_statements;
 use crate::words::script_word;
-use crate::write_all::write_all;
 use std::alloc::Global;
 use std::thread::Threads;
+use xr_outside::{Gate, Got, Sink, Store, StoreFault, write_all};
 use xr_script::{ParseFault, parse};
 use xr_types::{MOST_SCRIPT_BYTES, ScriptFault, ScriptKind, Status, TextBytes};
 

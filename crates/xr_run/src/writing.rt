@@ -8,10 +8,10 @@ ghost use Rattle.xr_defs.specs.Files.{is_version};
 ghost use Rattle.xr_values.specs.Stands.{dataset_in, IsDatasetIn};
 ghost use Rattle.xr_values.specs.Meaning.{meaning, given, IsValueIn, AreArgsIn};
 ghost use Rattle.xr_run.specs.Answers.{Gives};
-ghost use Rattle.xr_run.specs.Writing.{put_of};
 
 use crate::stopped::Stopped;
-use cdf_writer::write;
+use bytes::BytesQueue;
+use cdf_writer::write_pieces;
 use dataset_core::write_request;
 use plan_core::Whole;
 use std::alloc::Global;
@@ -42,7 +42,7 @@ fn encoded<R: Threads + Sync>(
     }
 }
 
-/// The name of the file that `to_netcdf` puts, and its bytes, once all checks are passed.
+/// The name of the file that `to_netcdf` puts, and its bytes in pieces, once all checks are passed.
 #[tactic(auto, unfolding(xr_defs::specs::Calls::set_written))]
 pub(crate) fn written<R: Threads + Sync>(
     rt: &R,
@@ -50,17 +50,17 @@ pub(crate) fn written<R: Threads + Sync>(
     cx: &mut Cx<Whole>,
     value: &Value,
     args: &Args,
-) -> Result<(TextBytes, Vec<u8>), Stopped>
+) -> Result<(TextBytes, BytesQueue), Stopped>
     requires sync { IsSync R.row }
     requires inside { IsValueIn cx.old.plan value.now }
     requires given { AreArgsIn cx.old.plan args.now }
-    ensures put { Gives put_of result (set_written (meaning cx.old.plan value.now) (given cx.old.plan args.now)) }
+    ensures put { Gives (λ w. w) result (set_written (meaning cx.old.plan value.now) (given cx.old.plan args.now)) }
     ensures keeps { cx.new.plan ≡ cx.old.plan }
 {
     let request = write_request(alloc, value, args)?;
     let file = encoded(rt, alloc, cx, &request.set, &request.options)?;
-    match write(alloc, &file) {
-        Ok(bytes) => Ok((request.name, bytes)),
+    match write_pieces(alloc, &file) {
+        Ok(pieces) => Ok((request.name, pieces)),
         // The checks leave want of memory alone.
         Err(_) => Err(Stopped::NoMemory),
     }

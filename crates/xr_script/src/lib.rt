@@ -22,6 +22,3 @@ mod wrote;
 pub use fault::ParseFault;
 pub use script::parse;
 pub use walk::parse_tokens;
-
-#[cfg(test)]
-mod tests;

@@ -14,6 +14,3 @@ mod text;
 pub use laws::{front_is_the_longest, lines_are_counted, tokens_are_the_only_ones};
 pub use scanner::scan;
 pub use text::text_of;
-
-#[cfg(test)]
-mod tests;

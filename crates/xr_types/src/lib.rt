@@ -25,6 +25,3 @@ pub use limits::{
 pub use shape::Shape;
 pub use status::{ScriptFault, ScriptKind, Status};
 pub use text::{Name, TextBytes};
-
-#[cfg(test)]
-mod tests;

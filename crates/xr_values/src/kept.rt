@@ -73,21 +73,30 @@ fn is_new(before: &[&Coord], coord: &Coord) -> bool
 
 // Whether those of its name are equal to it.
 #[tactic(auto, unfolding(crate::specs::Carrying::is_agreed))]
-fn is_agreed(others: &[&Coord], coord: &Coord) -> bool
-    ensures { result ≡ is_agreed (map (λ c. c.now) others.now) coord.now }
+fn is_agreed(alloc: Global, others: &[&Coord], coord: &Coord) -> Result<bool, AllocError>
+    ensures { IfOk result (λ agreed. agreed ≡ is_agreed (map (λ c. c.now) others.now) coord.now) }
 {
     for other in others {
-        if other.name.is(&coord.name) && !same_coord(coord, other) {
-            return false;
+        if other.name.is(&coord.name) && !same_coord(alloc, coord, other)? {
+            return Ok(false);
         }
     }
-    true
+    Ok(true)
 }
 
-fn is_kept(axes: &[Axis], before: &[&Coord], coord: &Coord, behind: &[&Coord]) -> bool
-    ensures { result ≡ (is_new (map (λ c. c.now) before.now) coord.now && (has_place axes.now coord.now && is_agreed (map (λ c. c.now) behind.now) coord.now)) }
+fn is_kept(
+    alloc: Global,
+    axes: &[Axis],
+    before: &[&Coord],
+    coord: &Coord,
+    behind: &[&Coord],
+) -> Result<bool, AllocError>
+    ensures { IfOk result (λ kept. kept ≡ (is_new (map (λ c. c.now) before.now) coord.now && (has_place axes.now coord.now && is_agreed (map (λ c. c.now) behind.now) coord.now))) }
 {
-    is_new(before, coord) && has_place(axes, coord) && is_agreed(behind, coord)
+    if !is_new(before, coord) || !has_place(axes, coord) {
+        return Ok(false);
+    }
+    is_agreed(alloc, behind, coord)
 }
 
 fn push_kept(
@@ -100,7 +109,7 @@ fn push_kept(
 ) -> Result<(), AllocError>
     ensures { OnOk result (kept.new ≡ kept.old ++ kept_here axes.now (map (λ c. c.now) before.now) coord.now (map (λ c. c.now) behind.now)) }
 {
-    if is_kept(axes, before, coord, behind) {
+    if is_kept(alloc, axes, before, coord, behind)? {
         kept.push(copy_coord(alloc, coord)?)?;
     }
     Ok(())

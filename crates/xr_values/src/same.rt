@@ -1,11 +1,13 @@
 //! Whether two coordinates are equal.
-ghost use Rattle.std.specs.Prelude.{◌≡◌, ◌<◌, ◌&&◌, ⊤, map, length, nat_eq, option_map, get_or, None, MatchOption};
+ghost use Rattle.std.specs.Prelude.{◌≡◌, ◌<◌, ◌&&◌, ⊤, map, length, nat_eq, option_map, get_or, None, MatchOption, IfOk};
 ghost use Rattle.std.specs.Str.{bytes_eq};
 ghost use Rattle.std.specs.Cmp.Lexicographic.{pointwise};
 ghost use Rattle.xr_defs.specs.Arrays.{hidden, wide};
 ghost use Rattle.xr_defs.specs.Values.{axis_names};
 ghost use Rattle.xr_values.specs.Carrying.{same_cell, same_content, same_coord};
 
+use std::alloc::{AllocError, Global};
+use stored_cells::as_typed;
 use xr_defs::{ArrayValue, Cells, Content, Coord};
 use xr_types::{Axis, Elem, Items};
 
@@ -103,30 +105,35 @@ fn same_cells(a: &Cells, a_mask: Option<&Items<u8>>, b: &Cells, b_mask: Option<&
     }
 }
 
-fn same_arrays(a: &ArrayValue, b: &ArrayValue) -> bool
-    ensures { result ≡ (pointwise nat_eq a.now.shape b.now.shape && pointwise same_cell a.now.cells b.now.cells) }
+fn same_arrays(alloc: Global, a: &ArrayValue, b: &ArrayValue) -> Result<bool, AllocError>
+    ensures { IfOk result (λ same. same ≡ (pointwise nat_eq a.now.shape b.now.shape && pointwise same_cell a.now.cells b.now.cells)) }
 {
-    let (cells, mask) = a.parts();
-    let (others, hides) = b.parts();
-    a.shape() == b.shape() && same_cells(cells, mask, others, hides)
+    let one = as_typed(alloc, a)?;
+    let other = as_typed(alloc, b)?;
+    let (cells, mask) = one.parts();
+    let (others, hides) = other.parts();
+    Ok(a.shape() == b.shape() && same_cells(cells, mask, others, hides))
 }
 
 #[tactic(auto, unfolding(crate::specs::Carrying::same_content))]
-fn same_content(a: &Content, b: &Content) -> bool
-    ensures { result ≡ same_content a.now b.now }
+fn same_content(alloc: Global, a: &Content, b: &Content) -> Result<bool, AllocError>
+    ensures { IfOk result (λ same. same ≡ same_content a.now b.now) }
 {
     match (a, b) {
-        (Content::Cells(cells, _), Content::Cells(others, _)) => same_arrays(cells, others),
-        (Content::Text(text), Content::Text(other)) => text.is(other),
-        (Content::Time(_, time), Content::Time(_, other)) => time == other,
-        _ => false,
+        (Content::Cells(cells, _), Content::Cells(others, _)) => same_arrays(alloc, cells, others),
+        (Content::Text(text), Content::Text(other)) => Ok(text.is(other)),
+        (Content::Time(_, time), Content::Time(_, other)) => Ok(time == other),
+        _ => Ok(false),
     }
 }
 
 /// Whether two coordinates have the same dimensions and equal cells. Numbers are compared whatever their kind.
 #[tactic(auto, unfolding(crate::specs::Carrying::same_coord))]
-pub fn same_coord(a: &Coord, b: &Coord) -> bool
-    ensures { result ≡ same_coord a.now b.now }
+pub fn same_coord(alloc: Global, a: &Coord, b: &Coord) -> Result<bool, AllocError>
+    ensures { IfOk result (λ same. same ≡ same_coord a.now b.now) }
 {
-    same_dimensions(a.axes.as_slice(), b.axes.as_slice()) && same_content(&a.content, &b.content)
+    if !same_dimensions(a.axes.as_slice(), b.axes.as_slice()) {
+        return Ok(false);
+    }
+    same_content(alloc, &a.content, &b.content)
 }

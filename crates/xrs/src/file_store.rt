@@ -1,8 +1,9 @@
 //! Whole files of the system as a store.
 ghost use Rattle.std.specs.Prelude.{◌≡◌, ℕ, IfOk, List, None, false};
-ghost use Rattle.xr_run.specs.Outside.{IsWithin};
+ghost use Rattle.xr_outside.specs.Outside.{IsWithin};
 
 use crate::beside::Beside;
+use bytes::{Buf, BytesQueue};
 use std::alloc::Global;
 use std::fs::{File, OpenFile, OpenOptions};
 use std::io::{Error, ErrorKind, Read, Write};
@@ -54,28 +55,52 @@ fn read_within<F: OpenFile + Read + Drop>(alloc: Global, file: F, limit: u64) ->
     Ok(Got::Found(bytes))
 }
 
+// Writes all bytes, those that lie together at once. None is copied.
+fn write_all_of<W: Write, B: Buf>(writer: &mut W, mut bytes: B) -> io::Result<()>
+where
+    B: Drop,
+{
+    while bytes.has_remaining() {
+        let chunk = bytes.chunk();
+        let count = chunk.len();
+        writer.write_all(chunk)?;
+        bytes.advance(count);
+    }
+    Ok(())
+}
+
 // Writes the bytes into what is no regular file: a device, a pipe, or what a link leads to.
-fn write_through<R: Files>(rt: &R, name: &str, bytes: &[u8]) -> io::Result<()> {
+fn write_through<R: Files, B: Buf + Drop>(rt: &R, name: &str, bytes: B) -> io::Result<()> {
     let mut file = OpenOptions::new()
         .write(true)
         .truncate(true)
         .open(rt, name)?;
-    file.write_all(bytes)
+    write_all_of(&mut file, bytes)
 }
 
 // Writes the bytes to a new file, with the permissions of the old one, and to the disk.
-fn fill<R: Files>(rt: &R, name: &str, mut file: R::File, bytes: &[u8]) -> io::Result<()> {
+fn fill<R: Files, B: Buf + Drop>(
+    rt: &R,
+    name: &str,
+    mut file: R::File,
+    bytes: B,
+) -> io::Result<()> {
     if let Ok(old) = fs::metadata(rt, name) {
         file.set_permissions(old.permissions())?;
     }
-    file.write_all(bytes)?;
+    write_all_of(&mut file, bytes)?;
     file.sync_all()
 }
 
-// Makes a file of a new name beside the other, and gives it the other's name once its bytes are on the disk. Where
-// something fails, the new file is removed, and the old one is as it was.
-fn replace<R: Files>(rt: &R, name: &str, beside: &str, bytes: &[u8]) -> io::Result<()> {
-    let file = File::create_new(rt, beside)?;
+// Fills a new file beside the other, and gives it the other's name once its bytes are on the disk. Where something
+// fails, the new file is removed, and the old one is as it was.
+fn replace<R: Files, B: Buf + Drop>(
+    rt: &R,
+    name: &str,
+    beside: &str,
+    file: R::File,
+    bytes: B,
+) -> io::Result<()> {
     let moved = match fill(rt, name, file, bytes) {
         Ok(()) => fs::rename(rt, beside, name),
         Err(e) => Err(e),
@@ -87,7 +112,7 @@ fn replace<R: Files>(rt: &R, name: &str, beside: &str, bytes: &[u8]) -> io::Resu
 }
 
 // Tries new names beside the name until one is free.
-fn write_beside<R: Files>(rt: &R, name: &str, bytes: &[u8]) -> io::Result<()> {
+fn write_beside<R: Files, B: Buf + Drop>(rt: &R, name: &str, bytes: B) -> io::Result<()> {
     let Some(mut beside) = Beside::of(name) else {
         return Err(Error::from(ErrorKind::InvalidFilename));
     };
@@ -95,15 +120,16 @@ fn write_beside<R: Files>(rt: &R, name: &str, bytes: &[u8]) -> io::Result<()> {
         let Some(path) = beside.path(number) else {
             return Err(Error::from(ErrorKind::InvalidFilename));
         };
-        match replace(rt, name, path, bytes) {
+        match File::create_new(rt, path) {
+            Ok(file) => return replace(rt, name, path, file, bytes),
             Err(e) if e.kind() == ErrorKind::AlreadyExists => {}
-            done => return done,
+            Err(e) => return Err(e),
         }
     }
     Err(Error::from(ErrorKind::AlreadyExists))
 }
 
-fn write_file<R: Files>(rt: &R, name: &str, bytes: &[u8]) -> io::Result<()> {
+fn write_file<R: Files, B: Buf + Drop>(rt: &R, name: &str, bytes: B) -> io::Result<()> {
     if name.is_empty() {
         return Err(Error::from(ErrorKind::NotFound));
     }
@@ -155,6 +181,22 @@ impl<'a, R: Files> Store for FileStore<'a, R> {
             Err(_) => {
                 self.faults = faults.saturating_add(1);
                 Err(StoreFailed)
+            }
+        }
+    }
+
+    fn put_pieces(
+        &mut self,
+        _alloc: Global,
+        name: &TextBytes,
+        pieces: BytesQueue,
+    ) -> Result<(), StoreFault> {
+        let faults = self.faults;
+        match write_file(self.rt, name.as_str(), pieces) {
+            Ok(()) => Ok(()),
+            Err(_) => {
+                self.faults = faults.saturating_add(1);
+                Err(StoreFault::Failed)
             }
         }
     }

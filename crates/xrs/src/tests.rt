@@ -1,5 +1,6 @@
 use crate::file_store::FileStore;
 use crate::std_sink::StdSink;
+use bytes::{Bytes, BytesQueue};
 use std::test::Fail;
 use xr_run::{Got, Sink, Store, StoreFault};
 use xr_types::TextBytes;
@@ -29,6 +30,27 @@ fn a_file_is_put_and_got_and_nothing_stays_beside_it(rt: HostRuntime) -> Result<
     let beside = TextBytes::from_str(alloc, ".xrs-00000")?;
     let gone = store.get(alloc, &beside, 9);
     assert!(rt; matches!(gone, Ok(Got::Absent)));
+    Ok(())
+}
+
+#[test]
+fn pieces_are_put_in_a_row(rt: HostRuntime) -> Result<(), Fail> {
+    let alloc = rt.alloc();
+    let mut store = FileStore::new(&rt);
+    let name = TextBytes::from_str(alloc, "b.nc")?;
+    let mut pieces = BytesQueue::new(alloc);
+    pieces.push(Bytes::from_static(b"two "))?;
+    pieces.push(Bytes::from_static(b"pieces"))?;
+    assert!(rt; store.put_pieces(alloc, &name, pieces).is_ok());
+    let bytes = found(store.get(alloc, &name, 99)).ok_or("no bytes")?;
+    assert_eq!(rt; bytes.as_slice(), b"two pieces".as_slice());
+    assert!(rt;
+        store
+            .put_pieces(alloc, &name, BytesQueue::new(alloc))
+            .is_ok()
+    );
+    let none = found(store.get(alloc, &name, 99)).ok_or("no bytes")?;
+    assert!(rt; none.is_empty());
     Ok(())
 }
 

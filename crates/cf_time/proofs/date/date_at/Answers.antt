@@ -1,6 +1,6 @@
 -- The date is the calendar's date of the day.
 use Rattle.jiff_core.proofs.DateLemmas.{civil}
-use Rattle.cf_time.proofs.Linked.{Placed, placed}
+use Rattle.cf_time.proofs.Linked.{placed}
 use Rattle.cf_time.proofs.date.date_at.Goals as goal
 
 pub returns-clause-year : goal.returns-clause-year

@@ -1,18 +1,46 @@
 use Rattle.std.proofs.Common.{◌≡◌, true, false, sym, ◌∙◌}
 use Rattle.xr_defs.specs.Times.{has_year, has_month, has_day, two_at, year_in, clock_period}
-use Rattle.cf_time.proofs.Chosen.{some_if, none_if, chosen}
+use Rattle.cf_time.proofs.Chosen.{some_if, some_is, none_if, none_first, none_second, chosen, civil}
 use Rattle.cf_time.proofs.read.of_second.Goals as goal
+
+pub day-requires-clause-year : goal.day-requires-clause-year
+day-requires-clause-year c = some_is _ _ _ c.in-Some.ensures.value
+
+pub day-requires-clause-month : goal.day-requires-clause-month
+day-requires-clause-month c = some_is _ _ _ c.in-Some-month.ensures.value
+
+pub day-requires-clause-years : goal.day-requires-clause-years
+day-requires-clause-years c = c.in-Some.ensures.range.1
+
+pub at_clock-requires-clause-year : goal.at_clock-requires-clause-year
+at_clock-requires-clause-year c = some_is _ _ _ c.in-Some.ensures.value
+
+pub at_clock-requires-clause-month : goal.at_clock-requires-clause-month
+at_clock-requires-clause-month c = some_is _ _ _ c.in-Some-month.ensures.value
+
+pub at_clock-requires-clause-day : goal.at_clock-requires-clause-day
+at_clock-requires-clause-day c = some_is _ _ _ c.in-Some-day.ensures.value
+
+pub at_clock-requires-clause-civil : goal.at_clock-requires-clause-civil
+at_clock-requires-clause-civil c = civil _ _ _ c.in-Some.ensures.range c.in-Some-month.ensures.range c.in-Some-day.ensures.range
+
+pub returns-in_default : goal.returns-in_default
+returns-in_default c =
+    let t = c.args.text.now in
+    none_first (has_year t) _ (none_if (has_year t) (year_in t) (sym c.in_default.is ∙ c.year.ensures.value))
+
+pub returns-in_default-month : goal.returns-in_default-month
+returns-in_default-month c =
+    let t = c.args.text.now in
+    none_second (has_year t) (has_month t) _ (some_if _ _ _ c.in-Some.ensures.value) (none_if (has_month t) (two_at t 5) (sym c.in_default-month.is ∙ c.month.ensures.value))
 
 pub returns-in_default-day : goal.returns-in_default-day
 returns-in_default-day c =
-    let year : has_year c.args.text.now ≡ true = some_if (has_year c.args.text.now) (year_in c.args.text.now) c.in-Some.year (sym c.in-Some.is ∙ c.year.ensures.value) in
-    let month : has_month c.args.text.now ≡ true = some_if (has_month c.args.text.now) (two_at c.args.text.now 5) c.in-Some-month.month (sym c.in-Some-month.is ∙ c.month.ensures.value) in
-    let day : has_day c.args.text.now ≡ false = none_if (has_day c.args.text.now) (two_at c.args.text.now 8) (sym c.in_default-day.is ∙ c.day.ensures.value) in
-    sym (chosen (has_year c.args.text.now) (has_month c.args.text.now) (has_day c.args.text.now) false (clock_period c.args.text.now) year month day)
+    let t = c.args.text.now in
+    let day : has_day t ≡ false = none_if (has_day t) (two_at t 8) (sym c.in_default-day.is ∙ c.day.ensures.value) in
+    sym (chosen (has_year t) (has_month t) (has_day t) false _ (some_if _ _ _ c.in-Some.ensures.value) (some_if _ _ _ c.in-Some-month.ensures.value) day)
 
 pub returns : goal.returns
 returns c =
-    let year : has_year c.args.text.now ≡ true = some_if (has_year c.args.text.now) (year_in c.args.text.now) c.in-Some.year (sym c.in-Some.is ∙ c.year.ensures.value) in
-    let month : has_month c.args.text.now ≡ true = some_if (has_month c.args.text.now) (two_at c.args.text.now 5) c.in-Some-month.month (sym c.in-Some-month.is ∙ c.month.ensures.value) in
-    let day : has_day c.args.text.now ≡ true = some_if (has_day c.args.text.now) (two_at c.args.text.now 8) c.in-Some-day.day (sym c.in-Some-day.is ∙ c.day.ensures.value) in
-    c.at_clock.ensures ∙ sym (chosen (has_year c.args.text.now) (has_month c.args.text.now) (has_day c.args.text.now) true (clock_period c.args.text.now) year month day)
+    let t = c.args.text.now in
+    c.at_clock.ensures ∙ sym (chosen (has_year t) (has_month t) (has_day t) true (clock_period t) (some_if _ _ _ c.in-Some.ensures.value) (some_if _ _ _ c.in-Some-month.ensures.value) (some_if _ _ _ c.in-Some-day.ensures.value))

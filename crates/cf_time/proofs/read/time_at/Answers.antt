@@ -1,7 +1,7 @@
 use Rattle.std.proofs.Common.{arith, ◌≡◌, ◌+ℤ◌, pos}
 use Rattle.std.proofs.lemmas.Int.{ints}
 use Rattle.xr_defs.specs.Times.{day_number}
-use Rattle.cf_time.proofs.Linked.{at_date, seconds_at}
+use Rattle.cf_time.proofs.Linked.{at_date}
 use Rattle.cf_time.proofs.read.time_at.Goals as goal
 
 pub returns : goal.returns

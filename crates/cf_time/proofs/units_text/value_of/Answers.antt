@@ -1,6 +1,4 @@
-use Rattle.std.proofs.Common.{◌≡◌, ◌+◌, ◌*◌, ◌<◌, ◌≤◌, length, get_or, take, arith}
-use Rattle.std.specs.Char.{digit_value}
-use Rattle.std.specs.Str.Parse.{digits_value}
+use Rattle.std.proofs.Common.{◌≤◌, arith}
 use Rattle.std.proofs.lemmas.Int.Digits.{digits_value_more}
 use Rattle.cf_time.proofs.units_text.value_of.Goals as goal
 

@@ -1,29 +1,29 @@
-use Rattle.std.proofs.Common.{◌∙◌, ap, sym, subst, length}
+use Rattle.std.proofs.Common.{◌∙◌, ap, sym, subst}
 use Rattle.std.specs.List.{All}
 use Rattle.xr_defs.specs.Arrays.{IsCell}
 use Rattle.xr_defs.specs.Folds.{folded_kind}
 use Rattle.plan_core.specs.Strides.{spread}
 use Rattle.plan_core.proofs.Takes.{if_ok}
-use Rattle.plan_core.proofs.Boxes.{sorting_inside}
 use Rattle.plan_core.proofs.Folded.{fold_here}
 use Rattle.plan_core.proofs.fold.fold_cells.Goals as goal
 
-pub rearrange-requires-clause-inside : goal.rearrange-requires-clause-inside
-rearrange-requires-clause-inside c = sorting_inside c.args.feeds.now c.shape-2.result.now (c.requires.feeds ∙ ap length (sym c.shape-2.ensures))
-
 pub fold_rows-requires : goal.fold_rows-requires
 fold_rows-requires c =
-    (fold_here c.args.fold c.args.feeds.now c.args.a.now c.in_ok-sorted.sorted c.shape-2.result.now c.deref.result.now c.args.rows c.points-width.result c.deref-2.result.now c.requires.feeds c.requires.few c.shape-2.ensures c.requires.rows c.requires.some
-    (c.deref.ensures.value ∙ c.in_ok-folded_sizes.ensures ∙ ap (spread c.args.feeds.now) (c.shape.ensures ∙ sym c.shape-2.ensures)) c.points-width.ensures c.in_ok-sorted.ensures (c.deref-2.ensures.value ∙ c.in_ok-cells.ensures.cells) (subst (All (IsCell c.in_ok-sorted.sorted.kind)) (sym c.deref-2.ensures.value) c.in_ok-cells.ensures.range)).whole
+    let here = fold_here c.args.fold c.args.feeds.now c.args.a.now c.deref.result.now c.args.rows c.points-width.result c.deref-2.result.now c.requires.feeds c.requires.few c.requires.rows c.requires.some
+    (c.deref.ensures.value ∙ c.in_ok-folded_sizes.ensures ∙ ap (spread c.args.feeds.now) c.shape.ensures) c.points-width.ensures
+    (c.deref-2.ensures.value ∙ c.in_ok-cells.ensures.cells) (subst (All (IsCell c.args.a.now.kind)) (sym c.deref-2.ensures.value) c.in_ok-cells.ensures.range) in
+    here.whole
 
 pub returns-clause-cells : goal.returns-clause-cells
 returns-clause-cells c =
-    let here = (fold_here c.args.fold c.args.feeds.now c.args.a.now c.in_ok-sorted.sorted c.shape-2.result.now c.deref.result.now c.args.rows c.points-width.result c.deref-2.result.now c.requires.feeds c.requires.few c.shape-2.ensures c.requires.rows c.requires.some
-    (c.deref.ensures.value ∙ c.in_ok-folded_sizes.ensures ∙ ap (spread c.args.feeds.now) (c.shape.ensures ∙ sym c.shape-2.ensures)) c.points-width.ensures c.in_ok-sorted.ensures (c.deref-2.ensures.value ∙ c.in_ok-cells.ensures.cells) (subst (All (IsCell c.in_ok-sorted.sorted.kind)) (sym c.deref-2.ensures.value) c.in_ok-cells.ensures.range)) in
+    let here = fold_here c.args.fold c.args.feeds.now c.args.a.now c.deref.result.now c.args.rows c.points-width.result c.deref-2.result.now c.requires.feeds c.requires.few c.requires.rows c.requires.some
+    (c.deref.ensures.value ∙ c.in_ok-folded_sizes.ensures ∙ ap (spread c.args.feeds.now) c.shape.ensures) c.points-width.ensures
+    (c.deref-2.ensures.value ∙ c.in_ok-cells.ensures.cells) (subst (All (IsCell c.args.a.now.kind)) (sym c.deref-2.ensures.value) c.in_ok-cells.ensures.range) in
     if_ok c.fold_rows.result _ _ (λ v is. is ∙ here.is) (c.fold_rows.ensures c.args.a.now.kind)
 
 pub returns-clause-range : goal.returns-clause-range
 returns-clause-range c =
-    let here = (fold_here c.args.fold c.args.feeds.now c.args.a.now c.in_ok-sorted.sorted c.shape-2.result.now c.deref.result.now c.args.rows c.points-width.result c.deref-2.result.now c.requires.feeds c.requires.few c.shape-2.ensures c.requires.rows c.requires.some
-    (c.deref.ensures.value ∙ c.in_ok-folded_sizes.ensures ∙ ap (spread c.args.feeds.now) (c.shape.ensures ∙ sym c.shape-2.ensures)) c.points-width.ensures c.in_ok-sorted.ensures (c.deref-2.ensures.value ∙ c.in_ok-cells.ensures.cells) (subst (All (IsCell c.in_ok-sorted.sorted.kind)) (sym c.deref-2.ensures.value) c.in_ok-cells.ensures.range)) in
+    let here = fold_here c.args.fold c.args.feeds.now c.args.a.now c.deref.result.now c.args.rows c.points-width.result c.deref-2.result.now c.requires.feeds c.requires.few c.requires.rows c.requires.some
+    (c.deref.ensures.value ∙ c.in_ok-folded_sizes.ensures ∙ ap (spread c.args.feeds.now) c.shape.ensures) c.points-width.ensures
+    (c.deref-2.ensures.value ∙ c.in_ok-cells.ensures.cells) (subst (All (IsCell c.args.a.now.kind)) (sym c.deref-2.ensures.value) c.in_ok-cells.ensures.range) in
     if_ok c.fold_rows.result _ _ (λ v is. subst (All (IsCell (folded_kind c.args.fold c.args.a.now.kind))) (sym is) here.range) (c.fold_rows.ensures c.args.a.now.kind)

@@ -2,6 +2,18 @@ use Rattle.std.proofs.Common.{◌≡◌, ◌-◌, ◌*◌, ◌∙◌, ap, sym, a
 use Rattle.plan_core.proofs.Takes.{run_is, run_of, run_inside, parts_inside, appended}
 use Rattle.plan_core.proofs.take.push_block.Goals as goal
 
+pub overflow_mul-q : goal.overflow_mul-q
+overflow_mul-q g c =
+    let fits = run_inside c.in-Some.q c.args.n c.args.row c.args.from.now (run_of c.args.run c.in-Some.q c.args.from.now c.in-Some.is c.requires.run) c.requires.inside in
+    let small = c.requires.small in
+    omega (arith, fits, small)
+
+pub split_at-requires : goal.split_at-requires
+split_at-requires g c =
+    let fits = run_inside c.in-Some.q c.args.n c.args.row c.args.from.now (run_of c.args.run c.in-Some.q c.args.from.now c.in-Some.is c.requires.run) c.requires.inside in
+    let long = c.requires.cells in
+    omega (arith, fits, long)
+
 pub overflow_mul-from : goal.overflow_mul-from
 overflow_mul-from g c =
     let fits = run_inside c.in-Some.q c.args.n c.args.row c.args.from.now (run_of c.args.run c.in-Some.q c.args.from.now c.in-Some.is c.requires.run) c.requires.inside in

@@ -1,7 +1,16 @@
 use Rattle.std.proofs.Common.{◌*◌, ap, ◌∙◌, length, length-drop}
+use Rattle.std.proofs.lemmas.List.{length-take-le}
 use Rattle.plan_core.specs.Takes.{parts}
 use Rattle.plan_core.proofs.Takes.{block_left, blocks_more}
 use Rattle.plan_core.proofs.take.push_blocks.Goals as goal
+
+pub split_at-requires : goal.split_at-requires
+split_at-requires g c = (block_left c.args.outer c.loop.counter (c.args.n * c.args.row) (length c.loop.rest.now) c.loop-test.true c.loop.invariant.left).0
+
+pub push_block-requires-clause-cells : goal.push_block-requires-clause-cells
+push_block-requires-clause-cells g c =
+    let width = c.args.n * c.args.row in
+    ap length c.split_at.ensures.front ∙ length-take-le width c.loop.rest.now (block_left c.args.outer c.loop.counter width (length c.loop.rest.now) c.loop-test.true c.loop.invariant.left).0
 
 pub loop-preserved : goal.loop-preserved
 loop-preserved g c =

@@ -3,6 +3,9 @@ use Rattle.plan_core.specs.Widens.{repeated}
 use Rattle.plan_core.proofs.Takes.{block_left, blocks_more}
 use Rattle.plan_core.proofs.widen.push_rows.Goals as goal
 
+pub split_at-requires : goal.split_at-requires
+split_at-requires g c = (block_left c.args.outer c.loop.counter c.args.row (length c.loop.rest.now) c.loop-test.true c.loop.invariant.left).0
+
 pub loop-preserved : goal.loop-preserved
 loop-preserved g c =
     let fits = block_left c.args.outer c.loop.counter c.args.row (length c.loop.rest.now) c.loop-test.true c.loop.invariant.left in

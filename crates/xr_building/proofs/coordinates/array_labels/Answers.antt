@@ -9,8 +9,10 @@ use Rattle.xr_building.proofs.coordinates.array_labels.Goals as goal
 
 pub returns : goal.returns
 returns c = λ nodes is same.
+    let typed = c.in_ok-typed.typed in
+    let here = c.in_ok-typed.ensures ∙ same in
     let numbers = wide c.parts.result.0.now in
     let all = is.formed.cells.seen c.requires.seen in
-    let held = subst (λ (a : Array). All (λ x. is_some x ≡ true) a.cells) (sym same) all in
-    let found = seen_numbers _ numbers c.args.cells.now.cells (size c.args.cells.now.shape) c.parts.result.1 c.parts.ensures.cells c.parts.ensures.mask c.parts.ensures.whole held in
-    same_given _ _ _ _ (c.in_ok-cell_labels.ensures ∙ ap (Numbers c.args.array.now.kind) (sym found ∙ ap (λ (a : Array). present a.cells) same)) c.in_ok-deep_copy.ensures
+    let held = subst (λ (a : Array). All (λ x. is_some x ≡ true) a.cells) (sym here) all in
+    let found = seen_numbers _ numbers typed.cells (size typed.shape) c.parts.result.1 c.parts.ensures.cells c.parts.ensures.mask c.parts.ensures.whole held in
+    same_given _ _ _ _ (c.in_ok-cell_labels.ensures ∙ ap (Numbers c.args.array.now.kind) (sym found ∙ ap (λ (a : Array). present a.cells) here)) c.in_ok-deep_copy.ensures

@@ -1,7 +1,7 @@
 use Rattle.std.proofs.Common.{◌<◌, ◌∙◌, ap, map, pos, arith, subst, sym, List, ℕ}
 use Rattle.std.specs.Prelude.{All}
 use Rattle.std.proofs.lemmas.List.Elements.{All-from_get_or}
-use Rattle.xr_decode.proofs.MaskedCells.{truths_same}
+use Rattle.xr_decode.proofs.TruthCells.{truths_same}
 use Rattle.xr_decode.proofs.truths.truths_of.Goals as goal
 
 pub returns-clause-truths : goal.returns-clause-truths

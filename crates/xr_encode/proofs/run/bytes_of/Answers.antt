@@ -24,4 +24,4 @@ pub returns : goal.returns
 returns g c =
     let cells = g.R.Run.cells c.args.run in
     let le : length cells ≤ c.loop-i.i = omega (arith, c.len-i-end.ensures, c.loop-i-test.false) in
-    c.of.ensures ∙ bytes_end g.W.Written.kind (to_z w128 (of_z w128 c.args.fill)) cells c.loop-i.i c.loop-i.out.items (cells_bytes g.W.Written.kind (to_z w128 (of_z w128 c.args.fill)) cells) le c.loop-i.invariant.bytes ∙ ap (λ f. cells_bytes g.W.Written.kind f cells) (to_z-of_z w128 c.args.fill c.ranges.fill)
+    c.in_ok-from_vec.ensures.ok ∙ bytes_end g.W.Written.kind (to_z w128 (of_z w128 c.args.fill)) cells c.loop-i.i c.loop-i.out.items (cells_bytes g.W.Written.kind (to_z w128 (of_z w128 c.args.fill)) cells) le c.loop-i.invariant.bytes ∙ ap (λ f. cells_bytes g.W.Written.kind f cells) (to_z-of_z w128 c.args.fill c.ranges.fill)

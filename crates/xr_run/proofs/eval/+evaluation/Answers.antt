@@ -1,6 +1,9 @@
-use Rattle.std.proofs.Common.{Bool, List, All, ap, sym, refl, subst, ◌∙◌, Ok, Err}
+use mir.Syntax.{w128}
+use mir.Val.{SFits}
+use Rattle.std.proofs.Common.{Bool, List, All, ap, sym, refl, subst, ◌∙◌, Err, rules}
 use Rattle.std.specs.Prelude.{IsTrue, Vec}
 use Rattle.std.specs.declared.alloc.Global.{Global}
+use Rattle.std.proofs.lemmas.Int.{to_z-of_z}
 use Rattle.std.proofs.lemmas.List.Elements.{All-nil}
 use Rattle.xr_types.specs.declared.text.TextBytes.{TextBytes}
 use Rattle.xr_defs.specs.declared.node.Node.{Node}
@@ -17,10 +20,11 @@ use Rattle.xr_run.specs.Named.{names_of}
 use Rattle.xr_run.specs.Answers.{GivesOrFails}
 use Rattle.xr_run.specs.Arguments.{and_argument, given_rest, values_rest, entries_rest}
 use Rattle.xr_run.proofs.Lists.{given_is, values_are, entries_are}
-use Rattle.xr_run.proofs.Layers.{binary_tree, call_tree, method_tree, items_tree, table_tree}
+use Rattle.xr_run.proofs.Layers.{name_tree, number_tree, text_tree, constant_tree, unary_tree, index_tree, binary_tree, call_tree, method_tree, items_tree, table_tree}
 use Rattle.xr_run.proofs.ValuesKept.{values_kept, entries_kept, stay_entries}
 use Rattle.xr_run.proofs.NamesKept.{names_kept, stay_names}
-use Rattle.xr_run.proofs.Forms.{no_fault, binary_fails, binary_wrong, call_from, call_fails, method_from, method_fails, items_from, items_fail, table_from, table_fails}
+use Rattle.xr_run.proofs.Forms.{name_from, number_from, text_from, constant_from, unary_fails, unary_wrong, index_from, index_fails, receiver_fails}
+use Rattle.xr_run.proofs.Forms.{no_fault, operand_fails, binary_fails, binary_wrong, call_from, call_fails, method_from, method_fails, items_from, items_fail, table_from, table_fails}
 use Rattle.xr_run.proofs.Forms.{given_more, given_stops, given_ends, values_more, values_stop, values_end, entries_more, entries_stop, entries_end}
 use Rattle.xr_run.proofs.eval.+evaluation.Goals as goal
 
@@ -30,20 +34,80 @@ values_in nodes v = values_meant nodes v.items
 abbrev entries_in : List Node → Vec (TextBytes × Value) Global → Entries
 entries_in nodes v = entries_meant nodes v.items
 
+pub eval-returns-in-Name-clause-value : goal.eval-returns-in-Name-clause-value
+eval-returns-in-Name-clause-value g t c = λ s.
+    let start = c.args.cx.now.plan in
+    name_from (meaning start) (names_of c.args.cx.now.plan c.args.names.now) (g.S.Store.held c.args.store.now) (tree_of c.args.expr.now) c.in-Name.name c.value_named.result (name_tree _ _ c.in-Name.is) (c.value_named.ensures.value start)
+
+pub eval-returns-in-Number-clause-value : goal.eval-returns-in-Number-clause-value
+eval-returns-in-Number-clause-value g t c = λ s.
+    let start = c.args.cx.now.plan in
+    let fits : SFits w128 c.in-Number.n = search rules in
+    let means = simp to_z-of_z at (c.number_value.ensures.value start) in
+    number_from (names_of c.args.cx.now.plan c.args.names.now) (g.S.Store.held c.args.store.now) (tree_of c.args.expr.now) c.in-Number.n (meaning start c.number_value.result) (number_tree _ _ c.in-Number.is) means
+
+pub eval-returns-in-Text-clause-value : goal.eval-returns-in-Text-clause-value
+eval-returns-in-Text-clause-value g t c = λ s.
+    let start = c.args.cx.now.plan in
+    text_from (names_of c.args.cx.now.plan c.args.names.now) (g.S.Store.held c.args.store.now) (tree_of c.args.expr.now) c.in-Text.text c.in_ok-deep_copy-in-Text.field-0 (meaning start c.text_value.result) (text_tree _ _ c.in-Text.is) c.in_ok-deep_copy-in-Text.ensures (c.text_value.ensures.value start)
+
+pub eval-returns-in-Constant-clause-value : goal.eval-returns-in-Constant-clause-value
+eval-returns-in-Constant-clause-value g t c = λ s.
+    let start = c.args.cx.now.plan in
+    constant_from (names_of c.args.cx.now.plan c.args.names.now) (g.S.Store.held c.args.store.now) (tree_of c.args.expr.now) c.in-Constant.c (meaning start c.constant_value.result) (constant_tree _ _ c.in-Constant.is) (c.constant_value.ensures.value start)
+
+pub eval-returns-in-Ok-clause-value : goal.eval-returns-in-Ok-clause-value
+eval-returns-in-Ok-clause-value g t c = λ s.
+    let value = ap (λ x. value_of (names_of c.args.cx.now.plan c.args.names.now) (g.S.Store.held c.args.store.now) (tree_of x)) (sym c.deref.ensures) ∙ c.in-Ok.ensures.value s in
+    rw c.refuse.ensures (unary_wrong (names_of c.args.cx.now.plan c.args.names.now) (g.S.Store.held c.args.store.now) (tree_of c.args.expr.now) _ _ _ (unary_tree _ _ _ c.in-Unary.is) value)
+
+pub eval-returns-in-Unary-clause-value : goal.eval-returns-in-Unary-clause-value
+eval-returns-in-Unary-clause-value g t c = λ s.
+    let failed = c.in-Err.stopped in
+    let later = c.eval.new.cx.plan in
+    let h = subst (λ x. GivesOrFails (meaning later) (Err failed) (value_of (names_of c.args.cx.now.plan c.args.names.now) (g.S.Store.held c.args.store.now) (tree_of x))) c.deref.ensures (c.in-Err.ensures.value s) in
+    unary_fails (meaning later) (meaning later) (names_of c.args.cx.now.plan c.args.names.now) (g.S.Store.held c.args.store.now) (tree_of c.args.expr.now) _ _ failed (unary_tree _ _ _ c.in-Unary.is) h
+
+pub eval-returns-in-Binary-clause-value : goal.eval-returns-in-Binary-clause-value
+eval-returns-in-Binary-clause-value g t c = λ s.
+    let failed = c.in-Err-eval.stopped in
+    let later = c.eval-in-Binary.new.cx.plan in
+    let h = subst (λ x. GivesOrFails (meaning later) (Err failed) (value_of (names_of c.args.cx.now.plan c.args.names.now) (g.S.Store.held c.args.store.now) (tree_of x))) c.deref-in-Binary.ensures (c.in-Err-eval.ensures.value s) in
+    operand_fails (meaning later) (meaning later) (names_of c.args.cx.now.plan c.args.names.now) (g.S.Store.held c.args.store.now) (tree_of c.args.expr.now) _ _ _ failed (binary_tree _ _ _ _ c.in-Binary.is) h
+
+pub eval-returns-in-Method-clause-value : goal.eval-returns-in-Method-clause-value
+eval-returns-in-Method-clause-value g t c = λ s.
+    let failed = c.in-Err-eval-3.stopped in
+    let later = c.eval-in-Method.new.cx.plan in
+    let h = subst (λ x. GivesOrFails (meaning later) (Err failed) (value_of (names_of c.args.cx.now.plan c.args.names.now) (g.S.Store.held c.args.store.now) (tree_of x))) c.deref-in-Method.ensures (c.in-Err-eval-3.ensures.value s) in
+    receiver_fails (meaning later) (meaning later) (names_of c.args.cx.now.plan c.args.names.now) (g.S.Store.held c.args.store.now) (tree_of c.args.expr.now) _ c.in-Method.name _ failed (method_tree _ _ _ _ c.in-Method.is) h
+
+pub eval-returns-in-Ok-eval-4-clause-value : goal.eval-returns-in-Ok-eval-4-clause-value
+eval-returns-in-Ok-eval-4-clause-value g t c = λ s.
+    let value = ap (λ x. value_of (names_of c.args.cx.now.plan c.args.names.now) (g.S.Store.held c.args.store.now) (tree_of x)) (sym c.deref-in-Index.ensures) ∙ c.in-Ok-eval-4.ensures.value s in
+    index_from (meaning c.picked_value.new.plan) (names_of c.args.cx.now.plan c.args.names.now) (g.S.Store.held c.args.store.now) (tree_of c.args.expr.now) _ c.in-Index.name _ c.picked_value.result (index_tree _ _ _ c.in-Index.is) value c.picked_value.ensures.value
+
+pub eval-returns-in-Index-clause-value : goal.eval-returns-in-Index-clause-value
+eval-returns-in-Index-clause-value g t c = λ s.
+    let failed = c.in-Err-eval-4.stopped in
+    let later = c.eval-in-Index.new.cx.plan in
+    let h = subst (λ x. GivesOrFails (meaning later) (Err failed) (value_of (names_of c.args.cx.now.plan c.args.names.now) (g.S.Store.held c.args.store.now) (tree_of x))) c.deref-in-Index.ensures (c.in-Err-eval-4.ensures.value s) in
+    index_fails (meaning later) (meaning later) (names_of c.args.cx.now.plan c.args.names.now) (g.S.Store.held c.args.store.now) (tree_of c.args.expr.now) _ c.in-Index.name failed (index_tree _ _ _ c.in-Index.is) h
+
 pub eval-returns-in-Ok-eval_arguments-clause-value : goal.eval-returns-in-Ok-eval_arguments-clause-value
 eval-returns-in-Ok-eval_arguments-clause-value g t c = λ s.
     let e = c.in-Ok-eval_arguments.ensures in
     let told = subst (λ (b : Bool). IsTrue b) (sym e.tells) s in
     let start = c.args.cx.now.plan in
     let has = ap (λ xs. given_of (names_of start c.args.names.now) (g.S.Store.held c.args.store.now) (all_arguments xs)) (sym c.as_slice.ensures.value) ∙ e.value s in
-    call_from (meaning c.call_function.new.cx.plan) _ _ _ (tree_of c.args.expr.now) c.in-Call.name (all_arguments c.in-Call.arguments.items) (given c.eval_arguments.new.cx.plan c.in-Ok-eval_arguments.args) c.call_function.result (call_tree _ _ _ c.in-Call.is) has (e.keeps s) (c.call_function.ensures.value told)
+    call_from (meaning c.call_function.new.cx.plan) (names_of c.args.cx.now.plan c.args.names.now) (g.S.Store.held c.args.store.now) (g.S.Store.held c.eval_arguments.new.store) (tree_of c.args.expr.now) c.in-Call.name (all_arguments c.in-Call.arguments.items) (given c.eval_arguments.new.cx.plan c.in-Ok-eval_arguments.args) c.call_function.result (call_tree _ _ _ c.in-Call.is) has (e.keeps s) (c.call_function.ensures.value told)
 
 pub eval-returns-in-Call-clause-value : goal.eval-returns-in-Call-clause-value
 eval-returns-in-Call-clause-value g t c = λ s.
     let failed = c.in-Err-eval_arguments.stopped in
     let seen = given c.eval_arguments.new.cx.plan in
     let h = subst (λ xs. GivesOrFails seen (Err failed) (given_of (names_of c.args.cx.now.plan c.args.names.now) (g.S.Store.held c.args.store.now) (all_arguments xs))) c.as_slice.ensures.value (c.in-Err-eval_arguments.ensures.value s) in
-    call_fails (meaning c.eval_arguments.new.cx.plan) seen _ _ (tree_of c.args.expr.now) c.in-Call.name (all_arguments c.in-Call.arguments.items) failed (call_tree _ _ _ c.in-Call.is) h
+    call_fails (meaning c.eval_arguments.new.cx.plan) seen (names_of c.args.cx.now.plan c.args.names.now) (g.S.Store.held c.args.store.now) (tree_of c.args.expr.now) c.in-Call.name (all_arguments c.in-Call.arguments.items) failed (call_tree _ _ _ c.in-Call.is) h
 
 pub eval-returns-in-Ok-eval_arguments-2-clause-value : goal.eval-returns-in-Ok-eval_arguments-2-clause-value
 eval-returns-in-Ok-eval_arguments-2-clause-value g t c = λ s.
@@ -57,7 +121,7 @@ eval-returns-in-Ok-eval_arguments-2-clause-value g t c = λ s.
     let has = ap (λ xs. given_of (names_of mid c.args.names.now) (g.S.Store.held c.eval-in-Method.new.store) (all_arguments xs)) (sym c.as_slice-in-Ok-eval-3.ensures.value) ∙ second.value told in
     let same_names = names_kept start mid c.args.names.now first.grows c.requires.inside in
     let kept = meaning_kept mid later c.in-Ok-eval-3.value second.grows first.inside in
-    method_from (meaning c.method_value.new.cx.plan) _ _ _ _ (tree_of c.args.expr.now) (tree_of c.in-Method.receiver.value) c.in-Method.name (all_arguments c.in-Method.arguments.items) _ _ (given later c.in-Ok-eval_arguments-2.args) c.method_value.result
+    method_from (meaning c.method_value.new.cx.plan) (names_of start c.args.names.now) (names_of mid c.args.names.now) (g.S.Store.held c.args.store.now) (g.S.Store.held c.eval-in-Method.new.store) (tree_of c.args.expr.now) (tree_of c.in-Method.receiver.value) c.in-Method.name (all_arguments c.in-Method.arguments.items) (meaning mid c.in-Ok-eval-3.value) (meaning later c.in-Ok-eval-3.value) (given later c.in-Ok-eval_arguments-2.args) c.method_value.result
     (method_tree _ _ _ _ c.in-Method.is) value same_names (first.keeps s) has kept c.method_value.ensures.value
 
 pub eval-returns-in-Ok-eval-3-clause-value : goal.eval-returns-in-Ok-eval-3-clause-value
@@ -70,34 +134,34 @@ eval-returns-in-Ok-eval-3-clause-value g t c = λ s.
     let value = ap (λ x. value_of (names_of start c.args.names.now) (g.S.Store.held c.args.store.now) (tree_of x)) (sym c.deref-in-Method.ensures) ∙ first.value s in
     let failed = c.in-Err-eval_arguments-2.stopped in
     let h = subst (λ xs. GivesOrFails (given later) (Err failed) (given_of (names_of mid c.args.names.now) (g.S.Store.held c.eval-in-Method.new.store) (all_arguments xs))) c.as_slice-in-Ok-eval-3.ensures.value (c.in-Err-eval_arguments-2.ensures.value told) in
-    method_fails (meaning later) (given later) _ _ _ _ (tree_of c.args.expr.now) (tree_of c.in-Method.receiver.value) c.in-Method.name (all_arguments c.in-Method.arguments.items) _ failed
+    method_fails (meaning later) (given later) (names_of start c.args.names.now) (names_of mid c.args.names.now) (g.S.Store.held c.args.store.now) (g.S.Store.held c.eval-in-Method.new.store) (tree_of c.args.expr.now) (tree_of c.in-Method.receiver.value) c.in-Method.name (all_arguments c.in-Method.arguments.items) (meaning mid c.in-Ok-eval-3.value) failed
     (method_tree _ _ _ _ c.in-Method.is) value (names_kept start mid c.args.names.now first.grows c.requires.inside) (first.keeps s) h
 
 pub eval-returns-in-Ok-eval_items-clause-value : goal.eval-returns-in-Ok-eval_items-clause-value
 eval-returns-in-Ok-eval_items-clause-value g t c = λ s.
     let later = c.eval_items.new.cx.plan in
     let has = ap (λ xs. values_of (names_of c.args.cx.now.plan c.args.names.now) (g.S.Store.held c.args.store.now) (all_trees xs)) (sym c.as_slice-in-List.ensures.value) ∙ c.in-Ok-eval_items.ensures.value s in
-    items_from _ _ (tree_of c.args.expr.now) (all_trees c.in-List.items.items) (values_meant later c.in-Ok-eval_items.values.items) _ (items_tree _ _ c.in-List.is) has (c.list_value.ensures.value later)
+    items_from (names_of c.args.cx.now.plan c.args.names.now) (g.S.Store.held c.args.store.now) (tree_of c.args.expr.now) (all_trees c.in-List.items.items) (values_meant later c.in-Ok-eval_items.values.items) (meaning later c.list_value.result) (items_tree _ _ c.in-List.is) has (c.list_value.ensures.value later)
 
 pub eval-returns-in-List-clause-value : goal.eval-returns-in-List-clause-value
 eval-returns-in-List-clause-value g t c = λ s.
     let failed = c.in-Err-eval_items.stopped in
     let seen = values_in c.eval_items.new.cx.plan in
     let h = subst (λ xs. GivesOrFails seen (Err failed) (values_of (names_of c.args.cx.now.plan c.args.names.now) (g.S.Store.held c.args.store.now) (all_trees xs))) c.as_slice-in-List.ensures.value (c.in-Err-eval_items.ensures.value s) in
-    items_fail (meaning c.eval_items.new.cx.plan) seen _ _ (tree_of c.args.expr.now) (all_trees c.in-List.items.items) failed (items_tree _ _ c.in-List.is) h
+    items_fail (meaning c.eval_items.new.cx.plan) seen (names_of c.args.cx.now.plan c.args.names.now) (g.S.Store.held c.args.store.now) (tree_of c.args.expr.now) (all_trees c.in-List.items.items) failed (items_tree _ _ c.in-List.is) h
 
 pub eval-returns-in-Ok-eval_entries-clause-value : goal.eval-returns-in-Ok-eval_entries-clause-value
 eval-returns-in-Ok-eval_entries-clause-value g t c = λ s.
     let later = c.eval_entries.new.cx.plan in
     let has = ap (λ xs. entries_of (names_of c.args.cx.now.plan c.args.names.now) (g.S.Store.held c.args.store.now) (all_entries xs)) (sym c.as_slice-in-Table.ensures.value) ∙ c.in-Ok-eval_entries.ensures.value s in
-    table_from _ _ (tree_of c.args.expr.now) (all_entries c.in-Table.entries.items) (entries_meant later c.in-Ok-eval_entries.values.items) _ (table_tree _ _ c.in-Table.is) has (c.table_value.ensures.value later)
+    table_from (names_of c.args.cx.now.plan c.args.names.now) (g.S.Store.held c.args.store.now) (tree_of c.args.expr.now) (all_entries c.in-Table.entries.items) (entries_meant later c.in-Ok-eval_entries.values.items) (meaning later c.table_value.result) (table_tree _ _ c.in-Table.is) has (c.table_value.ensures.value later)
 
 pub eval-returns-clause-value : goal.eval-returns-clause-value
 eval-returns-clause-value g t c = λ s.
     let failed = c.in-Err-eval_entries.stopped in
     let seen = entries_in c.eval_entries.new.cx.plan in
     let h = subst (λ xs. GivesOrFails seen (Err failed) (entries_of (names_of c.args.cx.now.plan c.args.names.now) (g.S.Store.held c.args.store.now) (all_entries xs))) c.as_slice-in-Table.ensures.value (c.in-Err-eval_entries.ensures.value s) in
-    table_fails (meaning c.eval_entries.new.cx.plan) seen _ _ (tree_of c.args.expr.now) (all_entries c.in-Table.entries.items) failed (table_tree _ _ c.in-Table.is) h
+    table_fails (meaning c.eval_entries.new.cx.plan) seen (names_of c.args.cx.now.plan c.args.names.now) (g.S.Store.held c.args.store.now) (tree_of c.args.expr.now) (all_entries c.in-Table.entries.items) failed (table_tree _ _ c.in-Table.is) h
 
 pub eval_arguments-loop-argument-init : goal.eval_arguments-loop-argument-init
 eval_arguments-loop-argument-init g t c =
@@ -124,7 +188,7 @@ eval_arguments-loop-argument-preserved g t c =
     record {
       value = λ s.
           let told = subst (λ (b : Bool). IsTrue b) (sym before.tells) s in
-          given_more _ _ _ _ (given mid c.loop-argument.args) _ c.args.arguments.now c.loop-argument.argument-index c.argument-item.result (meaning later c.in-Ok.value) _ c.loop-argument-test.true c.argument-item.is (names_kept start mid c.args.names.now before.grows c.requires.inside) (before.keeps s) (e.value told) (added.value later ∙ ap (λ y. and_argument y c.argument-item.result.0 (meaning later c.in-Ok.value)) kept) (before.value s);
+          given_more (names_of start c.args.names.now) (names_of mid c.args.names.now) (g.S.Store.held c.args.store.now) (g.S.Store.held c.loop-argument.store) (given mid c.loop-argument.args) _ c.args.arguments.now c.loop-argument.argument-index c.argument-item.result (meaning later c.in-Ok.value) (given_of (names_of start c.args.names.now) (g.S.Store.held c.args.store.now) (all_arguments c.args.arguments.now)) c.loop-argument-test.true c.argument-item.is (names_kept start mid c.args.names.now before.grows c.requires.inside) (before.keeps s) (e.value told) (added.value later ∙ ap (λ y. and_argument y c.argument-item.result.0 (meaning later c.in-Ok.value)) kept) (before.value s);
       keeps = λ s. e.keeps (subst (λ (b : Bool). IsTrue b) (sym before.tells) s) ∙ before.keeps s;
       tells = e.tells ∙ before.tells;
       faults = e.tallied ∙ before.faults;
@@ -139,11 +203,11 @@ eval_arguments-returns-in-Err-clause-value g t c = λ s.
     let start = c.args.cx.now.plan in
     let mid = c.loop-argument.cx.plan in
     let later = c.eval.new.cx.plan in
-    given_stops (meaning later) (given later) _ _ _ _ (given mid c.loop-argument.args) c.args.arguments.now c.loop-argument.argument-index c.argument-item.result c.in-Err.stopped _ c.loop-argument-test.true c.argument-item.is (names_kept start mid c.args.names.now before.grows c.requires.inside) (before.keeps s) (c.in-Err.ensures.value told) (before.value s)
+    given_stops (meaning later) (given later) (names_of start c.args.names.now) (names_of mid c.args.names.now) (g.S.Store.held c.args.store.now) (g.S.Store.held c.loop-argument.store) (given mid c.loop-argument.args) c.args.arguments.now c.loop-argument.argument-index c.argument-item.result c.in-Err.stopped (given_of (names_of start c.args.names.now) (g.S.Store.held c.args.store.now) (all_arguments c.args.arguments.now)) c.loop-argument-test.true c.argument-item.is (names_kept start mid c.args.names.now before.grows c.requires.inside) (before.keeps s) (c.in-Err.ensures.value told) (before.value s)
 
 pub eval_arguments-returns-clause-value : goal.eval_arguments-returns-clause-value
 eval_arguments-returns-clause-value g t c = λ s.
-    given_ends _ _ (given c.loop-argument.cx.plan c.loop-argument.args) c.args.arguments.now c.loop-argument.argument-index _ c.loop-argument-test.false (c.loop-argument.invariant.value s)
+    given_ends (names_of c.args.cx.now.plan c.args.names.now) (g.S.Store.held c.args.store.now) (given c.loop-argument.cx.plan c.loop-argument.args) c.args.arguments.now c.loop-argument.argument-index (given_of (names_of c.args.cx.now.plan c.args.names.now) (g.S.Store.held c.args.store.now) (all_arguments c.args.arguments.now)) c.loop-argument-test.false (c.loop-argument.invariant.value s)
 
 pub eval_items-loop-item-init : goal.eval_items-loop-item-init
 eval_items-loop-item-init g t c =
@@ -171,7 +235,7 @@ eval_items-loop-item-preserved g t c =
     record {
       value = λ s.
           let told = subst (λ (b : Bool). IsTrue b) (sym before.tells) s in
-          values_more _ _ _ _ (values_meant mid c.loop-item.values.items) _ c.args.items.now c.loop-item.item-index c.item-item.result (meaning later c.in-Ok.value) _ c.loop-item-test.true c.item-item.is (names_kept start mid c.args.names.now before.grows c.requires.inside) (before.keeps s) (e.value told) (added.value later ∙ ap (λ y. With y (meaning later c.in-Ok.value)) kept) (before.value s);
+          values_more (names_of start c.args.names.now) (names_of mid c.args.names.now) (g.S.Store.held c.args.store.now) (g.S.Store.held c.loop-item.store) (values_meant mid c.loop-item.values.items) _ c.args.items.now c.loop-item.item-index c.item-item.result (meaning later c.in-Ok.value) (values_of (names_of start c.args.names.now) (g.S.Store.held c.args.store.now) (all_trees c.args.items.now)) c.loop-item-test.true c.item-item.is (names_kept start mid c.args.names.now before.grows c.requires.inside) (before.keeps s) (e.value told) (added.value later ∙ ap (λ y. With y (meaning later c.in-Ok.value)) kept) (before.value s);
       keeps = λ s. e.keeps (subst (λ (b : Bool). IsTrue b) (sym before.tells) s) ∙ before.keeps s;
       tells = e.tells ∙ before.tells;
       faults = e.tallied ∙ before.faults;
@@ -186,11 +250,11 @@ eval_items-returns-in-Err-clause-value g t c = λ s.
     let start = c.args.cx.now.plan in
     let mid = c.loop-item.cx.plan in
     let later = c.eval.new.cx.plan in
-    values_stop (meaning later) (values_in later) _ _ _ _ (values_meant mid c.loop-item.values.items) c.args.items.now c.loop-item.item-index c.item-item.result c.in-Err.stopped _ c.loop-item-test.true c.item-item.is (names_kept start mid c.args.names.now before.grows c.requires.inside) (before.keeps s) (c.in-Err.ensures.value told) (before.value s)
+    values_stop (meaning later) (values_in later) (names_of start c.args.names.now) (names_of mid c.args.names.now) (g.S.Store.held c.args.store.now) (g.S.Store.held c.loop-item.store) (values_meant mid c.loop-item.values.items) c.args.items.now c.loop-item.item-index c.item-item.result c.in-Err.stopped (values_of (names_of start c.args.names.now) (g.S.Store.held c.args.store.now) (all_trees c.args.items.now)) c.loop-item-test.true c.item-item.is (names_kept start mid c.args.names.now before.grows c.requires.inside) (before.keeps s) (c.in-Err.ensures.value told) (before.value s)
 
 pub eval_items-returns-clause-value : goal.eval_items-returns-clause-value
 eval_items-returns-clause-value g t c = λ s.
-    values_end _ _ (values_meant c.loop-item.cx.plan c.loop-item.values.items) c.args.items.now c.loop-item.item-index _ c.loop-item-test.false (c.loop-item.invariant.value s)
+    values_end (names_of c.args.cx.now.plan c.args.names.now) (g.S.Store.held c.args.store.now) (values_meant c.loop-item.cx.plan c.loop-item.values.items) c.args.items.now c.loop-item.item-index (values_of (names_of c.args.cx.now.plan c.args.names.now) (g.S.Store.held c.args.store.now) (all_trees c.args.items.now)) c.loop-item-test.false (c.loop-item.invariant.value s)
 
 pub eval_entries-loop-entry-init : goal.eval_entries-loop-entry-init
 eval_entries-loop-entry-init g t c =
@@ -218,7 +282,7 @@ eval_entries-loop-entry-preserved g t c =
     record {
       value = λ s.
           let told = subst (λ (b : Bool). IsTrue b) (sym before.tells) s in
-          entries_more _ _ _ _ (entries_meant mid c.loop-entry.values.items) _ c.args.entries.now c.loop-entry.entry-index c.entry-item.result (meaning later c.in-Ok.value) _ c.loop-entry-test.true c.entry-item.is (names_kept start mid c.args.names.now before.grows c.requires.inside) (before.keeps s) (e.value told) (added.value later ∙ ap (λ y. Entry y c.entry-item.result.0 (meaning later c.in-Ok.value)) kept) (before.value s);
+          entries_more (names_of start c.args.names.now) (names_of mid c.args.names.now) (g.S.Store.held c.args.store.now) (g.S.Store.held c.loop-entry.store) (entries_meant mid c.loop-entry.values.items) _ c.args.entries.now c.loop-entry.entry-index c.entry-item.result (meaning later c.in-Ok.value) (entries_of (names_of start c.args.names.now) (g.S.Store.held c.args.store.now) (all_entries c.args.entries.now)) c.loop-entry-test.true c.entry-item.is (names_kept start mid c.args.names.now before.grows c.requires.inside) (before.keeps s) (e.value told) (added.value later ∙ ap (λ y. Entry y c.entry-item.result.0 (meaning later c.in-Ok.value)) kept) (before.value s);
       keeps = λ s. e.keeps (subst (λ (b : Bool). IsTrue b) (sym before.tells) s) ∙ before.keeps s;
       tells = e.tells ∙ before.tells;
       faults = e.tallied ∙ before.faults;
@@ -233,11 +297,11 @@ eval_entries-returns-in-Err-clause-value g t c = λ s.
     let start = c.args.cx.now.plan in
     let mid = c.loop-entry.cx.plan in
     let later = c.eval.new.cx.plan in
-    entries_stop (meaning later) (entries_in later) _ _ _ _ (entries_meant mid c.loop-entry.values.items) c.args.entries.now c.loop-entry.entry-index c.entry-item.result c.in-Err.stopped _ c.loop-entry-test.true c.entry-item.is (names_kept start mid c.args.names.now before.grows c.requires.inside) (before.keeps s) (c.in-Err.ensures.value told) (before.value s)
+    entries_stop (meaning later) (entries_in later) (names_of start c.args.names.now) (names_of mid c.args.names.now) (g.S.Store.held c.args.store.now) (g.S.Store.held c.loop-entry.store) (entries_meant mid c.loop-entry.values.items) c.args.entries.now c.loop-entry.entry-index c.entry-item.result c.in-Err.stopped (entries_of (names_of start c.args.names.now) (g.S.Store.held c.args.store.now) (all_entries c.args.entries.now)) c.loop-entry-test.true c.entry-item.is (names_kept start mid c.args.names.now before.grows c.requires.inside) (before.keeps s) (c.in-Err.ensures.value told) (before.value s)
 
 pub eval_entries-returns-clause-value : goal.eval_entries-returns-clause-value
 eval_entries-returns-clause-value g t c = λ s.
-    entries_end _ _ (entries_meant c.loop-entry.cx.plan c.loop-entry.values.items) c.args.entries.now c.loop-entry.entry-index _ c.loop-entry-test.false (c.loop-entry.invariant.value s)
+    entries_end (names_of c.args.cx.now.plan c.args.names.now) (g.S.Store.held c.args.store.now) (entries_meant c.loop-entry.cx.plan c.loop-entry.values.items) c.args.entries.now c.loop-entry.entry-index (entries_of (names_of c.args.cx.now.plan c.args.names.now) (g.S.Store.held c.args.store.now) (all_entries c.args.entries.now)) c.loop-entry-test.false (c.loop-entry.invariant.value s)
 
 pub eval-returns-in-Name-clause-tallied : goal.eval-returns-in-Name-clause-tallied
 eval-returns-in-Name-clause-tallied g t c = no_fault (meaning c.args.cx.now.plan) c.value_named.result _ _ (c.value_named.ensures.value c.args.cx.now.plan)
@@ -254,7 +318,7 @@ eval-returns-in-Ok-eval-2-clause-value g t c = λ s.
     let value = ap (λ x. value_of (names_of start c.args.names.now) (g.S.Store.held c.args.store.now) (tree_of x)) (sym c.deref-in-Binary.ensures) ∙ first.value s in
     let mid = c.eval-in-Binary.new.cx.plan in
     let other = ap (λ x. value_of (names_of mid c.args.names.now) (g.S.Store.held c.eval-in-Binary.new.store) (tree_of x)) (sym c.deref-in-Ok-eval.ensures) ∙ second.value told in
-    rw c.refuse-in-Ok-eval-2.ensures (binary_wrong _ _ _ _ (tree_of c.args.expr.now) _ _ _ _ _ (binary_tree _ _ _ _ c.in-Binary.is) value (names_kept start mid c.args.names.now first.grows c.requires.inside) (first.keeps s) other)
+    rw c.refuse-in-Ok-eval-2.ensures (binary_wrong (names_of start c.args.names.now) (names_of mid c.args.names.now) (g.S.Store.held c.args.store.now) (g.S.Store.held c.eval-in-Binary.new.store) (tree_of c.args.expr.now) _ _ _ _ _ (binary_tree _ _ _ _ c.in-Binary.is) value (names_kept start mid c.args.names.now first.grows c.requires.inside) (first.keeps s) other)
 
 pub eval-returns-in-Ok-eval-clause-value : goal.eval-returns-in-Ok-eval-clause-value
 eval-returns-in-Ok-eval-clause-value g t c = λ s.
@@ -266,7 +330,7 @@ eval-returns-in-Ok-eval-clause-value g t c = λ s.
     let later = c.eval-in-Ok-eval.new.cx.plan in
     let failed = c.in-Err-eval-2.stopped in
     let other = subst (λ x. GivesOrFails (meaning later) (Err failed) (value_of (names_of mid c.args.names.now) (g.S.Store.held c.eval-in-Binary.new.store) (tree_of x))) c.deref-in-Ok-eval.ensures (c.in-Err-eval-2.ensures.value told) in
-    binary_fails (meaning later) (meaning later) _ _ _ _ (tree_of c.args.expr.now) _ _ _ _ c.in-Err-eval-2.stopped (binary_tree _ _ _ _ c.in-Binary.is) value (names_kept start mid c.args.names.now first.grows c.requires.inside) (first.keeps s) other
+    binary_fails (meaning later) (meaning later) (names_of start c.args.names.now) (names_of mid c.args.names.now) (g.S.Store.held c.args.store.now) (g.S.Store.held c.eval-in-Binary.new.store) (tree_of c.args.expr.now) _ _ _ _ c.in-Err-eval-2.stopped (binary_tree _ _ _ _ c.in-Binary.is) value (names_kept start mid c.args.names.now first.grows c.requires.inside) (first.keeps s) other
 
 pub eval-eval_arguments-requires-in-Ok-eval-3-clause-inside : goal.eval-eval_arguments-requires-in-Ok-eval-3-clause-inside
 eval-eval_arguments-requires-in-Ok-eval-3-clause-inside g t c = λ κs live. stay_names c.args.cx.now.plan _ c.args.names.now c.in-Ok-eval-3.ensures.grows c.requires.inside

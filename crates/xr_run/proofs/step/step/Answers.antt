@@ -2,7 +2,7 @@ use Rattle.std.proofs.Common.{Bool, sym, subst}
 use Rattle.std.specs.Prelude.{IsTrue}
 use Rattle.xr_defs.specs.Syntax.{line_of}
 use Rattle.xr_run.specs.Named.{names_of}
-use Rattle.xr_run.proofs.Carried.{performed, unperformed}
+use Rattle.xr_run.proofs.Carried.{kept_by, performed, unperformed}
 use Rattle.xr_run.proofs.NamesKept.{names_kept, stay_names}
 use Rattle.xr_run.proofs.step.step.Goals as goal
 
@@ -22,6 +22,13 @@ returns-in-Ok-clause-inside g c =
     let start = c.args.cx.now.plan in
     let mid = c.effect_of.new.cx.plan in
     c.perform.ensures.inside mid (stay_names start mid c.args.names.now e.grows c.requires.inside) e.inside
+
+pub returns-in-Ok-clause-keeps : goal.returns-in-Ok-clause-keeps
+returns-in-Ok-clause-keeps g c = λ s.
+    let e = c.in-Ok.ensures in
+    let told = subst (λ (b : Bool). IsTrue b) (sym e.tells) s in
+    kept_by c.effect_of.new.cx.plan (line_of c.args.statement.now) c.in-Ok.effect (names_of c.args.cx.now.plan c.args.names.now)
+    (g.S.Store.held c.args.store.now) (g.S.Store.held c.effect_of.new.store) (g.S.Store.held c.perform.new.store) (e.keeps s) (e.effect s) e.fits (c.perform.ensures.keeps told)
 
 pub returns-in-Err-clause-step : goal.returns-in-Err-clause-step
 returns-in-Err-clause-step g c = λ s.

@@ -26,7 +26,7 @@ returns-in-Ok-written-clause-effect g c = λ s.
     (tree_of c.args.receiver.now) (codes "to_netcdf") (all_arguments c.args.arguments.now) (meaning mid c.in-Ok.value) (meaning later c.in-Ok.value)
     (first.value s) (names_kept start mid c.args.names.now first.grows c.requires.inside) (first.keeps s)
     (given later c.in-Ok-eval_arguments.args) (second.value told) (meaning_kept mid later c.in-Ok.value second.grows first.inside)
-    c.in-Ok-written.name c.in-Ok-written.bytes c.in-Ok-written.ensures.put
+    c.in-Ok-written.name c.in-Ok-written.pieces c.in-Ok-written.ensures.put
 
 pub returns-in-Ok-eval_arguments-clause-effect : goal.returns-in-Ok-eval_arguments-clause-effect
 returns-in-Ok-eval_arguments-clause-effect g c = λ s.

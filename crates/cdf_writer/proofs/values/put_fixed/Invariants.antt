@@ -1,7 +1,0 @@
-use Rattle.std.proofs.Common.{◌≡◌, ◌++◌, not, take}
-use Rattle.std.specs.List.{filter, flat_map}
-use Rattle.xr_defs.specs.Canonical.{is_record, with_filling}
-use Rattle.cdf_writer.proofs.values.put_fixed.Given as goal
-
-abbrev pub invariant-loop-var : goal.invariant-loop-var
-invariant-loop-var l = l.out.items ≡ l.fn.out.items ++ flat_map (λ v. with_filling l.file v v.raw) (filter (λ v. not (is_record l.file v)) (take l.var-index l.file.vars))

@@ -1,0 +1,142 @@
+//! The form in which cells are kept, which no script can tell, and the two calls besides `decode_bytes` that give a file's dataset, which
+//! a run doesn't make.
+ghost use Rattle.std.specs.Prelude.{◌≡◌, false, refl, IfSome};
+ghost use Rattle.xr_decode.specs.Readable.{IsReadable};
+
+use crate::printing::prints_set;
+use bytes::Bytes;
+use cdf_reader::read;
+use plan_core::{Compute, Plan};
+use std::alloc::Global;
+use std::test::*;
+use std::thread::Threads;
+use xr_decode::{decode_bytes, decode_into, decode_set};
+use xr_defs::{ArrayValue, CdfFile, Form, Node};
+use xr_types::{ComputeFault, NodeId};
+use xr_values::{Cx, Variable};
+
+// Two records of the index `time` and of the shorts `t` over `time` and `lat`, and the float `lat`.
+const RECORDS: [u8; 248] = [
+    67, 68, 70, 1, 0, 0, 0, 2, 0, 0, 0, 10, 0, 0, 0, 2, 0, 0, 0, 4, 116, 105, 109, 101, 0, 0, 0, 0,
+    0, 0, 0, 3, 108, 97, 116, 0, 0, 0, 0, 2, 0, 0, 0, 0, 0, 0, 0, 0, 0, 0, 0, 11, 0, 0, 0, 3, 0, 0,
+    0, 3, 108, 97, 116, 0, 0, 0, 0, 1, 0, 0, 0, 1, 0, 0, 0, 0, 0, 0, 0, 0, 0, 0, 0, 5, 0, 0, 0, 8,
+    0, 0, 0, 224, 0, 0, 0, 4, 116, 105, 109, 101, 0, 0, 0, 1, 0, 0, 0, 0, 0, 0, 0, 12, 0, 0, 0, 1,
+    0, 0, 0, 10, 95, 70, 105, 108, 108, 86, 97, 108, 117, 101, 0, 0, 0, 0, 0, 4, 0, 0, 0, 1, 0, 0,
+    0, 15, 0, 0, 0, 4, 0, 0, 0, 4, 0, 0, 0, 232, 0, 0, 0, 1, 116, 0, 0, 0, 0, 0, 0, 2, 0, 0, 0, 0,
+    0, 0, 0, 1, 0, 0, 0, 12, 0, 0, 0, 1, 0, 0, 0, 10, 95, 70, 105, 108, 108, 86, 97, 108, 117, 101,
+    0, 0, 0, 0, 0, 3, 0, 0, 0, 1, 252, 25, 0, 0, 0, 0, 0, 3, 0, 0, 0, 4, 0, 0, 0, 236, 0, 0, 0, 0,
+    0, 0, 0, 0, 0, 0, 0, 0, 0, 1, 252, 25, 0, 0, 0, 15, 0, 3, 255, 255,
+];
+
+// What `ncdump -h` and xarray tell of it, in the words of a printed dataset.
+const SHOWN: &str =
+    "Dataset\ndim time: 2\ndim lat: 2\ncoord time int32 (time): 0 15\nvar t int16 (time, lat) masked\nskipped lat\n";
+
+// Shorts with two own fill numbers and two others, bytes that list a name of a dimension, shorts of that name, a truth value that is
+// missing, and bytes over a dimension twice.
+const FILLS: [u8; 496] = [
+    67, 68, 70, 1, 0, 0, 0, 0, 0, 0, 0, 10, 0, 0, 0, 3, 0, 0, 0, 1, 120, 0, 0, 0, 0, 0, 0, 4, 0, 0,
+    0, 1, 121, 0, 0, 0, 0, 0, 0, 2, 0, 0, 0, 1, 122, 0, 0, 0, 0, 0, 0, 3, 0, 0, 0, 0, 0, 0, 0, 0,
+    0, 0, 0, 11, 0, 0, 0, 5, 0, 0, 0, 1, 118, 0, 0, 0, 0, 0, 0, 1, 0, 0, 0, 0, 0, 0, 0, 12, 0, 0,
+    0, 2, 0, 0, 0, 10, 95, 70, 105, 108, 108, 86, 97, 108, 117, 101, 0, 0, 0, 0, 0, 3, 0, 0, 0, 2,
+    0, 1, 0, 7, 0, 0, 0, 13, 109, 105, 115, 115, 105, 110, 103, 95, 118, 97, 108, 117, 101, 0, 0,
+    0, 0, 0, 0, 4, 0, 0, 0, 2, 255, 255, 252, 25, 255, 255, 255, 255, 0, 0, 0, 3, 0, 0, 0, 8, 0, 0,
+    1, 200, 0, 0, 0, 1, 119, 0, 0, 0, 0, 0, 0, 1, 0, 0, 0, 0, 0, 0, 0, 12, 0, 0, 0, 3, 0, 0, 0, 10,
+    95, 70, 105, 108, 108, 86, 97, 108, 117, 101, 0, 0, 0, 0, 0, 3, 0, 0, 0, 1, 0, 5, 0, 0, 0, 0,
+    0, 13, 109, 105, 115, 115, 105, 110, 103, 95, 118, 97, 108, 117, 101, 0, 0, 0, 0, 0, 0, 4, 0,
+    0, 0, 1, 0, 1, 17, 112, 0, 0, 0, 11, 99, 111, 111, 114, 100, 105, 110, 97, 116, 101, 115, 0, 0,
+    0, 0, 2, 0, 0, 0, 1, 121, 0, 0, 0, 0, 0, 0, 1, 0, 0, 0, 4, 0, 0, 1, 208, 0, 0, 0, 1, 121, 0, 0,
+    0, 0, 0, 0, 1, 0, 0, 0, 0, 0, 0, 0, 0, 0, 0, 0, 0, 0, 0, 0, 3, 0, 0, 0, 8, 0, 0, 1, 212, 0, 0,
+    0, 1, 102, 0, 0, 0, 0, 0, 0, 0, 0, 0, 0, 12, 0, 0, 0, 2, 0, 0, 0, 10, 95, 70, 105, 108, 108,
+    86, 97, 108, 117, 101, 0, 0, 0, 0, 0, 1, 0, 0, 0, 1, 7, 0, 0, 0, 0, 0, 0, 5, 100, 116, 121,
+    112, 101, 0, 0, 0, 0, 0, 0, 2, 0, 0, 0, 4, 98, 111, 111, 108, 0, 0, 0, 1, 0, 0, 0, 4, 0, 0, 1,
+    220, 0, 0, 0, 5, 116, 119, 105, 99, 101, 0, 0, 0, 0, 0, 0, 2, 0, 0, 0, 0, 0, 0, 0, 0, 0, 0, 0,
+    0, 0, 0, 0, 0, 0, 0, 0, 1, 0, 0, 0, 16, 0, 0, 1, 224, 0, 1, 252, 25, 0, 7, 255, 255, 5, 4, 255,
+    0, 0, 1, 0, 2, 0, 3, 0, 4, 7, 0, 0, 0, 0, 0, 0, 0, 0, 0, 0, 0, 0, 0, 0, 0, 0, 0, 0, 0,
+];
+
+// How the cells of each variable are kept: as the file stores them, or at the width of their kind.
+fn forms(alloc: Global, bytes: &[u8]) -> Result<String, Fail> {
+    let mut plan = Plan::new(alloc);
+    let bytes = Bytes::copy_from_slice(alloc, bytes)?;
+    let set = decode_bytes(alloc, &mut plan, &bytes, true)
+        .ok()
+        .ok_or("no dataset")?;
+    let mut out = String::new(alloc);
+    for var in set.vars.as_slice() {
+        out.push_str(var.name.as_str())?;
+        out.push_str(form_of(&plan, var))?;
+    }
+    Ok(out)
+}
+
+fn form_of(plan: &Plan, var: &Variable) -> &'static str {
+    match plan.nodes().get(var.node as usize) {
+        Some(Node::Source { cells }) => match cells.form() {
+            Form::Stored(_) => " stored ",
+            Form::Typed(_) => " typed ",
+        },
+        _ => " no cells ",
+    }
+}
+
+#[test]
+fn whole_numbers_stay_as_they_stand_in_the_file(rt: HostRuntime) -> Result<(), Fail> {
+    let alloc = rt.alloc();
+    // `f` holds truth values.
+    let shared = forms(alloc, &FILLS)?;
+    assert_eq!(rt; shared.as_str(), "v stored w stored y stored f typed ");
+    let in_records = forms(alloc, &RECORDS)?;
+    assert_eq!(rt; in_records.as_str(), "t stored ");
+    Ok(())
+}
+
+// Computes nothing.
+#[derive(Drop)]
+struct Nothing;
+
+impl Compute for Nothing {
+    ghost declines = { λ s nodes n. false };
+
+    ghost early = { λ s nodes more n lt. refl };
+
+    fn cells<R: Threads + Sync>(
+        &mut self,
+        _rt: &R,
+        _alloc: Global,
+        _plan: &Plan,
+        _node: NodeId,
+    ) -> Result<ArrayValue, ComputeFault> {
+        Err(ComputeFault::NoMemory)
+    }
+}
+
+// The file that bytes spell.
+fn file_in(alloc: Global, bytes: &[u8]) -> Option<CdfFile>
+    ensures { IfSome result (λ f. IsReadable f) }
+{
+    match read(alloc, bytes) {
+        Ok(file) => Some(file),
+        Err(_) => None,
+    }
+}
+
+#[test]
+fn a_file_gives_the_dataset_of_its_bytes(rt: HostRuntime) -> Result<(), Fail> {
+    let alloc = rt.alloc();
+    let file = file_in(alloc, &RECORDS).ok_or("no file")?;
+    let mut plan = Plan::new(alloc);
+    let set = decode_into(alloc, &mut plan, &file, true)
+        .ok()
+        .ok_or("no dataset")?;
+    assert!(rt; prints_set(alloc, &set, SHOWN));
+    let mut cx = Cx {
+        plan: Plan::new(alloc),
+        compute: Nothing,
+    };
+    let set = decode_set(alloc, &mut cx, &file, true)
+        .ok()
+        .ok_or("no dataset")?;
+    assert!(rt; prints_set(alloc, &set, SHOWN));
+    Ok(())
+}

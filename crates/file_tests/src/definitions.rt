@@ -1,0 +1,62 @@
+use bytes::Bytes;
+use std::alloc::{AllocError, Global};
+use std::test::Fail;
+use xr_defs::{ArrayValue, Cells, Form, StoredArray};
+use xr_types::{DType, Items, NcType};
+
+/// The shorts 7 and -7, the second hidden.
+fn typed(alloc: Global) -> Result<ArrayValue, AllocError> {
+    let shape = Items::from_slice(alloc, &[2])?;
+    let cells = Cells::Int16(Items::from_slice(alloc, &[7, -7])?);
+    let mask = Items::from_slice(alloc, &[0, 1])?;
+    Ok(ArrayValue::of(shape, cells, Some(mask)))
+}
+
+/// The same shorts as a file has them, where -7 marks a missing cell.
+fn stored(alloc: Global) -> Result<ArrayValue, AllocError> {
+    let shape = Items::from_slice(alloc, &[2])?;
+    let bytes = Bytes::copy_from_slice(alloc, &[0, 7, 255, 249])?;
+    let fills = Items::from_slice(alloc, &[-7])?;
+    Ok(ArrayValue::stored(StoredArray::of(shape, NcType::Short, bytes, fills)))
+}
+
+/// Whether an array is typed and has this mask.
+fn has_mask(array: &ArrayValue, cells: &[u8]) -> bool {
+    match array.form() {
+        Form::Typed(typed) => match typed.parts() {
+            (_, Some(mask)) => mask.as_slice() == cells,
+            (_, None) => false,
+        },
+        Form::Stored(_) => false,
+    }
+}
+
+/// Whether an array is stored as these bytes and has these fill numbers.
+fn has_bytes(array: &ArrayValue, bytes: &[u8], fills: &[i64]) -> bool {
+    match array.form() {
+        Form::Stored(stored) => {
+            let parts = stored.parts();
+            parts.bytes.as_slice() == bytes && parts.fills == fills
+        }
+        Form::Typed(_) => false,
+    }
+}
+
+#[test]
+fn an_array_is_made_and_copied_with_its_mask(rt: HostRuntime) -> Result<(), Fail> {
+    let array = typed(rt.alloc())?;
+    let copy = array.copy(rt.alloc())?;
+    assert!(rt; copy.kind() == DType::Int16);
+    assert_eq!(rt; copy.shape(), [2].as_slice());
+    assert!(rt; has_mask(&copy, &[0, 1]));
+    Ok(())
+}
+
+#[test]
+fn a_copy_of_a_stored_array_has_its_bytes(rt: HostRuntime) -> Result<(), Fail> {
+    let array = stored(rt.alloc())?;
+    let copy = array.copy(rt.alloc())?;
+    assert!(rt; copy.kind() == DType::Int16);
+    assert!(rt; has_bytes(&copy, &[0, 7, 255, 249], &[-7]));
+    Ok(())
+}

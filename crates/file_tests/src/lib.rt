@@ -1,0 +1,12 @@
+//! Tests of the types, of the definitions' data and of the crates of files, a module for each crate. They stand above those crates, since a
+//! crate that has tests is proved twice.
+#![tactic(auto)]
+
+#[cfg(test)]
+mod definitions;
+#[cfg(test)]
+mod reading;
+#[cfg(test)]
+mod types;
+#[cfg(test)]
+mod writing;

@@ -1,0 +1,35 @@
+-- When a plan of the tests takes a node.
+use Rattle.std.proofs.Common.{◌≡◌, ◌≤◌, ◌*◌, ◌∙◌, ℕ, List, [], ◌∷◌, length, refl, sym, ap, subst}
+use Rattle.xr_types.specs.declared.kind.DType.TheVariants.{Int16}
+use Rattle.xr_defs.specs.Arrays.{Array, IsArray}
+use Rattle.xr_defs.specs.Points.{size}
+use Rattle.xr_defs.specs.Nodes.{values, node_value, IsNode, most_node_cells}
+use Rattle.xr_defs.specs.declared.node.Node.{Node}
+use Rattle.xr_defs.specs.declared.node.Node.TheVariants.{Source}
+use Rattle.plan_core.proofs.Fitting.{source_fits, source_values}
+use Rattle.plan_tests.specs.Sources.{AreSources}
+
+-- a node that fits behind any two arrays of these kinds and shapes
+abbrev pub FitsSources : Node → Type 0
+FitsSources node = (a b : Array) → a.kind ≡ Int16 → b.kind ≡ a.kind → a.shape ≡ 2 ∷ 3 ∷ [] → b.shape ≡ 2 ∷ 1 ∷ [] → IsNode (a ∷ b ∷ []) node
+
+pub on_sources : (nodes : List Node) (node : Node) → AreSources nodes → FitsSources node → IsNode (values nodes) node
+on_sources nodes node two fits =
+    subst (λ (ns : List Node). IsNode (values ns) node) (sym two.are) (subst (λ (vs : List Array). IsNode vs node) (sym (source_values two.left two.right)) (fits two.left two.right two.left_kind (two.right_kind ∙ sym two.left_kind) two.left_shape two.right_shape))
+
+pub two_sources : (nodes : List Node) → AreSources nodes → length nodes ≡ 2
+two_sources nodes two = ap length two.are
+
+one_value : (a : Array) → values (Source a ∷ []) ≡ a ∷ []
+unfolding node_value
+one_value a = refl
+
+pub on_source : (nodes : List Node) (a : Array) (node : Node) → nodes ≡ Source a ∷ [] → IsNode (a ∷ []) node → IsNode (values nodes) node
+on_source nodes a node is fits = subst (λ (ns : List Node). IsNode (values ns) node) (sym is) (subst (λ (vs : List Array). IsNode vs node) (sym (one_value a)) fits)
+
+pub source_behind : (nodes : List Node) (a : Array) → IsArray a → size a.shape ≤ most_node_cells → IsNode (values nodes) (Source a)
+source_behind nodes a array few = source_fits (values nodes) a array few
+
+-- an array of two axes is small enough where the product of its sizes is
+pub few : (s : List ℕ) (m n : ℕ) → s ≡ m ∷ n ∷ [] → m * (n * 1) ≤ most_node_cells → size s ≤ most_node_cells
+few s m n is small = subst (λ (t : List ℕ). size t ≤ most_node_cells) (sym is) small

@@ -1,0 +1,10 @@
+use Rattle.std.proofs.Common.{◌≡◌, ◌++◌, map, zip, drop, length, All}
+use Rattle.xr_defs.specs.Arrays.{IsCell, cell}
+use Rattle.plan_tests.proofs.plans.under_mask.Given as goal
+
+abbrev pub invariant-loop-i : goal.invariant-loop-i
+invariant-loop-i g l = record {
+  so_far : l.numbers.items ++ map cell (zip (map g.T.Elem.number (drop l.i l.cells)) (drop l.i l.mask)) ≡ map cell (zip (map g.T.Elem.number l.cells) l.mask);
+  range : All (IsCell g.T.Elem.kind) l.numbers.items;
+  long : length l.numbers.items ≡ l.i;
+}

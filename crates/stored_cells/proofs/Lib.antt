@@ -1,0 +1,5 @@
+pub mod NumbersInBytes
+pub mod Counted
+pub mod Blocks
+pub mod MaskedCells
+pub mod Lengths

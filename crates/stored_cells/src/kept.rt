@@ -1,0 +1,9 @@
+//! Where typed cells stand.
+use xr_defs::TypedArray;
+
+/// An array with typed cells that is lent, or that was made for the purpose.
+#[derive(Drop)]
+pub enum Kept<'a> {
+    Lent(&'a TypedArray),
+    Owned(TypedArray),
+}

@@ -1,0 +1,15 @@
+//! Cells as a classic file stores them: decoded, and hidden where they hold a fill number.
+#![tactic(auto)]
+
+mod block;
+mod decode;
+mod kept;
+mod masks;
+mod sums;
+mod typed;
+
+pub use block::shared_block;
+pub use decode::decoded_cells;
+pub use masks::mask_for;
+pub use sums::sum;
+pub use typed::{Typed, as_typed, decoded};

@@ -1,8 +1,0 @@
-use Rattle.std.proofs.Common.{sym, subst, Some, List, ℕ}
-use Rattle.xr_defs.specs.Arrays.{wide}
-use Rattle.xr_decode.specs.Cells.{Hides}
-use Rattle.xr_decode.proofs.MaskedCells.{hides_marked}
-use Rattle.xr_decode.proofs.masks.mask_for.Goals as goal
-
-pub returns : goal.returns
-returns c = subst (λ (m : List ℕ). Hides c.args.fills.now (wide c.args.cells.now) (Some m)) (sym c.in_ok-mask_of.ensures) (hides_marked c.args.fills.now (wide c.args.cells.now))

@@ -1,0 +1,6 @@
+use Rattle.std.proofs.Common.{◌≡◌, drop}
+use Rattle.xr_defs.specs.Stored.{is_fill}
+use Rattle.xr_encode.proofs.stored.is_fill.Given as goal
+
+abbrev pub invariant-loop-fill : goal.invariant-loop-fill
+invariant-loop-fill l = is_fill (drop l.fill-index l.fills) l.number ≡ is_fill l.fills l.number

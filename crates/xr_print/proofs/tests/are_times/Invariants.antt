@@ -1,6 +1,0 @@
-use Rattle.std.proofs.Common.{◌<◌, ℕ, ℤ, slice_index_or}
-use Rattle.xr_defs.specs.Times.{IsTime}
-use Rattle.xr_print.proofs.tests.are_times.Given as goal
-
-abbrev pub invariant-loop-i : goal.invariant-loop-i
-invariant-loop-i l = (k : ℕ) (d : ℤ) → k < l.i → IsTime (slice_index_or l.ts k d)
