@@ -98,7 +98,11 @@ def of_cube(name, call, nco, masked="", unmasked=", mask_and_scale=False"):
         "script": f'ds = open_dataset("v.nc"{masked})\n{call}.to_netcdf("w.nc")\n',
         "peers": [],
         "whole": [("xarray, whole", "xarray", peer)],
-        "tools": [("NCO, whole", nco + ["v.nc", "n.nc"])],
+        "tools": [
+            ("NCO, whole", nco[0], nco + ["v.nc", "n.nc"]),
+            # The program waits until its bytes are on the disk.
+            ("NCO, whole, until its bytes are on the disk", nco[0], ["sh", "-c", f"{' '.join(nco)} v.nc n.nc && sync n.nc"]),
+        ],
     }
 
 
@@ -163,16 +167,15 @@ def measure(job, program, times):
             for name, needs, code in job["whole"]:
                 if has(needs):
                     peers.setdefault(name, []).append(timed([PYTHON, "-c", code], folder)[0])
-            for name, command in job.get("tools", []):
-                if shutil.which(command[0]):
+            for name, needs, command in job.get("tools", []):
+                if shutil.which(needs):
                     peers.setdefault(name, []).append(timed(command, folder)[0])
         size = os.path.getsize(os.path.join(folder, "v.nc")) / (1 << 20)
     least = min(ours)
     print(f"{job['name']}: {least:.3f} s, peak {memory:.0f} MiB over a file of {size:.0f} MiB")
     for name, seconds in peers.items():
         print(f"    {name}: {min(seconds):.3f} s, ratio {min(seconds) / least:.2f}")
-    wanted = [(name, needs) for name, needs, _ in job["peers"] + job["whole"]]
-    for name, needs in wanted + [(name, command[0]) for name, command in job.get("tools", [])]:
+    for name, needs, _ in job["peers"] + job["whole"] + job.get("tools", []):
         if name not in peers:
             print(f"    {name}: skipped, {needs} isn't installed")
 
