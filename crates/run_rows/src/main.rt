@@ -1,10 +1,25 @@
 //! Runs worked scripts, each over files in memory, and prints how each ended. Its standard input lists the scripts, and `stdout` what it
 //! has to print, so that a further script is a matter of data alone.
 //!
-//! A line of the input that begins with `=== ` is the title of a script. Below it stand `file NAME HEX`, a file that is there, `show NAME`,
-//! a file whose bytes are printed in the end, and the lines of the script, each behind `> `. All other lines are comments.
+//! A line of the input that begins with `=== ` is the title of a row. What stands below it:
+//!
+//! | Line | What it says |
+//! |---|---|
+//! | `> TEXT` | a line of the script |
+//! | `* N TEXT` | N such lines |
+//! | `+ N TEXT` | the text N times, with no end of a line |
+//! | `file NAME HEX` | a file that is there, with these bytes |
+//! | `file NAME` | a file that is there, with the bytes that a line `file NAME HEX` above all titles gives it |
+//! | `show NAME` | a file whose bytes are printed in the end |
+//! | `word TEXT` | a word of the command, in place of `xrs s.xrs` |
+//! | `no word` | the command has none |
+//! | `fails store N` | the Nth call of the store fails, those that put the files and the script counted too |
+//! | `fails output N`, `fails error N` | so of the two sinks |
+//!
+//! All other lines are comments.
 #![tactic(auto)]
 
+mod failing;
 mod hexadecimal;
 mod row;
 
@@ -15,19 +30,27 @@ use std::io::{BufWriter, Write, writer};
 fn main(rt: HostRuntime) -> Result<()> {
     let alloc = rt.alloc();
     let mut out = BufWriter::new(alloc, writer(&rt))?;
-    let mut row = Row::new(alloc)?;
+    let mut above = Row::new(alloc);
+    let mut row: Option<Row> = None;
     for line in rt.lines(alloc) {
         let line = line?;
         let line = line.as_str();
         if line.starts_with("=== ") {
-            out.write_all(&row.end(&rt, alloc)?)?;
+            if let Some(ended) = &row {
+                out.write_all(&ended.end(&rt, alloc)?)?;
+            }
             writeln!(out, "{line}")?;
-            row = Row::new(alloc)?;
+            row = Some(Row::new(alloc));
         } else {
-            row.take(alloc, line)?;
+            match &mut row {
+                Some(row) => row.take(alloc, line, &above)?,
+                None => above.take(alloc, line, &Row::new(alloc))?,
+            }
         }
     }
-    out.write_all(&row.end(&rt, alloc)?)?;
+    if let Some(ended) = &row {
+        out.write_all(&ended.end(&rt, alloc)?)?;
+    }
     out.flush()?;
     Ok(())
 }

@@ -3,11 +3,13 @@ ghost use Rattle.std.specs.Prelude.{◌≡◌, ℕ, IfOk, List, None, false};
 ghost use Rattle.xr_outside.specs.Outside.{IsWithin};
 
 use crate::beside::Beside;
+use crate::to_disk::{Disk, write_all_of};
 use bytes::{Buf, BytesQueue};
 use std::alloc::Global;
 use std::fs::{File, OpenFile, OpenOptions};
-use std::io::{Error, ErrorKind, Read, Write};
+use std::io::{Error, ErrorKind, Read};
 use std::rt::Files;
+use std::thread::Threads;
 use std::{fs, io};
 use xr_run::{Got, Store, StoreFailed, StoreFault};
 use xr_types::TextBytes;
@@ -55,20 +57,6 @@ fn read_within<F: OpenFile + Read + Drop>(alloc: Global, file: F, limit: u64) ->
     Ok(Got::Found(bytes))
 }
 
-// Writes all bytes, those that lie together at once. None is copied.
-fn write_all_of<W: Write, B: Buf>(writer: &mut W, mut bytes: B) -> io::Result<()>
-where
-    B: Drop,
-{
-    while bytes.has_remaining() {
-        let chunk = bytes.chunk();
-        let count = chunk.len();
-        writer.write_all(chunk)?;
-        bytes.advance(count);
-    }
-    Ok(())
-}
-
 // Writes the bytes into what is no regular file: a device, a pipe, or what a link leads to.
 fn write_through<R: Files, B: Buf + Drop>(rt: &R, name: &str, bytes: B) -> io::Result<()> {
     let mut file = OpenOptions::new()
@@ -79,22 +67,21 @@ fn write_through<R: Files, B: Buf + Drop>(rt: &R, name: &str, bytes: B) -> io::R
 }
 
 // Writes the bytes to a new file, with the permissions of the old one, and to the disk.
-fn fill<R: Files, B: Buf + Drop>(
+fn fill<R: Disk + Threads, B: Buf + Drop>(
     rt: &R,
     name: &str,
-    mut file: R::File,
+    file: R::File,
     bytes: B,
 ) -> io::Result<()> {
     if let Ok(old) = fs::metadata(rt, name) {
         file.set_permissions(old.permissions())?;
     }
-    write_all_of(&mut file, bytes)?;
-    file.sync_all()
+    rt.write_to_disk(rt, file, bytes)
 }
 
 // Fills a new file beside the other, and gives it the other's name once its bytes are on the disk. Where something
 // fails, the new file is removed, and the old one is as it was.
-fn replace<R: Files, B: Buf + Drop>(
+fn replace<R: Disk + Threads, B: Buf + Drop>(
     rt: &R,
     name: &str,
     beside: &str,
@@ -112,7 +99,7 @@ fn replace<R: Files, B: Buf + Drop>(
 }
 
 // Tries new names beside the name until one is free.
-fn write_beside<R: Files, B: Buf + Drop>(rt: &R, name: &str, bytes: B) -> io::Result<()> {
+fn write_beside<R: Disk + Threads, B: Buf + Drop>(rt: &R, name: &str, bytes: B) -> io::Result<()> {
     let Some(mut beside) = Beside::of(name) else {
         return Err(Error::from(ErrorKind::InvalidFilename));
     };
@@ -129,7 +116,7 @@ fn write_beside<R: Files, B: Buf + Drop>(rt: &R, name: &str, bytes: B) -> io::Re
     Err(Error::from(ErrorKind::AlreadyExists))
 }
 
-fn write_file<R: Files, B: Buf + Drop>(rt: &R, name: &str, bytes: B) -> io::Result<()> {
+fn write_file<R: Disk + Threads, B: Buf + Drop>(rt: &R, name: &str, bytes: B) -> io::Result<()> {
     if name.is_empty() {
         return Err(Error::from(ErrorKind::NotFound));
     }
@@ -148,7 +135,7 @@ fn write_file<R: Files, B: Buf + Drop>(rt: &R, name: &str, bytes: B) -> io::Resu
     }
 }
 
-impl<'a, R: Files> Store for FileStore<'a, R> {
+impl<'a, R: Disk + Threads> Store for FileStore<'a, R> {
     ghost tells = { λ s. false };
 
     ghost held = { λ s n. None };

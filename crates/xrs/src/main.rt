@@ -6,6 +6,7 @@ mod file_store;
 mod std_sink;
 #[cfg(test)]
 mod tests;
+mod to_disk;
 
 use crate::file_store::FileStore;
 use crate::std_sink::StdSink;

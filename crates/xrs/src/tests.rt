@@ -2,7 +2,7 @@ use crate::file_store::FileStore;
 use crate::std_sink::StdSink;
 use bytes::{Bytes, BytesQueue};
 use std::test::Fail;
-use xr_run::{Got, Sink, Store, StoreFault};
+use xr_run::{Got, Sink, Store, StoreFault, one_end_fits};
 use xr_types::TextBytes;
 
 fn found(got: Result<Got, StoreFault>) -> Option<Vec<u8>> {
@@ -55,9 +55,35 @@ fn pieces_are_put_in_a_row(rt: HostRuntime) -> Result<(), Fail> {
 }
 
 #[test]
+fn a_large_file_is_put_whole(rt: HostRuntime) -> Result<(), Fail> {
+    let alloc = rt.alloc();
+    let mut store = FileStore::new(&rt);
+    let name = TextBytes::from_str(alloc, "c.nc")?;
+    let mut pieces = BytesQueue::new(alloc);
+    pieces.push(Bytes::from_static(b"head"))?;
+    pieces.push(Bytes::from_vec(vec![in alloc; 7u8; 5 << 20]?)?)?;
+    pieces.push(Bytes::from_static(b"end"))?;
+    assert!(rt; store.put_pieces(alloc, &name, pieces).is_ok());
+    let bytes = found(store.get(alloc, &name, 6 << 20)).ok_or("no bytes")?;
+    assert_eq!(rt; bytes.len(), (5 << 20) + 7);
+    let (head, rest) = bytes.as_slice().split_at(4);
+    let (middle, end) = rest.split_at(5 << 20);
+    assert_eq!(rt; head, b"head".as_slice());
+    assert!(rt; middle.iter().all(|&byte| byte == 7));
+    assert_eq!(rt; end, b"end".as_slice());
+    Ok(())
+}
+
+#[test]
 fn standard_output_takes_a_piece(rt: HostRuntime) -> Result<(), Fail> {
     let mut out = StdSink::new(rt.stdout());
     let taken = out.put(b"a line\n").ok().ok_or("no bytes taken")?;
     assert!(rt; taken > 0);
+    Ok(())
+}
+
+#[test]
+fn the_law_of_one_end_holds_everywhere(_rt: HostRuntime) -> Result<(), Fail> {
+    one_end_fits();
     Ok(())
 }

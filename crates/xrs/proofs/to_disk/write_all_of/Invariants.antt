@@ -1,5 +1,5 @@
 use Rattle.std.proofs.Common.{length}
-use Rattle.xrs.proofs.file_store.write_all_of.Given as goal
+use Rattle.xrs.proofs.to_disk.write_all_of.Given as goal
 
 abbrev pub decreases-loop-bytes : goal.decreases-loop-bytes
 decreases-loop-bytes g l = length (g.B.Buf.unread l.bytes)
