@@ -1,13 +1,13 @@
 //! Whole files of the system as a store.
-ghost use Rattle.std.specs.Prelude.{◌≡◌, ℕ, IfOk, List, None, false};
-ghost use Rattle.xr_outside.specs.Outside.{IsWithin};
+ghost use Rattle.std.specs.Prelude.{◌≡◌, ℕ, List, None, false};
 
 use crate::beside::Beside;
-use crate::to_disk::{Disk, write_all_of};
+use crate::disk::Disk;
+use crate::to_disk::write_all_of;
 use bytes::{Buf, BytesQueue};
 use std::alloc::Global;
 use std::fs::{File, OpenFile, OpenOptions};
-use std::io::{Error, ErrorKind, Read};
+use std::io::{Error, ErrorKind};
 use std::rt::Files;
 use std::thread::Threads;
 use std::{fs, io};
@@ -27,34 +27,6 @@ impl<'a, R: Files> FileStore<'a, R> {
     {
         FileStore { rt, faults: 0 }
     }
-}
-
-// The bytes of an open file, read no further than one byte past the limit.
-fn read_within<F: OpenFile + Read + Drop>(alloc: Global, file: F, limit: u64) -> io::Result<Got>
-    ensures { IfOk result (λ got. IsWithin limit got) }
-{
-    // Only a regular file's length is known: a pipe has 0, and a folder's says nothing of bytes.
-    let metadata = file.metadata()?;
-    let known = if metadata.is_file() {
-        metadata.len()
-    } else {
-        0
-    };
-    if known > limit {
-        return Ok(Got::TooLong);
-    }
-    let mut bytes = Vec::new(alloc);
-    let Ok(room) = usize::try_from(known) else {
-        return Err(Error::from(ErrorKind::OutOfMemory));
-    };
-    if bytes.reserve_exact(room.saturating_add(1)).is_err() {
-        return Err(Error::from(ErrorKind::OutOfMemory));
-    }
-    file.take(limit.saturating_add(1)).read_to_end(&mut bytes)?;
-    if bytes.len() as u64 > limit {
-        return Ok(Got::TooLong);
-    }
-    Ok(Got::Found(bytes))
 }
 
 // Writes the bytes into what is no regular file: a device, a pipe, or what a link leads to.
@@ -145,7 +117,7 @@ impl<'a, R: Disk + Threads> Store for FileStore<'a, R> {
     fn get(&mut self, alloc: Global, name: &TextBytes, limit: u64) -> Result<Got, StoreFault> {
         let faults = self.faults;
         let got = match File::open(self.rt, name.as_str()) {
-            Ok(file) => read_within(alloc, file, limit),
+            Ok(file) => self.rt.read_within(self.rt, alloc, file, limit),
             Err(e) => Err(e),
         };
         match got {

@@ -2,7 +2,9 @@
 #![tactic(auto)]
 
 mod beside;
+mod disk;
 mod file_store;
+mod from_disk;
 mod std_sink;
 #[cfg(test)]
 mod tests;

@@ -54,23 +54,31 @@ fn pieces_are_put_in_a_row(rt: HostRuntime) -> Result<(), Fail> {
     Ok(())
 }
 
+// How many bytes of each value a large file has.
+const MANY: usize = 5 << 20;
+
 #[test]
-fn a_large_file_is_put_whole(rt: HostRuntime) -> Result<(), Fail> {
+fn a_large_file_is_put_and_got_whole(rt: HostRuntime) -> Result<(), Fail> {
     let alloc = rt.alloc();
     let mut store = FileStore::new(&rt);
     let name = TextBytes::from_str(alloc, "c.nc")?;
     let mut pieces = BytesQueue::new(alloc);
-    pieces.push(Bytes::from_static(b"head"))?;
-    pieces.push(Bytes::from_vec(vec![in alloc; 7u8; 5 << 20]?)?)?;
+    for value in 1..=4u8 {
+        pieces.push(Bytes::from_vec(vec![in alloc; value; MANY]?)?)?;
+    }
     pieces.push(Bytes::from_static(b"end"))?;
     assert!(rt; store.put_pieces(alloc, &name, pieces).is_ok());
-    let bytes = found(store.get(alloc, &name, 6 << 20)).ok_or("no bytes")?;
-    assert_eq!(rt; bytes.len(), (5 << 20) + 7);
-    let (head, rest) = bytes.as_slice().split_at(4);
-    let (middle, end) = rest.split_at(5 << 20);
-    assert_eq!(rt; head, b"head".as_slice());
-    assert!(rt; middle.iter().all(|&byte| byte == 7));
-    assert_eq!(rt; end, b"end".as_slice());
+    let bytes = found(store.get(alloc, &name, 99 << 20)).ok_or("no bytes")?;
+    let mut rest = bytes.as_slice();
+    for value in 1..=4u8 {
+        assert!(rt; rest.len() > MANY);
+        let (front, behind) = rest.split_at(MANY);
+        assert!(rt; front.iter().all(|&byte| byte == value));
+        rest = behind;
+    }
+    assert_eq!(rt; rest, b"end".as_slice());
+    let long = store.get(alloc, &name, 20 << 20);
+    assert!(rt; matches!(long, Ok(Got::TooLong)));
     Ok(())
 }
 

@@ -3,7 +3,6 @@
 use bytes::Buf;
 use std::fs::{File, OpenFile};
 use std::io::Write;
-use std::rt::Files;
 use std::sync::atomic::{AtomicBool, Ordering};
 use std::thread::Threads;
 use std::{io, thread};
@@ -26,7 +25,7 @@ where
 }
 
 // Sends to the disk what is written of the file, again and again until all is written.
-fn sync_until<F: OpenFile>(file: &F, is_written: &AtomicBool) -> io::Result<()> {
+fn sync_until(file: &File, is_written: &AtomicBool) -> io::Result<()> {
     for _ in 0..u64::MAX {
         if is_written.load(Ordering::SeqCst) {
             return Ok(());
@@ -37,57 +36,41 @@ fn sync_until<F: OpenFile>(file: &F, is_written: &AtomicBool) -> io::Result<()> 
     Ok(())
 }
 
-// Writes all bytes while another thread sends to the disk those that are written. A failure of either is told, since the
-// system tells one of the disk only once.
-fn write_and_sync<R: Threads, F: OpenFile + Write + Sync + Drop, B: Buf + Drop>(
-    rt: &R,
-    file: &mut F,
-    beside: F,
+// Writes all bytes while another thread sends to the disk those that are written, and then waits for the rest. A failure of
+// either is told, since the system tells one of the disk only once.
+fn write_and_sync<T: Threads, B: Buf + Drop>(
+    threads: &T,
+    file: &mut File,
+    beside: File,
     bytes: B,
 ) -> io::Result<()> {
     let is_written = AtomicBool::new(false);
     let (sent, written) = thread::join(
-        rt,
+        threads,
         || sync_until(&beside, &is_written),
         || {
             let written = write_all_of(file, bytes);
             is_written.store(true, Ordering::SeqCst);
-            written
+            written?;
+            file.sync_all()
         },
     );
     written?;
     sent
 }
 
-/// Files whose bytes can be waited for until they are on the disk. That threads may share a file is known of the system's
-/// files alone, so it is the runtime that has this trait.
-pub trait Disk: Files {
-    /// Writes all bytes to a file, and returns once they are on the disk. Of many bytes the first are sent there while
-    /// the rest is written.
-    fn write_to_disk<T: Threads, B: Buf + Drop>(
-        &self,
-        threads: &T,
-        file: Self::File,
-        bytes: B,
-    ) -> io::Result<()>;
-}
-
-impl Disk for HostRuntime {
-    fn write_to_disk<T: Threads, B: Buf + Drop>(
-        &self,
-        threads: &T,
-        mut file: File,
-        bytes: B,
-    ) -> io::Result<()> {
-        let beside = if bytes.remaining() < LARGE {
-            None
-        } else {
-            file.try_clone().ok()
-        };
-        match beside {
-            Some(beside) => write_and_sync(threads, &mut file, beside, bytes)?,
-            None => write_all_of(&mut file, bytes)?,
-        }
-        file.sync_all()
+/// Writes all bytes to a file, and returns once they are on the disk. Of many bytes the first are sent there while the
+/// rest is written.
+pub fn write_to_disk<T: Threads, B: Buf + Drop>(
+    threads: &T,
+    mut file: File,
+    bytes: B,
+) -> io::Result<()> {
+    if bytes.remaining() >= LARGE
+        && let Ok(beside) = file.try_clone()
+    {
+        return write_and_sync(threads, &mut file, beside, bytes);
     }
+    write_all_of(&mut file, bytes)?;
+    file.sync_all()
 }
