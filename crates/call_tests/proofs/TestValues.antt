@@ -2,7 +2,7 @@
 use Rattle.std.proofs.Common.{◌≡◌, List, All, ap, sym, subst, ◌∙◌}
 use Rattle.std.specs.Prelude.{Vec}
 use Rattle.std.specs.declared.alloc.Global.{Global}
-use Rattle.xr_defs.specs.declared.node.Node.{Node}
+use Rattle.xr_arrays.specs.declared.node.Node.{Node}
 use Rattle.xr_values.specs.declared.value.Value.{Value}
 use Rattle.xr_values.specs.declared.value.Value.TheVariants as variants
 use Rattle.xr_values.specs.declared.value.Value.TheOpen as held

@@ -1,7 +1,7 @@
 //! An array that becomes a coordinate where no node is computed. No script can show it, since a run computes every node.
 ghost use Rattle.std.specs.Prelude.{List, All, IfOk, OnOk, refl, true};
 ghost use denote.Param.Send.{IsSync};
-ghost use Rattle.xr_defs.specs.declared.node.Node.{Node};
+ghost use Rattle.xr_arrays.specs.declared.node.Node.{Node};
 ghost use Rattle.xr_values.specs.Meaning.{AreArgsIn, IsValueIn};
 ghost use Rattle.xr_values.specs.Stands.{IsArrayIn};
 
@@ -11,7 +11,7 @@ use std::rc::Rc;
 use std::test::Fail;
 use std::thread::Threads;
 use xr_building::{array_written_out, assign_to_array};
-use xr_defs::ArrayValue;
+use xr_arrays::ArrayValue;
 use xr_types::{CallFault, ComputeFault, DeepCopy, NodeId, TextBytes};
 use xr_values::{Args, Cx, DataArray, Value};
 

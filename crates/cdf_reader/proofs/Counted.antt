@@ -2,9 +2,9 @@
 use Rattle.std.proofs.Common.{◌≡◌, ◌≤◌, ◌<◌, ◌+◌, ◌-◌, ◌/◌, ◌∙◌, sym, ap, ℕ, suc, true, false, cond, List, ◌∷◌, length, map, drop, get_or, refl, arith, inl, inr, ltb}
 use Rattle.std.proofs.Math.Nat.{div-eq_of_lt}
 use Rattle.std.proofs.lemmas.Bool.{le-ltb}
-use Rattle.xr_defs.specs.declared.file.CdfDim.{CdfDim}
-use Rattle.xr_defs.specs.declared.file.VarHead.{VarHead}
-use Rattle.xr_defs.specs.Files.{most_bytes, is_record_var, record_vars}
+use Rattle.xr_files.specs.declared.file.CdfDim.{CdfDim}
+use Rattle.xr_files.specs.declared.file.VarHead.{VarHead}
+use Rattle.xr_files.specs.Files.{most_bytes, is_record_var, record_vars}
 use Rattle.cdf_reader.specs.Sizes.{capped}
 use Rattle.cdf_reader.proofs.Capped.{ordered}
 use Rattle.cdf_reader.proofs.Distances.{from_place, records_more}

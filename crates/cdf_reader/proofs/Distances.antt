@@ -1,9 +1,9 @@
 -- Sizes of variables, from the last one to the first.
 use Rattle.std.proofs.Common.{◌≡◌, ◌<◌, ◌∙◌, sym, ap, ℕ, suc, true, false, List, ◌∷◌, length, map, drop, get_or, refl}
 use Rattle.std.proofs.Math.Seq.{drop-cons}
-use Rattle.xr_defs.specs.declared.file.CdfDim.{CdfDim}
-use Rattle.xr_defs.specs.declared.file.VarHead.{VarHead}
-use Rattle.xr_defs.specs.Files.{is_record_var, head_size, record_vars}
+use Rattle.xr_files.specs.declared.file.CdfDim.{CdfDim}
+use Rattle.xr_files.specs.declared.file.VarHead.{VarHead}
+use Rattle.xr_files.specs.Files.{is_record_var, head_size, record_vars}
 use Rattle.cdf_reader.specs.Sizes.{record_sizes}
 
 -- the variables from a place on: its own first

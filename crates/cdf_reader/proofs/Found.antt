@@ -1,9 +1,9 @@
 -- The answer of the walk, as the relations say it.
 use Rattle.std.proofs.Common.{ℕ, List, Result, Ok, Err, IfOk}
-use Rattle.xr_defs.specs.declared.file.CdfFile.{CdfFile}
-use Rattle.xr_defs.specs.Files.{file_in, Spells, Meets}
-use Rattle.xr_defs.proofs.FormatLaws.{IsBytes}
-use Rattle.xr_defs.proofs.FileLaws.{given_is_spelled, given_is_met}
+use Rattle.xr_files.specs.declared.file.CdfFile.{CdfFile}
+use Rattle.xr_files.specs.Files.{file_in, Spells, Meets}
+use Rattle.xr_files.proofs.FormatLaws.{IsBytes}
+use Rattle.xr_files.proofs.FileLaws.{given_is_spelled, given_is_met}
 use Rattle.cdf_reader.specs.declared.fault.CdfFault.{CdfFault}
 use Rattle.cdf_reader.specs.declared.fault.CdfFault.TheVariants.{At, NoMemory}
 use Rattle.cdf_reader.specs.Answers.{Answers, IfAt}

@@ -1,7 +1,7 @@
 -- Reading entries one after the other, as a loop does.
 use Rattle.std.proofs.Common.{◌≡◌, ℕ, suc, ◌-◌, ◌+◌, ◌≤◌, ◌<◌, List, [], ◌∷◌, ◌++◌, Result, Ok, Err, refl, sym, ◌∙◌, arith}
-use Rattle.xr_defs.specs.declared.stop.Stop.{Stop}
-use Rattle.xr_defs.specs.Format.{Format, each}
+use Rattle.xr_files.specs.declared.stop.Stop.{Stop}
+use Rattle.xr_files.specs.Format.{Format, each}
 use Rattle.cdf_reader.specs.declared.fault.WalkFault.{WalkFault}
 use Rattle.cdf_reader.specs.declared.fault.WalkFault.TheVariants as walk
 use Rattle.cdf_reader.specs.Answers.{Fails}

@@ -4,7 +4,7 @@ use Rattle.std.specs.List.{range_with_len, flat_map}
 use Rattle.std.proofs.Math.Nat.{add-zero}
 use Rattle.std.proofs.lemmas.List.{nil_from_length, take_all, append-nil}
 use Rattle.std.proofs.lemmas.Grind.{flat_map-append}
-use Rattle.xr_defs.specs.Files.{most_bytes}
+use Rattle.xr_files.specs.Files.{most_bytes}
 use Rattle.cdf_reader.specs.Sizes.{capped, pieces}
 use Rattle.cdf_reader.proofs.Capped.{ordered, mul_right}
 

@@ -2,10 +2,10 @@
 use Rattle.std.proofs.Common.{◌≡◌, ℕ, List, map, drop, Some, Result, Ok, Err, IfOk, refl, sym, ap, subst}
 use Rattle.std.proofs.lemmas.Result.{IfOk-weaker}
 use Rattle.xr_types.specs.declared.fault.CdfKind.{CdfKind}
-use Rattle.xr_defs.specs.declared.file.CdfFile.{CdfFile}
-use Rattle.xr_defs.specs.declared.file.CdfVar.{CdfVar}
-use Rattle.xr_defs.specs.Classic.{Header, header}
-use Rattle.xr_defs.specs.Files.{version_in}
+use Rattle.xr_files.specs.declared.file.CdfFile.{CdfFile}
+use Rattle.xr_files.specs.declared.file.CdfVar.{CdfVar}
+use Rattle.xr_files.specs.Classic.{Header, header}
+use Rattle.xr_files.specs.Files.{version_in}
 use Rattle.cdf_reader.specs.declared.heads.FileHead.{FileHead}
 use Rattle.cdf_reader.specs.declared.fault.CdfFault.{CdfFault}
 use Rattle.cdf_reader.specs.declared.fault.CdfFault.TheVariants.{At, NoMemory}

@@ -1,8 +1,8 @@
 -- What reading a file, and each step of it, answers.
 use Rattle.std.specs.Prelude.{◌≡◌, ℕ, Result, Ok, Err}
 use Rattle.xr_types.specs.declared.fault.CdfKind.{CdfKind}
-use Rattle.xr_defs.specs.declared.stop.Stop.{Stop}
-use Rattle.xr_defs.specs.declared.file.CdfFile.{CdfFile}
+use Rattle.xr_files.specs.declared.stop.Stop.{Stop}
+use Rattle.xr_files.specs.declared.file.CdfFile.{CdfFile}
 use Rattle.cdf_reader.specs.declared.fault.CdfFault.{CdfFault}
 use Rattle.cdf_reader.specs.declared.fault.CdfFault.TheVariants.{At, NoMemory}
 use Rattle.cdf_reader.specs.declared.fault.WalkFault.{WalkFault}

@@ -1,6 +1,6 @@
 -- The least of some numbers as the code keeps it.
 use Rattle.std.specs.Prelude.{◌≡◌, ℕ, List, [], ◌∷◌, Option, Some, None}
-use Rattle.xr_defs.specs.Files.{least}
+use Rattle.xr_files.specs.Files.{least}
 use Rattle.cdf_reader.specs.declared.records.Fewest.{Fewest}
 
 abbrev pub leasts : List ℕ → Option ℕ

@@ -1,11 +1,11 @@
 -- A file without its values, and the file that it stands for over the bytes.
 use Rattle.std.specs.Prelude.{◌≡◌, ℕ, List, length, map, drop, Some, Result, Ok, Err}
 use Rattle.xr_types.specs.declared.fault.CdfKind.{CdfKind}
-use Rattle.xr_defs.specs.declared.file.VarHead.{VarHead}
-use Rattle.xr_defs.specs.declared.file.CdfVar.{CdfVar}
-use Rattle.xr_defs.specs.declared.file.CdfFile.{CdfFile}
-use Rattle.xr_defs.specs.Classic.{Header, header}
-use Rattle.xr_defs.specs.Files.{version_in, records_of, var_of}
+use Rattle.xr_files.specs.declared.file.VarHead.{VarHead}
+use Rattle.xr_files.specs.declared.file.CdfVar.{CdfVar}
+use Rattle.xr_files.specs.declared.file.CdfFile.{CdfFile}
+use Rattle.xr_files.specs.Classic.{Header, header}
+use Rattle.xr_files.specs.Files.{version_in, records_of, var_of}
 use Rattle.cdf_reader.specs.declared.heads.FileHead.{FileHead}
 use Rattle.cdf_reader.specs.declared.fault.CdfFault.{CdfFault}
 use Rattle.cdf_reader.specs.declared.fault.CdfFault.TheVariants.{At, NoMemory}

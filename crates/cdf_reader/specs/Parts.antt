@@ -1,5 +1,5 @@
 -- The parts of a header as the code keeps them.
-use Rattle.xr_defs.specs.Classic.{Header}
+use Rattle.xr_files.specs.Classic.{Header}
 use Rattle.cdf_reader.specs.declared.variables.HeaderParts.{HeaderParts}
 
 abbrev pub header_of : HeaderParts → Header

@@ -1,9 +1,9 @@
 -- Sizes as the code keeps them: numbers without limit, cut off at the greatest of 64 bits, which is far beyond a file's bytes.
 use Rattle.std.specs.Prelude.{◌+◌, ◌*◌, ℕ, List, map, flat_map, take, drop, min}
 use Rattle.std.specs.List.{range_with_len}
-use Rattle.xr_defs.specs.declared.file.CdfDim.{CdfDim}
-use Rattle.xr_defs.specs.declared.file.VarHead.{VarHead}
-use Rattle.xr_defs.specs.Files.{head_size, record_vars, sizes_together}
+use Rattle.xr_files.specs.declared.file.CdfDim.{CdfDim}
+use Rattle.xr_files.specs.declared.file.VarHead.{VarHead}
+use Rattle.xr_files.specs.Files.{head_size, record_vars, sizes_together}
 
 abbrev pub capped : ℕ → ℕ
 capped n = min n 18446744073709551615

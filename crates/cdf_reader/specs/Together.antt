@@ -1,6 +1,6 @@
 -- The sizes of record variables as the code puts them together.
 use Rattle.std.specs.Prelude.{◌≡◌, ℕ, List, length, map, sum, get_or, min}
-use Rattle.xr_defs.specs.Files.{padded}
+use Rattle.xr_files.specs.Files.{padded}
 use Rattle.cdf_reader.specs.Sizes.{capped}
 use Rattle.cdf_reader.specs.declared.sizes.Together.{Together}
 

@@ -1,6 +1,5 @@
 //! The whole numbers of a variable, as cells.
-use xr_defs::Cells;
-
+use xr_arrays::Cells;
 /// The values of a variable, as cells of its type.
 #[derive(Drop)]
 pub struct Numbers {

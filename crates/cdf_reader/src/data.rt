@@ -1,16 +1,15 @@
 //! The values of variables, behind the header.
 ghost use Rattle.std.specs.Prelude.{◌≡◌, ◌<◌, ◌≤◌, ◌+◌, ◌*◌, ◌^◌, [], ℕ, List, length, map, take, drop, IfOk};
 ghost use Rattle.std.specs.List.{list_all};
-ghost use Rattle.xr_defs.specs.declared.file.VarHead.{VarHead};
-ghost use Rattle.xr_defs.specs.Classic.{Header};
-ghost use Rattle.xr_defs.specs.Files.{most_bytes, head_size, recsize, end_of, is_inside, raw_of, var_of};
+ghost use Rattle.xr_files.specs.declared.file.VarHead.{VarHead};
+ghost use Rattle.xr_files.specs.Classic.{Header};
+ghost use Rattle.xr_files.specs.Files.{most_bytes, head_size, recsize, end_of, is_inside, raw_of, var_of};
 ghost use Rattle.cdf_reader.specs.Sizes.{capped, pieces};
 
 use crate::sizes::{cells_of, head_size_of, is_record};
 use bytes::Bytes;
 use std::alloc::{AllocError, Global};
-use xr_defs::{CdfDim, CdfVar, VarHead};
-
+use xr_files::{CdfDim, CdfVar, VarHead};
 /// Where values stand: the dimensions, how many records there are, and how far they lie apart.
 #[derive(Clone, Copy)]
 pub(crate) struct Places<'a> {

@@ -1,13 +1,13 @@
 //! The whole numbers of a variable.
 ghost use Rattle.std.specs.Prelude.{◌≡◌, ◌%◌, length, IfOk, true};
-ghost use Rattle.xr_defs.specs.Arrays.{kind_of, wide};
-ghost use Rattle.xr_defs.specs.Classic.{width};
-ghost use Rattle.xr_defs.specs.Numbers.{is_whole, cells_kind, numbers_of};
+ghost use Rattle.xr_arrays.specs.Arrays.{kind_of, wide};
+ghost use Rattle.xr_types.specs.Widths.{width};
+ghost use Rattle.xr_arrays.specs.Numbers.{is_whole, cells_kind, numbers_of};
 
 use crate::cells::Numbers;
 use std::alloc::Global;
 use stored_cells::decoded_cells;
-use xr_defs::CdfVar;
+use xr_files::CdfVar;
 use xr_types::NoMemory;
 
 /// The values of a variable of a whole-number type.

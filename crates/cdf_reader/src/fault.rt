@@ -4,7 +4,7 @@ ghost use Rattle.cdf_reader.specs.declared.fault.CdfFault.TheVariants as faults;
 ghost use Rattle.cdf_reader.specs.declared.fault.WalkFault.TheVariants as walk;
 
 use std::alloc::{AllocError, AllocFailed};
-use xr_defs::Stop;
+use xr_files::Stop;
 use xr_types::{CdfKind, NoMemory};
 
 /// Why bytes gave no file.

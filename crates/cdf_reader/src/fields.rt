@@ -2,11 +2,12 @@
 ghost use Rattle.std.specs.Prelude.{◌≡◌, ◌*◌, ◌<◌, ◌^◌, length, MatchOption, true, false};
 ghost use Rattle.std.specs.Str.{is_utf8};
 ghost use Rattle.std.specs.Int.{w64};
-ghost use Rattle.xr_defs.specs.Format.{chars, number};
-ghost use Rattle.xr_defs.specs.Classic.{word, place_width, padding, is_name, name, nc_type, is_type, type_of, width};
+ghost use Rattle.xr_files.specs.Format.{chars, number};
+ghost use Rattle.xr_types.specs.Widths.{width};
+ghost use Rattle.xr_files.specs.Classic.{word, place_width, padding, is_name, name, nc_type, is_type, type_of};
 ghost use Rattle.cdf_reader.specs.Answers.{Reads};
 
-use xr_defs::Stop;
+use xr_files::Stop;
 use xr_types::{CdfKind, NcType};
 
 const CUT_HEADER: Stop = Stop {
@@ -87,7 +88,7 @@ fn name_of(text: &[u8]) -> Option<&str>
 }
 
 /// A name, and its padding.
-#[tactic(auto, unfolding(xr_defs::specs::Classic::name))]
+#[tactic(auto, unfolding(xr_files::specs::Classic::name))]
 pub(crate) fn name_at(bytes: &[u8]) -> Result<(&str, &[u8]), Stop>
     ensures { Reads (λ x. (x.0.now, x.1.now)) result (name.reads bytes.now) }
 {
@@ -119,7 +120,7 @@ fn type_of_number(n: u32) -> Option<NcType>
 }
 
 /// A type.
-#[tactic(auto, unfolding(xr_defs::specs::Classic::nc_type))]
+#[tactic(auto, unfolding(xr_files::specs::Classic::nc_type))]
 pub(crate) fn type_at(bytes: &[u8]) -> Result<(NcType, &[u8]), Stop>
     ensures { Reads (λ x. (x.0, x.1.now)) result (nc_type.reads bytes.now) }
 {

@@ -1,13 +1,13 @@
 //! A file without its values.
 ghost use Rattle.std.specs.Prelude.{◌≡◌, ◌≤◌, length, take, drop, false, IfOk};
-ghost use Rattle.xr_defs.specs.Files.{most_bytes, head_size, is_record_var};
+ghost use Rattle.xr_files.specs.Files.{most_bytes, head_size, is_record_var};
 ghost use Rattle.cdf_reader.specs.Heads.{var_seen};
 
 use crate::data::{Places, fixed_values, raw_at, shared_fixed};
 use crate::sizes::distance_of;
 use bytes::Bytes;
 use std::alloc::{AllocError, Global};
-use xr_defs::{CdfDim, VarHead};
+use xr_files::{CdfDim, VarHead};
 use xr_types::{Attr, Items};
 
 /// What the header of a file lists. `numrecs` is the number of records; of a streamed file, those that lie in it.

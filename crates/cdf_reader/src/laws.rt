@@ -1,9 +1,9 @@
 //! Laws of reading: that one answer fits, and how many records a streamed file has.
 ghost use Rattle.std.specs.Prelude.{◌≡◌, ◌⊎◌, ◌<◌, ◌≤◌, ℕ, List, [], length, All};
 ghost use Rattle.xr_types.specs.declared.fault.CdfKind.{CdfKind};
-ghost use Rattle.xr_defs.specs.declared.file.CdfFile.{CdfFile};
-ghost use Rattle.xr_defs.specs.Classic.{Header};
-ghost use Rattle.xr_defs.specs.Files.{file_in, Spells, Meets, streaming, record_vars, records_of, RecordsLie};
+ghost use Rattle.xr_files.specs.declared.file.CdfFile.{CdfFile};
+ghost use Rattle.xr_files.specs.Classic.{Header};
+ghost use Rattle.xr_files.specs.Files.{file_in, Spells, Meets, streaming, record_vars, records_of, RecordsLie};
 
 /// Bytes spell one file or meet one fault, and not both: whichever it is, the one function gives it.
 pub fn one_answer()

@@ -3,9 +3,9 @@ ghost use Rattle.std.specs.Prelude.{◌≡◌, ◌==◌, ◌||◌, ◌++◌, ◌
 ghost use Rattle.std.specs.List.{list_any};
 ghost use Rattle.xr_types.specs.declared.fault.CdfKind.TheVariants as kinds;
 ghost use Rattle.xr_types.specs.declared.attr.Attr.{Attr};
-ghost use Rattle.xr_defs.specs.declared.file.CdfDim.{CdfDim};
-ghost use Rattle.xr_defs.specs.Format.{each, rule};
-ghost use Rattle.xr_defs.specs.Classic.{word, list, is_record_dim, is_length, dim_names, dimension, attr_names, values, attribute};
+ghost use Rattle.xr_files.specs.declared.file.CdfDim.{CdfDim};
+ghost use Rattle.xr_files.specs.Format.{each, rule};
+ghost use Rattle.xr_files.specs.Classic.{word, list, is_record_dim, is_length, dim_names, dimension, attr_names, values, attribute};
 ghost use Rattle.cdf_reader.specs.Answers.{Reads, Gives};
 ghost use Rattle.cdf_reader.specs.Names.{Knows};
 
@@ -13,7 +13,7 @@ use crate::fault::WalkFault;
 use crate::fields::{chars_at, padding_of, type_at, width_of, word_at};
 use crate::names::{Known, new_name_at, none_known};
 use std::alloc::Global;
-use xr_defs::{CdfDim, Stop};
+use xr_files::{CdfDim, Stop};
 use xr_types::{Attr, CdfKind, Items, TextBytes};
 
 /// The tag of a list: 0 or the list's own.
@@ -56,7 +56,7 @@ fn is_length_of(seen: &[CdfDim], n: u32) -> bool
     n != 0 || !has_record_dim(seen)
 }
 
-#[tactic(auto, unfolding(xr_defs::specs::Classic::dimension))]
+#[tactic(auto, unfolding(xr_files::specs::Classic::dimension))]
 fn dimension_at<'a>(
     alloc: Global,
     known: &mut Known<'a>,
@@ -80,7 +80,7 @@ fn dimension_at<'a>(
     Ok((CdfDim { name, len }, last))
 }
 
-#[tactic(auto, unfolding(xr_defs::specs::Classic::values))]
+#[tactic(auto, unfolding(xr_files::specs::Classic::values))]
 fn values_at<'a>(alloc: Global, text: &str, bytes: &'a [u8]) -> Result<(Attr, &'a [u8]), WalkFault>
     ensures read { Gives (λ x. (x.0, x.1.now)) result ((values text.now).reads bytes.now) }
     ensures named { IfOk result (λ x. x.0.name ≡ text.now) }
@@ -95,7 +95,7 @@ fn values_at<'a>(alloc: Global, text: &str, bytes: &'a [u8]) -> Result<(Attr, &'
     Ok((Attr { name, kind, raw }, rest))
 }
 
-#[tactic(auto, unfolding(xr_defs::specs::Classic::attribute))]
+#[tactic(auto, unfolding(xr_files::specs::Classic::attribute))]
 fn attribute_at<'a>(
     alloc: Global,
     known: &mut Known<'a>,
@@ -147,7 +147,7 @@ fn attributes_in<'a>(
 }
 
 /// The list of dimensions.
-#[tactic(auto, unfolding(xr_defs::specs::Classic::list))]
+#[tactic(auto, unfolding(xr_files::specs::Classic::list))]
 pub(crate) fn dimensions_at<'a>(
     alloc: Global,
     bytes: &'a [u8],
@@ -160,7 +160,7 @@ pub(crate) fn dimensions_at<'a>(
 }
 
 /// A list of attributes.
-#[tactic(auto, unfolding(xr_defs::specs::Classic::list))]
+#[tactic(auto, unfolding(xr_files::specs::Classic::list))]
 pub(crate) fn attributes_at<'a>(
     alloc: Global,
     bytes: &'a [u8],

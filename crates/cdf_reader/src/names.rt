@@ -1,7 +1,8 @@
 //! Names that may not stand twice in a list.
 ghost use Rattle.std.specs.Prelude.{◌≡◌, ◌++◌, ◌∷◌, [], ℕ, List, not, IfOk, OnOk};
-ghost use Rattle.xr_defs.specs.Format.{Format};
-ghost use Rattle.xr_defs.specs.Classic.{among, new_name};
+ghost use Rattle.xr_files.specs.Format.{Format};
+ghost use Rattle.xr_types.specs.Names.{among};
+ghost use Rattle.xr_files.specs.Classic.{new_name};
 ghost use Rattle.cdf_reader.specs.Answers.{Gives};
 ghost use Rattle.cdf_reader.specs.Names.{Knows};
 
@@ -9,7 +10,7 @@ use crate::fault::WalkFault;
 use crate::fields::name_at;
 use std::alloc::Global;
 use std::collections::BTreeMap;
-use xr_defs::Stop;
+use xr_files::Stop;
 use xr_types::{CdfKind, NoMemory};
 
 /// The names that stand earlier in a list, sorted, so that a long list is walked in nearly linear time.
@@ -32,7 +33,7 @@ fn add<'a>(known: &mut Known<'a>, text: &'a str) -> Result<bool, NoMemory>
 }
 
 /// A name that doesn't stand earlier in its list.
-#[tactic(auto, unfolding(xr_defs::specs::Classic::new_name))]
+#[tactic(auto, unfolding(xr_files::specs::Classic::new_name))]
 pub(crate) fn new_name_at<'a>(
     known: &mut Known<'a>,
     bytes: &'a [u8],

@@ -1,6 +1,6 @@
 //! From bytes to a file.
 ghost use Rattle.std.specs.Prelude.{◌≡◌, ◌≤◌, [], length, drop, MatchOption, IfOk};
-ghost use Rattle.xr_defs.specs.Files.{most_bytes, version_in, filed, file_in, Spells, Meets};
+ghost use Rattle.xr_files.specs.Files.{most_bytes, version_in, filed, file_in, Spells, Meets};
 ghost use Rattle.cdf_reader.specs.Answers.{Answers, IfAt};
 ghost use Rattle.cdf_reader.specs.Heads.{head_of, file_seen, Sees, Lists};
 ghost use Rattle.cdf_reader.specs.Parts.{header_of};
@@ -13,7 +13,7 @@ use crate::sizes::distance_of;
 use crate::values::{are_inside, vars_of};
 use crate::variables::{HeaderParts, header_at};
 use std::alloc::Global;
-use xr_defs::CdfFile;
+use xr_files::CdfFile;
 use xr_types::{CdfKind, MOST_FILE_BYTES, NoMemory};
 
 fn after_magic(bytes: &[u8]) -> Option<(u8, &[u8])>
@@ -53,7 +53,7 @@ fn head_with(version: u8, bytes: &[u8], parts: HeaderParts) -> Result<FileHead, 
 
 /// The file that the bytes spell, without its values, or the fault that a walk from their front meets first, with
 /// its byte. No value is copied.
-#[tactic(auto, unfolding(xr_defs::specs::Files::file_in))]
+#[tactic(auto, unfolding(xr_files::specs::Files::file_in))]
 pub fn read_head(alloc: Global, bytes: &[u8]) -> Result<FileHead, CdfFault>
     ensures exact { Sees bytes.now result (file_in bytes.now) }
     ensures listed { IfOk result (λ h. Lists bytes.now h) }

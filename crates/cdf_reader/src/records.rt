@@ -1,17 +1,16 @@
 //! How many records a file has, and whether its values lie in it.
 ghost use Rattle.std.specs.Prelude.{◌≡◌, ◌≤◌, ◌+◌, [], ◌∷◌, ℕ, List, length, map};
 ghost use Rattle.std.specs.List.{list_all};
-ghost use Rattle.xr_defs.specs.declared.file.VarHead.{VarHead};
-ghost use Rattle.xr_defs.specs.Classic.{Header};
-ghost use Rattle.xr_defs.specs.Files.{most_bytes, head_size, recsize, record_vars, records_in, least, records_of, is_inside, all_inside};
+ghost use Rattle.xr_files.specs.declared.file.VarHead.{VarHead};
+ghost use Rattle.xr_files.specs.Classic.{Header};
+ghost use Rattle.xr_files.specs.Files.{most_bytes, head_size, recsize, record_vars, records_in, least, records_of, is_inside, all_inside};
 ghost use Rattle.cdf_reader.specs.Parts.{header_of};
 ghost use Rattle.cdf_reader.specs.Sizes.{capped};
 ghost use Rattle.cdf_reader.specs.Fewest.{IsLeast};
 
 use crate::sizes::{cells_of, distance_of, head_size_of, is_record};
 use crate::variables::HeaderParts;
-use xr_defs::VarHead;
-
+use xr_files::VarHead;
 /// The number that marks a file whose records nobody counted.
 const STREAMING: u32 = u32::MAX;
 

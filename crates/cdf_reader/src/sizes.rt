@@ -1,15 +1,14 @@
 //! Sizes and places. Sums and products stop at the greatest number of 64 bits, which is far beyond a file's bytes.
 ghost use Rattle.std.specs.Prelude.{◌≡◌, ◌==◌, ◌≤◌, ◌+◌, ◌/◌, [], ◌∷◌, ℕ, List, length, map, sum, get_or, min, nat_lt};
-ghost use Rattle.xr_defs.specs.declared.file.VarHead.{VarHead};
-ghost use Rattle.xr_defs.specs.Points.{size};
-ghost use Rattle.xr_defs.specs.Classic.{dim_at};
-ghost use Rattle.xr_defs.specs.Files.{positions, shape_of, is_record_var, padded, head_size, sizes_together, record_vars};
+ghost use Rattle.xr_files.specs.declared.file.VarHead.{VarHead};
+ghost use Rattle.xr_types.specs.Points.{size};
+ghost use Rattle.xr_files.specs.Classic.{dim_at};
+ghost use Rattle.xr_files.specs.Files.{positions, shape_of, is_record_var, padded, head_size, sizes_together, record_vars};
 ghost use Rattle.cdf_reader.specs.Sizes.{capped, record_sizes, distance};
 ghost use Rattle.cdf_reader.specs.Together.{Sum};
 
 use crate::fields::width_of;
-use xr_defs::{CdfDim, VarHead};
-
+use xr_files::{CdfDim, VarHead};
 fn positions_of(dims: &[CdfDim], numrecs: u64, i: u64) -> u64
     ensures { result ≡ positions numrecs (dim_at dims.now i) }
 {

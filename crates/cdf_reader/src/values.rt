@@ -1,13 +1,13 @@
 //! All variables of a file with their values.
 ghost use Rattle.std.specs.Prelude.{◌≡◌, ◌≤◌, ℕ, List, length, map, IfOk};
 ghost use Rattle.std.specs.List.{list_all};
-ghost use Rattle.xr_defs.specs.Classic.{Header};
-ghost use Rattle.xr_defs.specs.Files.{most_bytes, recsize, is_inside, var_of};
+ghost use Rattle.xr_files.specs.Classic.{Header};
+ghost use Rattle.xr_files.specs.Files.{most_bytes, recsize, is_inside, var_of};
 ghost use Rattle.cdf_reader.specs.Sizes.{capped};
 
 use crate::data::{Places, is_var_inside, raw_at};
 use std::alloc::{AllocError, Global};
-use xr_defs::{CdfVar, VarHead};
+use xr_files::{CdfVar, VarHead};
 use xr_types::{Items, NoMemory};
 
 /// Whether each variable has no cells, or ends within the bytes.

@@ -1,7 +1,7 @@
 //! The variables of a header, and the header.
 ghost use Rattle.std.specs.Prelude.{◌≡◌, ◌++◌, ◌∷◌, [], ℕ, List, length, IfOk};
-ghost use Rattle.xr_defs.specs.Format.{each};
-ghost use Rattle.xr_defs.specs.Classic.{list, is_dim_number, dim_number, var_names, var_head, variable, header};
+ghost use Rattle.xr_files.specs.Format.{each};
+ghost use Rattle.xr_files.specs.Classic.{list, is_dim_number, dim_number, var_names, var_head, variable, header};
 ghost use Rattle.cdf_reader.specs.Answers.{Reads, Gives};
 ghost use Rattle.cdf_reader.specs.Names.{Knows};
 ghost use Rattle.cdf_reader.specs.Parts.{header_of};
@@ -11,7 +11,7 @@ use crate::fields::{place_at, type_at, word_at};
 use crate::lists::{attributes_at, count_at, dimensions_at, tag_at};
 use crate::names::{Known, new_name_at, none_known};
 use std::alloc::Global;
-use xr_defs::{CdfDim, Stop, VarHead};
+use xr_files::{CdfDim, Stop, VarHead};
 use xr_types::{Attr, CdfKind, Items, TextBytes};
 
 /// What stands in a header.
@@ -32,7 +32,7 @@ fn is_number_of(dims: &[CdfDim], place: usize, n: u32) -> bool
     }
 }
 
-#[tactic(auto, unfolding(xr_defs::specs::Classic::dim_number))]
+#[tactic(auto, unfolding(xr_files::specs::Classic::dim_number))]
 fn dim_number_at<'a>(
     dims: &[CdfDim],
     seen: &[u64],
@@ -68,7 +68,7 @@ fn dim_numbers_in<'a>(
     Ok((seen, rest))
 }
 
-#[tactic(auto, unfolding(xr_defs::specs::Classic::var_head))]
+#[tactic(auto, unfolding(xr_files::specs::Classic::var_head))]
 fn var_head_at<'a>(
     alloc: Global,
     version: u8,
@@ -96,7 +96,7 @@ fn var_head_at<'a>(
     Ok((head, rest))
 }
 
-#[tactic(auto, unfolding(xr_defs::specs::Classic::variable))]
+#[tactic(auto, unfolding(xr_files::specs::Classic::variable))]
 fn variable_at<'a>(
     alloc: Global,
     version: u8,
@@ -133,7 +133,7 @@ fn variables_in<'a>(
     Ok((seen, rest))
 }
 
-#[tactic(auto, unfolding(xr_defs::specs::Classic::list))]
+#[tactic(auto, unfolding(xr_files::specs::Classic::list))]
 fn variables_at<'a>(
     alloc: Global,
     version: u8,
@@ -148,7 +148,7 @@ fn variables_at<'a>(
 }
 
 /// The header behind the magic.
-#[tactic(auto, unfolding(xr_defs::specs::Classic::header))]
+#[tactic(auto, unfolding(xr_files::specs::Classic::header))]
 pub(crate) fn header_at<'a>(
     alloc: Global,
     version: u8,

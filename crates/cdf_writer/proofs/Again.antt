@@ -3,11 +3,11 @@ use Rattle.std.proofs.Common.{◌≡◌, ℕ, ◌+◌, ◌*◌, ◌<◌, true, f
 use Rattle.std.proofs.lemmas.Bool.{and_parts, leb-true, ne_eqb}
 use Rattle.std.proofs.lemmas.List.{append-nil}
 use Rattle.std.specs.List.{AllByRecursion, flat_map, list_all, range_with_len}
-use Rattle.xr_defs.specs.declared.file.CdfVar.{CdfVar}
-use Rattle.xr_defs.specs.declared.file.CdfFile.{CdfFile}
-use Rattle.xr_defs.specs.Files.{Spells, is_inside, least, most_bytes, records_in, records_of, streaming, var_of}
-use Rattle.xr_defs.specs.Files.{record_vars as head_record_vars}
-use Rattle.xr_defs.specs.Canonical.{IsFile, can_hold, canonical, canonical_size, fixed_size, fixed_vars, header_size, header_text, is_small, placed, record_text, record_vars, recsize, values_text, with_filling}
+use Rattle.xr_files.specs.declared.file.CdfVar.{CdfVar}
+use Rattle.xr_files.specs.declared.file.CdfFile.{CdfFile}
+use Rattle.xr_files.specs.Files.{Spells, is_inside, least, most_bytes, records_in, records_of, streaming, var_of}
+use Rattle.xr_files.specs.Files.{record_vars as head_record_vars}
+use Rattle.xr_files.specs.Canonical.{IsFile, can_hold, canonical, canonical_size, fixed_size, fixed_vars, header_size, header_text, is_small, placed, record_text, record_vars, recsize, values_text, with_filling}
 use Rattle.cdf_writer.proofs.Heads.{behind_magic, head_of, header_of, header_spelled, heads}
 use Rattle.cdf_writer.proofs.Held.{IsHeld, held}
 use Rattle.cdf_writer.proofs.Places.{placed_vars}

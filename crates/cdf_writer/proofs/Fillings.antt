@@ -8,12 +8,13 @@ use Rattle.std.specs.Prelude.{codes}
 use Rattle.xr_types.specs.declared.attr.Attr.{Attr}
 use Rattle.xr_types.specs.declared.attr.NcType.{NcType}
 use Rattle.xr_types.specs.declared.attr.NcType.TheVariants.{Byte, Char, Short, Int, Float, Double}
-use Rattle.xr_defs.specs.declared.file.CdfVar.{CdfVar}
-use Rattle.xr_defs.specs.declared.file.CdfFile.{CdfFile}
-use Rattle.xr_defs.specs.Points.{size}
-use Rattle.xr_defs.specs.Classic.{number_of, padding, width}
-use Rattle.xr_defs.specs.Files.{padded, shape_of}
-use Rattle.xr_defs.specs.Canonical.{default_fill, fill_of, filling, is_own_fill, is_record, record_vars, room, slab, with_filling}
+use Rattle.xr_files.specs.declared.file.CdfVar.{CdfVar}
+use Rattle.xr_files.specs.declared.file.CdfFile.{CdfFile}
+use Rattle.xr_types.specs.Points.{size}
+use Rattle.xr_types.specs.Widths.{width}
+use Rattle.xr_files.specs.Classic.{number_of, padding}
+use Rattle.xr_files.specs.Files.{padded, shape_of}
+use Rattle.xr_files.specs.Canonical.{default_fill, fill_of, filling, is_own_fill, is_record, record_vars, room, slab, with_filling}
 
 -- three times the fill make up any padding behind whole values of the type
 enough : NcType → List ℕ → Type 0

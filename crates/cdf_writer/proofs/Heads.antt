@@ -4,14 +4,17 @@ use Rattle.std.proofs.lemmas.Bool.{and_parts, leb-true, lt-ltb, ne_eqb}
 use Rattle.std.proofs.lemmas.List.{map_push, length-append}
 use Rattle.std.specs.Int.{w32, w64, to_be_bytes}
 use Rattle.std.specs.List.{AllByRecursion, flat_map, list_all}
-use Rattle.xr_defs.specs.declared.file.CdfDim.{CdfDim}
-use Rattle.xr_defs.specs.declared.file.CdfVar.{CdfVar}
-use Rattle.xr_defs.specs.declared.file.CdfFile.{CdfFile}
-use Rattle.xr_defs.specs.declared.file.VarHead.{VarHead}
-use Rattle.xr_defs.specs.Format.{number}
-use Rattle.xr_defs.specs.Classic.{Header, header, list, dimension, new_name, dim_number, is_record_dim, dim_at, var_names, var_head, variable, number_of, width, place_width, among}
-use Rattle.xr_defs.specs.Files.{padded, var_size}
-use Rattle.xr_defs.specs.Canonical.{IsFile, are_distinct, attr_text, can_hold, count_record_dims, dim_text, in_place, list_text, name_text, number_text, placed, header_size, fixed_size, is_small, var_text}
+use Rattle.xr_files.specs.declared.file.CdfDim.{CdfDim}
+use Rattle.xr_files.specs.declared.file.CdfVar.{CdfVar}
+use Rattle.xr_files.specs.declared.file.CdfFile.{CdfFile}
+use Rattle.xr_files.specs.declared.file.VarHead.{VarHead}
+use Rattle.xr_files.specs.Format.{number}
+use Rattle.xr_types.specs.Names.{among}
+use Rattle.xr_types.specs.Widths.{width}
+use Rattle.xr_files.specs.Classic.{Header, header, list, dimension, new_name, dim_number, is_record_dim, dim_at, var_names, var_head, variable, number_of, place_width}
+use Rattle.xr_files.specs.Files.{padded, var_size}
+use Rattle.xr_types.specs.Names.{are_distinct}
+use Rattle.xr_files.specs.Canonical.{IsFile, attr_text, can_hold, count_record_dims, dim_text, in_place, list_text, name_text, number_text, placed, header_size, fixed_size, is_small, var_text}
 use Rattle.cdf_writer.proofs.Distinct.{AreNew, nothing_seen, seen_more}
 use Rattle.cdf_writer.proofs.Each.{map_count}
 use Rattle.cdf_writer.proofs.Held.{IsHeld, held}

@@ -3,14 +3,15 @@ use Rattle.std.proofs.Common.{◌≡◌, ℕ, ◌*◌, ◌<◌, Bool, true, fals
 use Rattle.std.proofs.lemmas.Bool.{and_parts}
 use Rattle.std.proofs.Math.Nat.{mul_assoc, one-mul}
 use Rattle.std.specs.List.{AllByRecursion, list_all}
-use Rattle.xr_defs.specs.declared.file.CdfDim.{CdfDim}
-use Rattle.xr_defs.specs.declared.file.CdfVar.{CdfVar}
-use Rattle.xr_defs.specs.declared.file.CdfFile.{CdfFile}
-use Rattle.xr_defs.specs.Points.{size}
-use Rattle.xr_defs.specs.Classic.{dim_at, is_record_dim, width}
-use Rattle.xr_defs.specs.Files.{positions, shape_of, is_record_var}
+use Rattle.xr_files.specs.declared.file.CdfDim.{CdfDim}
+use Rattle.xr_files.specs.declared.file.CdfVar.{CdfVar}
+use Rattle.xr_files.specs.declared.file.CdfFile.{CdfFile}
+use Rattle.xr_types.specs.Points.{size}
+use Rattle.xr_types.specs.Widths.{width}
+use Rattle.xr_files.specs.Classic.{dim_at, is_record_dim}
+use Rattle.xr_files.specs.Files.{positions, shape_of, is_record_var}
 use Rattle.cdf_writer.proofs.Each.{each_at}
-use Rattle.xr_defs.specs.Canonical.{IsFile, IsVar, can_hold, in_place, is_record, slab}
+use Rattle.xr_files.specs.Canonical.{IsFile, IsVar, can_hold, in_place, is_record, slab}
 
 pub record IsHeld (f : CdfFile) (v : CdfVar) : Type 0 where
   pub var : IsVar f v

@@ -3,9 +3,9 @@ use Rattle.std.proofs.Common.{◌≡◌, ℕ, zero, suc, ◌+◌, ◌*◌, ◌<�
 use Rattle.std.proofs.lemmas.Bool.{cases_Bool}
 use Rattle.std.proofs.lemmas.List.{append-nil, nil_from_length}
 use Rattle.std.specs.List.{AllByRecursion, filter, flat_map, range_with_len}
-use Rattle.xr_defs.specs.declared.file.CdfVar.{CdfVar}
-use Rattle.xr_defs.specs.declared.file.CdfFile.{CdfFile}
-use Rattle.xr_defs.specs.Canonical.{IsFile, can_hold, filling, is_record, record_text, record_vars, slab}
+use Rattle.xr_files.specs.declared.file.CdfVar.{CdfVar}
+use Rattle.xr_files.specs.declared.file.CdfFile.{CdfFile}
+use Rattle.xr_files.specs.Canonical.{IsFile, can_hold, filling, is_record, record_text, record_vars, slab}
 use Rattle.cdf_writer.proofs.Each.{each_at, map_count}
 use Rattle.cdf_writer.proofs.Fillings.{filled, lone_gap}
 use Rattle.cdf_writer.proofs.Held.{IsHeld, held, record_length}

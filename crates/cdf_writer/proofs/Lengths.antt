@@ -6,11 +6,11 @@ use Rattle.std.proofs.lemmas.List.Concat.{length-flat_map}
 use Rattle.std.proofs.lemmas.List.Sums.{sum_by_more}
 use Rattle.std.specs.List.{flat_map}
 use Rattle.std.specs.Int.{to_be_bytes, w32, w64}
-use Rattle.xr_defs.specs.declared.file.CdfDim.{CdfDim}
-use Rattle.xr_defs.specs.declared.file.CdfVar.{CdfVar}
-use Rattle.xr_defs.specs.Classic.{padding, place_width}
-use Rattle.xr_defs.specs.Files.{padded}
-use Rattle.xr_defs.specs.Canonical.{name_text, attr_text, var_text, list_text, number_text, zeros}
+use Rattle.xr_files.specs.declared.file.CdfDim.{CdfDim}
+use Rattle.xr_files.specs.declared.file.CdfVar.{CdfVar}
+use Rattle.xr_files.specs.Classic.{padding, place_width}
+use Rattle.xr_files.specs.Files.{padded}
+use Rattle.xr_files.specs.Canonical.{name_text, attr_text, var_text, list_text, number_text, zeros}
 use Rattle.cdf_writer.specs.Sizes.{list_front, place_bytes}
 
 pub name_length : (t : List ℕ) → length (name_text t) ≡ 4 + padded (length t)

@@ -4,11 +4,11 @@ use Rattle.std.proofs.lemmas.Bool.{and_parts, leb-true}
 use Rattle.std.proofs.lemmas.List.{at_drop_more, get_or-map}
 use Rattle.std.proofs.lemmas.List.Sums.{sum_by-cons}
 use Rattle.std.specs.List.{AllByRecursion, filter}
-use Rattle.xr_defs.specs.declared.file.CdfVar.{CdfVar}
-use Rattle.xr_defs.specs.declared.file.CdfFile.{CdfFile}
+use Rattle.xr_files.specs.declared.file.CdfVar.{CdfVar}
+use Rattle.xr_files.specs.declared.file.CdfFile.{CdfFile}
 use Rattle.cdf_writer.proofs.Each.{map_count}
-use Rattle.xr_defs.specs.Files.{most_bytes, padded}
-use Rattle.xr_defs.specs.Canonical.{canonical_size, fixed_size, header_size, is_record, is_small, placed, placed_from, record_vars, recsize, room, slab}
+use Rattle.xr_files.specs.Files.{most_bytes, padded}
+use Rattle.xr_files.specs.Canonical.{canonical_size, fixed_size, header_size, is_record, is_small, placed, placed_from, record_vars, recsize, room, slab}
 
 abbrev pub places : CdfFile → List CdfVar → ℕ → ℕ → List ℕ
 places f vs a b = map (λ x. x.1) (placed_from f vs a b)

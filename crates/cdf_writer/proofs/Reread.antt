@@ -3,13 +3,13 @@ use Rattle.std.proofs.Common.{◌≡◌, ℕ, ◌+◌, ◌*◌, ◌-◌, ◌<◌
 use Rattle.std.proofs.lemmas.Bool.{cases_Bool, cases_lt, eq-eqb, le-leb, ne_eqb}
 use Rattle.std.proofs.lemmas.List.{length-append}
 use Rattle.std.specs.List.{AllByRecursion, filter, flat_map, range_with_len}
-use Rattle.xr_defs.specs.declared.file.CdfDim.{CdfDim}
-use Rattle.xr_defs.specs.declared.file.CdfVar.{CdfVar}
-use Rattle.xr_defs.specs.declared.file.CdfFile.{CdfFile}
-use Rattle.xr_defs.specs.Points.{size}
-use Rattle.xr_defs.specs.Files.{end_of, head_size, is_inside, is_record_var, padded, raw_of, shape_of, sizes_together, var_of}
-use Rattle.xr_defs.specs.Files.{recsize as head_recsize, record_vars as head_record_vars}
-use Rattle.xr_defs.specs.Canonical.{fixed_size, header_size, is_record, placed, placed_from, record_text, record_vars, recsize, room, slab, with_filling, filling}
+use Rattle.xr_files.specs.declared.file.CdfDim.{CdfDim}
+use Rattle.xr_files.specs.declared.file.CdfVar.{CdfVar}
+use Rattle.xr_files.specs.declared.file.CdfFile.{CdfFile}
+use Rattle.xr_types.specs.Points.{size}
+use Rattle.xr_files.specs.Files.{end_of, head_size, is_inside, is_record_var, padded, raw_of, shape_of, sizes_together, var_of}
+use Rattle.xr_files.specs.Files.{recsize as head_recsize, record_vars as head_record_vars}
+use Rattle.xr_files.specs.Canonical.{fixed_size, header_size, is_record, placed, placed_from, record_text, record_vars, recsize, room, slab, with_filling, filling}
 use Rattle.cdf_writer.proofs.Fillings.{filled, filled_length, gap}
 use Rattle.cdf_writer.proofs.Heads.{head_of, header_of}
 use Rattle.cdf_writer.proofs.Held.{IsHeld, fixed_length, record_length, record_points}

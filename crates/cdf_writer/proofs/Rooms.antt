@@ -7,10 +7,10 @@ use Rattle.std.proofs.lemmas.List.Sums.{sum_by-append, sum_by-cons}
 use Rattle.std.proofs.lemmas.Nat.{mul-le}
 use Rattle.std.proofs.Math.Nat.{mul_assoc}
 use Rattle.std.specs.List.{filter}
-use Rattle.xr_defs.specs.declared.file.CdfDim.{CdfDim}
-use Rattle.xr_defs.specs.Points.{size}
-use Rattle.xr_defs.specs.Classic.{dim_at, no_dim}
-use Rattle.xr_defs.specs.Files.{positions, shape_of}
+use Rattle.xr_files.specs.declared.file.CdfDim.{CdfDim}
+use Rattle.xr_types.specs.Points.{size}
+use Rattle.xr_files.specs.Classic.{dim_at, no_dim}
+use Rattle.xr_files.specs.Files.{positions, shape_of}
 use Rattle.cdf_writer.specs.Sizes.{capped}
 
 large : (a b : ℕ) → 2 ^ 64 - 1 ≤ a → capped ((2 ^ 64 - 1) * suc b) ≡ capped (a * suc b)

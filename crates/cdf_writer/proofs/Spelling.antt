@@ -7,10 +7,13 @@ use Rattle.std.specs.List.{AllByRecursion, filter, flat_map, list_any}
 use Rattle.xr_types.specs.declared.attr.Attr.{Attr}
 use Rattle.xr_types.specs.declared.attr.NcType.{NcType}
 use Rattle.xr_types.specs.declared.attr.NcType.TheVariants.{Byte, Char, Short, Int, Float, Double}
-use Rattle.xr_defs.specs.declared.file.CdfDim.{CdfDim}
-use Rattle.xr_defs.specs.Format.{Format, each}
-use Rattle.xr_defs.specs.Classic.{word, name, new_name, nc_type, list, dimension, values, attribute, is_record_dim, is_length, dim_names, attr_names, number_of, width, padding, among}
-use Rattle.xr_defs.specs.Canonical.{IsName, IsDim, IsAttr, AreAttrs, are_distinct, attr_text, count_record_dims, dim_text, list_text, name_text, number_text, zeros}
+use Rattle.xr_files.specs.declared.file.CdfDim.{CdfDim}
+use Rattle.xr_files.specs.Format.{Format, each}
+use Rattle.xr_types.specs.Names.{among}
+use Rattle.xr_types.specs.Widths.{width}
+use Rattle.xr_files.specs.Classic.{word, name, new_name, nc_type, list, dimension, values, attribute, is_record_dim, is_length, dim_names, attr_names, number_of, padding}
+use Rattle.xr_types.specs.Names.{are_distinct}
+use Rattle.xr_files.specs.Canonical.{IsName, IsDim, IsAttr, AreAttrs, attr_text, count_record_dims, dim_text, list_text, name_text, number_text, zeros}
 use Rattle.cdf_writer.proofs.Distinct.{AreNew, nothing_seen, seen_more, none_of_none}
 
 pub number_spelled : (n : ℕ) → n < 2 ^ 32 → word.spells n (number_text n)

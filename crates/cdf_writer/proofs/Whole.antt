@@ -5,10 +5,10 @@ use Rattle.std.proofs.lemmas.List.{length-append, length-take-le, length-drop}
 use Rattle.std.proofs.lemmas.List.Sums.{sum_by-cons}
 use Rattle.std.proofs.lemmas.Nat.{mul-le}
 use Rattle.std.specs.List.{AllByRecursion, filter, flat_map, range_with_len}
-use Rattle.xr_defs.specs.declared.file.CdfVar.{CdfVar}
-use Rattle.xr_defs.specs.declared.file.CdfFile.{CdfFile}
-use Rattle.xr_defs.specs.Canonical.{IsFile, attr_text, can_hold, canonical, canonical_size, dim_text, fixed_size, fixed_vars, header_size, header_text, is_record, list_text, number_text, placed, placed_from, recsize, record_text, record_vars, room, slab, var_text, with_filling}
-use Rattle.xr_defs.specs.Files.{magic}
+use Rattle.xr_files.specs.declared.file.CdfVar.{CdfVar}
+use Rattle.xr_files.specs.declared.file.CdfFile.{CdfFile}
+use Rattle.xr_files.specs.Canonical.{IsFile, attr_text, can_hold, canonical, canonical_size, dim_text, fixed_size, fixed_vars, header_size, header_text, is_record, list_text, number_text, placed, placed_from, recsize, record_text, record_vars, room, slab, var_text, with_filling}
+use Rattle.xr_files.specs.Files.{magic}
 use Rattle.cdf_writer.proofs.Lengths.{list_length, var_length}
 use Rattle.cdf_writer.proofs.Held.{IsHeld, held, fixed_length, not_true, record_length}
 use Rattle.cdf_writer.proofs.Fillings.{filled_length}

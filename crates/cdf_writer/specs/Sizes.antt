@@ -1,6 +1,6 @@
 -- Sizes in 64 bits, and the front of a list in the header.
 use Rattle.std.specs.Prelude.{ℕ, ◌-◌, ◌^◌, ◌++◌, ◌==◌, if◌then◌else◌, List, min}
-use Rattle.xr_defs.specs.Canonical.{number_text}
+use Rattle.xr_files.specs.Canonical.{number_text}
 
 -- the greatest number of 64 bits stands for all that are larger
 abbrev pub capped : ℕ → ℕ

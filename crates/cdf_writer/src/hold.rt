@@ -1,11 +1,10 @@
 //! Whether a version can hold a file: it has one record dimension at most, and that stands first only.
 ghost use Rattle.std.specs.Prelude.{◌≡◌, ◌<◌, length, not};
 ghost use Rattle.std.specs.List.{list_all, AllByRecursion};
-ghost use Rattle.xr_defs.specs.Classic.{dim_at, is_record_dim};
-ghost use Rattle.xr_defs.specs.Canonical.{IsFile, IsVar, can_hold, count_record_dims, in_place};
+ghost use Rattle.xr_files.specs.Classic.{dim_at, is_record_dim};
+ghost use Rattle.xr_files.specs.Canonical.{IsFile, IsVar, can_hold, count_record_dims, in_place};
 
-use xr_defs::{CdfDim, CdfFile, CdfVar};
-
+use xr_files::{CdfDim, CdfFile, CdfVar};
 fn count_record_dims(dims: &[CdfDim]) -> usize
     ensures { result ≡ count_record_dims dims.now }
 {

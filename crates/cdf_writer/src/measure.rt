@@ -1,13 +1,13 @@
 //! Where the parts of a canonical file stand, and which files have one.
 ghost use Rattle.std.specs.Prelude.{◌≡◌, ◌↔◌, ◌==◌, ◌+◌, ◌<◌, ◌^◌, Err, OnOk, IfOk, IfErr, length, map, true, false};
-ghost use Rattle.xr_defs.specs.Canonical.{IsFile, can_hold, canonical, fixed_size, header_size, is_small, placed, placed_from, record_vars, recsize};
+ghost use Rattle.xr_files.specs.Canonical.{IsFile, can_hold, canonical, fixed_size, header_size, is_small, placed, placed_from, record_vars, recsize};
 
 use crate::answer::{Layout, WriteFault};
 use crate::hold::can_hold;
 use crate::room::{fixed_size, has_lone_record, is_record, record_size, room};
 use crate::size::header_size;
 use std::alloc::Global;
-use xr_defs::CdfFile;
+use xr_files::CdfFile;
 use xr_types::{Items, MOST_FILE_BYTES};
 
 // where each variable's values begin: the fixed ones from one place on, the record ones from the other on

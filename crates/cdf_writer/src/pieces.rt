@@ -1,17 +1,16 @@
 //! The bytes of values as pieces: those of fixed variables, and then the records. Values that stand in the file as they do in memory
 //! are shared.
 ghost use Rattle.std.specs.Prelude.{◌≡◌, ◌++◌, length, flat_map, true, OnOk, IfOk};
-ghost use Rattle.xr_defs.specs.Classic.{padding};
+ghost use Rattle.xr_files.specs.Classic.{padding};
 ghost use Rattle.std.specs.List.{range_with_len};
-ghost use Rattle.xr_defs.specs.Canonical.{IsFile, can_hold, filling, fixed_vars, record_text, record_vars, values_text, with_filling};
+ghost use Rattle.xr_files.specs.Canonical.{IsFile, can_hold, filling, fixed_vars, record_text, record_vars, values_text, with_filling};
 
 use crate::room::is_record;
 use crate::size::padding;
 use crate::values::{put_each_record, put_filling, record_vars};
 use bytes::{Bytes, BytesQueue};
 use std::alloc::{AllocError, Global};
-use xr_defs::{CdfFile, CdfVar};
-
+use xr_files::{CdfFile, CdfVar};
 fn filling_piece(alloc: Global, var: &CdfVar, n: usize) -> Result<Bytes, AllocError>
     ensures { IfOk result (λ piece. piece ≡ filling var.now n) }
 {

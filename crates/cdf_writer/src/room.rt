@@ -1,13 +1,14 @@
 //! The bytes that variables take among the fixed values and in each record. The greatest number of 64 bits stands
 //! for all that are larger.
 ghost use Rattle.std.specs.Prelude.{◌≡◌, ◌==◌, length};
-ghost use Rattle.xr_defs.specs.Classic.{dim_at, width};
-ghost use Rattle.xr_defs.specs.Files.{positions};
-ghost use Rattle.xr_defs.specs.Canonical.{IsVar, IsFile, fixed_size, is_record, record_vars, recsize, room, slab};
+ghost use Rattle.xr_types.specs.Widths.{width};
+ghost use Rattle.xr_files.specs.Classic.{dim_at};
+ghost use Rattle.xr_files.specs.Files.{positions};
+ghost use Rattle.xr_files.specs.Canonical.{IsVar, IsFile, fixed_size, is_record, record_vars, recsize, room, slab};
 ghost use Rattle.cdf_writer.specs.Sizes.{capped};
 
 use crate::size::padded_size;
-use xr_defs::{CdfDim, CdfFile, CdfVar};
+use xr_files::{CdfDim, CdfFile, CdfVar};
 use xr_types::NcType;
 
 /// Bytes of a value.

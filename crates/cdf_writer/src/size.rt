@@ -1,11 +1,11 @@
 //! How many bytes the parts of a header take. The greatest number of 64 bits stands for all that are larger.
 ghost use Rattle.std.specs.Prelude.{◌≡◌, length, map, flat_map};
-ghost use Rattle.xr_defs.specs.Classic.{padding};
-ghost use Rattle.xr_defs.specs.Files.{padded};
-ghost use Rattle.xr_defs.specs.Canonical.{attr_text, dim_text, header_size, list_text, name_text, var_text};
+ghost use Rattle.xr_files.specs.Classic.{padding};
+ghost use Rattle.xr_files.specs.Files.{padded};
+ghost use Rattle.xr_files.specs.Canonical.{attr_text, dim_text, header_size, list_text, name_text, var_text};
 ghost use Rattle.cdf_writer.specs.Sizes.{capped, place_bytes};
 
-use xr_defs::{CdfDim, CdfFile, CdfVar};
+use xr_files::{CdfDim, CdfFile, CdfVar};
 use xr_types::{Attr, Name};
 
 /// How many bytes fill a text up to a multiple of four.

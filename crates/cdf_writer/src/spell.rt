@@ -1,6 +1,6 @@
 //! The canonical bytes of a file.
 ghost use Rattle.std.specs.Prelude.{◌≡◌, ◌↔◌, ◌++◌, Err, OnOk, IfOk, map, true, false};
-ghost use Rattle.xr_defs.specs.Canonical.{IsFile, can_hold, canonical, header_text, is_small, placed};
+ghost use Rattle.xr_files.specs.Canonical.{IsFile, can_hold, canonical, header_text, is_small, placed};
 
 use crate::answer::{Layout, WriteFault};
 use crate::measure::layout;
@@ -8,8 +8,7 @@ use crate::pieces::push_values;
 use crate::text::put_header;
 use bytes::{Bytes, BytesQueue};
 use std::alloc::{AllocError, Global};
-use xr_defs::CdfFile;
-
+use xr_files::CdfFile;
 // the header of a small file with these places, as one piece
 fn push_header(
     alloc: Global,
@@ -29,7 +28,7 @@ fn push_header(
 
 /// The canonical bytes of a file whose parts fit together, in pieces. Values that stand in the file one behind the other
 /// are shared with it and not copied: those of fixed variables, and those of a variable that alone has records.
-#[tactic(auto, unfolding(xr_defs::specs::Canonical::canonical))]
+#[tactic(auto, unfolding(xr_files::specs::Canonical::canonical))]
 pub fn write_pieces(alloc: Global, file: &CdfFile) -> Result<BytesQueue, WriteFault>
     requires { IsFile file.now }
     ensures bytes { IfOk result (λ pieces. pieces ≡ canonical file.now) }

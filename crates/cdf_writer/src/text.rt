@@ -2,16 +2,16 @@
 ghost use Rattle.std.specs.Prelude.{◌≡◌, ◌<◌, ◌≤◌, ◌+◌, ◌^◌, ◌++◌, length, map, flat_map, true, OnOk, OnErr, IfErr};
 ghost use Rattle.std.specs.Int.{to_be_bytes};
 ghost use Rattle.std.specs.List.{AllByRecursion};
-ghost use Rattle.xr_defs.specs.Classic.{number_of, place_width};
-ghost use Rattle.xr_defs.specs.Files.{padded};
-ghost use Rattle.xr_defs.specs.Canonical.{AreAttrs, IsAttr, IsDim, IsFile, IsName, IsVar, attr_text, dim_text, header_text, is_small, list_text, name_text, number_text, placed, slab, var_text, zeros};
+ghost use Rattle.xr_files.specs.Classic.{number_of, place_width};
+ghost use Rattle.xr_files.specs.Files.{padded};
+ghost use Rattle.xr_files.specs.Canonical.{AreAttrs, IsAttr, IsDim, IsFile, IsName, IsVar, attr_text, dim_text, header_text, is_small, list_text, name_text, number_text, placed, slab, var_text, zeros};
 ghost use Rattle.cdf_writer.specs.Sizes.{list_front};
 
 use crate::answer::WriteFault;
 use crate::room::{slab, width};
 use crate::size::{padded_size, padding};
 use std::alloc::AllocError;
-use xr_defs::{CdfDim, CdfFile, CdfVar};
+use xr_files::{CdfDim, CdfFile, CdfVar};
 use xr_types::{Attr, Name, NcType};
 
 fn put_number(out: &mut Vec<u8>, n: u64) -> Result<(), AllocError>

@@ -1,13 +1,13 @@
 //! The bytes of fillings and of records.
 ghost use Rattle.std.specs.Prelude.{◌≡◌, ◌≢◌, ◌*◌, ◌-◌, ◌<◌, ◌++◌, length, map, flat_map, take, drop, true, OnOk, IfOk};
-ghost use Rattle.xr_defs.specs.Classic.{padding};
+ghost use Rattle.xr_files.specs.Classic.{padding};
 ghost use Rattle.std.specs.List.{range_with_len};
-ghost use Rattle.xr_defs.specs.Canonical.{IsFile, can_hold, default_fill, fill_of, filling, is_own_fill, record_text, record_vars, slab};
+ghost use Rattle.xr_files.specs.Canonical.{IsFile, can_hold, default_fill, fill_of, filling, is_own_fill, record_text, record_vars, slab};
 
 use crate::room::{is_record, width};
 use crate::size::padding;
 use std::alloc::{AllocError, Global};
-use xr_defs::{CdfFile, CdfVar};
+use xr_files::{CdfFile, CdfVar};
 use xr_types::{Attr, NcType};
 
 fn default_fill(kind: NcType) -> &'static [u8]

@@ -8,14 +8,14 @@ use Rattle.std.proofs.lemmas.Bool.{cases_lt}
 use Rattle.std.proofs.lemmas.Int.{ints}
 use Rattle.std.specs.Prelude.{unsigned_abs, int_le, ◌==◌, if◌then◌else◌}
 use Rattle.cf_time.specs.Bins.{IsFreq, IsBin, IsFew, bin_number, rises_from, rises, first_midnight, first_bin, last_bin, bin_count}
-use Rattle.xr_defs.specs.declared.time.Freq.{Freq}
-use Rattle.xr_defs.specs.declared.time.Freq.TheVariants as freq
+use Rattle.xr_arrays.specs.declared.time.Freq.{Freq}
+use Rattle.xr_arrays.specs.declared.time.Freq.TheVariants as freq
 use Rattle.std.proofs.lemmas.List.Elements.{filter-append}
 use Rattle.std.proofs.lemmas.List.FromFn.{length-range_with_len}
 use Rattle.std.proofs.lemmas.Bool.Decides.{nat_tests}
-use Rattle.xr_defs.specs.Times.{IsCivil, IsTime, epoch, seconds_since, month_days, year_days, days_of_years, day_number, year_at, month_at}
-use Rattle.xr_defs.proofs.Calendar.{Dated, dated, years_more, years_mono}
-use Rattle.xr_defs.proofs.LabelPlaces.{filter_none, filter_all, range_with_len-add}
+use Rattle.xr_arrays.specs.Times.{IsCivil, IsTime, epoch, seconds_since, month_days, year_days, days_of_years, day_number, year_at, month_at}
+use Rattle.xr_arrays.proofs.Calendar.{Dated, dated, years_more, years_mono}
+use Rattle.xr_arrays.proofs.LabelPlaces.{filter_none, filter_all, range_with_len-add}
 
 -- ---- a width
 

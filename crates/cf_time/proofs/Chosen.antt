@@ -1,6 +1,6 @@
 -- Tests read off answers that are there or not.
 use Rattle.std.proofs.Common.{◌≡◌, ◌≤◌, ℕ, Bool, true, false, Option, Some, None, refl, sym, ◌∙◌, ap, if◌then◌else◌}
-use Rattle.xr_defs.specs.Times.{IsCivil, month_days}
+use Rattle.xr_arrays.specs.Times.{IsCivil, month_days}
 
 pub some_if : {A : Type 0} (b : Bool) (v x : A) → Some x ≡ (if b then Some v else None) → b ≡ true
 some_if true v x h = refl

@@ -1,8 +1,8 @@
 -- The field of a time is that of its day.
 use Rattle.std.proofs.Common.{◌≡◌, ℕ, ℤ, pos, ◌/◌, true, refl, ◌∙◌, ap}
-use Rattle.xr_defs.specs.Times.{seconds_since, day_since, field_of}
-use Rattle.xr_defs.specs.declared.time.Field.{Field}
-use Rattle.xr_defs.specs.declared.time.Field.TheVariants.{Year, Month, Day, Hour, Minute, Second, DayOfYear, DayOfWeek}
+use Rattle.xr_arrays.specs.Times.{seconds_since, day_since, field_of}
+use Rattle.xr_arrays.specs.declared.time.Field.{Field}
+use Rattle.xr_arrays.specs.declared.time.Field.TheVariants.{Year, Month, Day, Hour, Minute, Second, DayOfYear, DayOfWeek}
 use Rattle.cf_time.specs.Fields.{is_of_day, day_field}
 
 day_is : (t : ℤ) (f : Field) → is_of_day f ≡ true → day_field (day_since t) f ≡ field_of t f

@@ -5,8 +5,8 @@ use Rattle.jiff_core.specs.Calendar.{days_in_year, days_in_month, day_of_year, d
 use Rattle.jiff_core.specs.Calendar as civil
 use Rattle.jiff_core.proofs.CalendarLemmas.{days_from_civil-day_count, day_count-lt_year}
 use Rattle.jiff_core.proofs.MarchLemmas.{days_of_years-march_days}
-use Rattle.xr_defs.specs.Times.{days_of_years, days_of_months, IsCivil, day_number, year_at, month_at, day_at, day_in_year}
-use Rattle.xr_defs.proofs.Calendar.{Dated, dated}
+use Rattle.xr_arrays.specs.Times.{days_of_years, days_of_months, IsCivil, day_number, year_at, month_at, day_at, day_in_year}
+use Rattle.xr_arrays.proofs.Calendar.{Dated, dated}
 
 least : (a b : ℕ) → a ≤ b → min a b ≡ a
 least a b h = omega arith

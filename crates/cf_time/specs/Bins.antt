@@ -7,9 +7,9 @@ use Rattle.xr_types.specs.declared.fault.Fault.{Fault}
 use Rattle.xr_types.specs.declared.fault.CallFault.{CallFault}
 use Rattle.xr_types.specs.declared.fault.CallFault.TheVariants.{Refused, Declined, NoMemory}
 use Rattle.xr_types.specs.declared.fault.Fault.TheVariants.{NotMonotonic, TooLarge}
-use Rattle.xr_defs.specs.Times.{epoch, seconds_since, day_since, year_at, month_at, time_of}
-use Rattle.xr_defs.specs.declared.time.Freq.{Freq}
-use Rattle.xr_defs.specs.declared.time.Freq.TheVariants as freq
+use Rattle.xr_arrays.specs.Times.{epoch, seconds_since, day_since, year_at, month_at, time_of}
+use Rattle.xr_arrays.specs.declared.time.Freq.{Freq}
+use Rattle.xr_arrays.specs.declared.time.Freq.TheVariants as freq
 use Rattle.cf_time.specs.declared.bin_list.BinList.{BinList}
 
 -- a width is at least a second

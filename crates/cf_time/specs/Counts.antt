@@ -6,7 +6,7 @@ use Rattle.std.specs.List.{list_all}
 use Rattle.xr_types.specs.declared.axis.TimeUnit.{TimeUnit}
 use Rattle.xr_types.specs.declared.axis.TimeUnit.TheVariants.{Days, Hours, Minutes, Seconds}
 use Rattle.xr_types.specs.declared.axis.Units.{Units}
-use Rattle.xr_defs.specs.Times.{unit_seconds, counted}
+use Rattle.xr_arrays.specs.Times.{unit_seconds, counted}
 
 -- a time is so many whole units before or after a reference
 abbrev pub is_count : TimeUnit → ℤ → ℤ → Bool

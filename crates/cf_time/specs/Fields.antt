@@ -1,8 +1,8 @@
 -- Fields that a time has from its day alone.
 use Rattle.std.specs.Prelude.{◌+◌, ℕ, Bool, true, false}
-use Rattle.xr_defs.specs.Times.{year_at, month_at, day_at, day_in_year}
-use Rattle.xr_defs.specs.declared.time.Field.{Field}
-use Rattle.xr_defs.specs.declared.time.Field.TheVariants.{Year, Month, Day, DayOfYear}
+use Rattle.xr_arrays.specs.Times.{year_at, month_at, day_at, day_in_year}
+use Rattle.xr_arrays.specs.declared.time.Field.{Field}
+use Rattle.xr_arrays.specs.declared.time.Field.TheVariants.{Year, Month, Day, DayOfYear}
 
 abbrev pub is_of_day : Field → Bool
 is_of_day Year = true

@@ -10,7 +10,7 @@ use Rattle.std.specs.Str.Parse.{digits_value}
 use Rattle.xr_types.specs.declared.axis.TimeUnit.{TimeUnit}
 use Rattle.xr_types.specs.declared.axis.TimeUnit.TheVariants.{Days, Hours, Minutes, Seconds}
 use Rattle.xr_types.specs.declared.axis.Units.{Units}
-use Rattle.xr_defs.specs.Times.{month_days, time_of, is_gregorian}
+use Rattle.xr_arrays.specs.Times.{month_days, time_of, is_gregorian}
 
 infixl 10 ◌>>=◌
 abbrev pub ◌>>=◌ : {A B : Type 0} → Option A → (A → Option B) → Option B

@@ -1,11 +1,10 @@
 //! The date of a time, its fields and its text.
 ghost use Rattle.std.specs.Prelude.{◌≡◌, ◌+◌, ◌<◌, ◌≤◌, pos};
-ghost use Rattle.xr_defs.specs.Times.{IsTime, IsCivil, day_number, seconds_since, day_since, second_of_day, year_at, month_at, day_at, day_in_year, field_of, digit, time_text};
+ghost use Rattle.xr_arrays.specs.Times.{IsTime, IsCivil, day_number, seconds_since, day_since, second_of_day, year_at, month_at, day_at, day_in_year, field_of, digit, time_text};
 ghost use Rattle.jiff_core.specs.Date.{ordinal, weekday_of};
 
 use jiff_core::civil::Date;
-use xr_defs::Field;
-
+use xr_arrays::Field;
 /// The seconds from 0001-01-01T00:00:00 to a time.
 pub fn since(label: i64) -> u64
     requires { IsTime label }

@@ -1,11 +1,11 @@
 //! A field of each of many times.
 ghost use Rattle.std.specs.Prelude.{◌≡◌, ◌<◌, ◌/◌, true, pos, All, IfOk, map};
-ghost use Rattle.xr_defs.specs.Times.{IsTime, field_of, seconds_since};
+ghost use Rattle.xr_arrays.specs.Times.{IsTime, field_of, seconds_since};
 ghost use Rattle.cf_time.specs.Fields.{is_of_day, day_field};
 
 use crate::date::{date_at, field, since};
 use std::alloc::{AllocError, Global};
-use xr_defs::Field;
+use xr_arrays::Field;
 use xr_types::NoMemory;
 
 /// A field that the date of a day has.

@@ -1,12 +1,11 @@
 //! Date texts of a script.
 ghost use Rattle.std.specs.Prelude.{◌≡◌, ◌≤◌, ◌<◌, ◌+◌, ◌*◌, ◌-ℤ◌, ◌&&◌, pos, length, true, if◌then◌else◌, Some, None, IfSome};
 ghost use Rattle.cf_time.specs.Units.{is_civil};
-ghost use Rattle.xr_defs.specs.Times.{IsCivil, day_number, epoch, time_of, month_days, is_digit, has_two, two_at, has_year, year_in, has_month, has_day, has_clock, period, year_period, month_period, day_period, clock_period, second_period, date_period};
+ghost use Rattle.xr_arrays.specs.Times.{IsCivil, day_number, epoch, time_of, month_days, is_digit, has_two, two_at, has_year, year_in, has_month, has_day, has_clock, period, year_period, month_period, day_period, clock_period, second_period, date_period};
 
 use jiff_core::civil;
 use jiff_core::civil::Date;
-use xr_defs::Period;
-
+use xr_arrays::Period;
 /// The time of a second of a date.
 pub fn time_at(year: u16, month: u8, day: u8, second: u32) -> i64
     requires civil { IsCivil year month day }
@@ -87,7 +86,7 @@ fn day(text: &[u8], year: u16, month: u8) -> Option<u8>
 }
 
 /// The second of the day behind a date.
-#[tactic(auto, unfolding(xr_defs::specs::Times::has_clock))]
+#[tactic(auto, unfolding(xr_arrays::specs::Times::has_clock))]
 fn clock(text: &[u8]) -> Option<u32>
     requires { 19 ≤ length text.now }
     ensures value { result ≡ (if has_clock text.now then Some (3600 * two_at text.now 11 + 60 * two_at text.now 14 + two_at text.now 17) else None) }

@@ -1,14 +1,13 @@
 //! Runs of times that lie in one bin.
 ghost use Rattle.std.specs.Prelude.{◌≡◌, ◌-◌, ◌+◌, ◌*◌, ◌/◌, ◌<◌, ◌≤◌, ℕ, ℤ};
-ghost use Rattle.xr_defs.specs.Times.{IsTime, seconds_since, year_at, month_at, year_days};
-ghost use Rattle.xr_defs.specs.declared.time.Freq.TheVariants as freqs;
+ghost use Rattle.xr_arrays.specs.Times.{IsTime, seconds_since, year_at, month_at, year_days};
+ghost use Rattle.xr_arrays.specs.declared.time.Freq.TheVariants as freqs;
 ghost use Rattle.cf_time.specs.Bins.{IsFreq, IsRun, IsBin, bin_number};
 
 use crate::date::{parts_at, since};
 use crate::read::month_days;
 use jiff_core::civil;
-use xr_defs::Freq;
-
+use xr_arrays::Freq;
 /// The number of a bin, and the times in it from one to before another, in seconds from 0001-01-01T00:00:00.
 #[derive(Clone, Copy)]
 pub struct Run {

@@ -1,7 +1,7 @@
 //! Times as a file counts them.
 ghost use Rattle.std.specs.Prelude.{◌≡◌, ◌&&◌, ◌||◌, pos, IfSome, Some, None, if◌then◌else◌};
 ghost use Rattle.cf_time.specs.Units.{units};
-ghost use Rattle.xr_defs.specs.Times.{IsTime, unit_seconds, is_time, is_gregorian, decoded};
+ghost use Rattle.xr_arrays.specs.Times.{IsTime, unit_seconds, is_time, is_gregorian, decoded};
 
 use xr_types::{TimeUnit, Units};
 

@@ -5,7 +5,7 @@ ghost use Rattle.std.specs.List.{prefix_len, take_while, list_all};
 ghost use Rattle.std.specs.Option.{option_copied};
 ghost use Rattle.std.specs.Str.{bytes_eq};
 ghost use Rattle.std.specs.Str.Parse.{digits_value};
-ghost use Rattle.xr_defs.specs.Times.{IsCivil, IsTime};
+ghost use Rattle.xr_arrays.specs.Times.{IsCivil, IsTime};
 ghost use Rattle.cf_time.specs.Parts.{Says};
 ghost use Rattle.cf_time.specs.Units.{is_blank, is_dark, behind_blanks, behind_byte, number, part, civil, date, is_whole, clock, second, seconds, time_of_day, behind_mark, marked_time, day_second, reference, unit_named, unit, behind_since, behind_word, reads_early, units, units_of};
 

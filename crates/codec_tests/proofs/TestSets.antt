@@ -8,12 +8,12 @@ use lib.Utf8
 use Rattle.xr_types.specs.declared.axis.Labels.{Labels}
 use Rattle.xr_types.specs.declared.kind.DType.{DType}
 use Rattle.xr_types.specs.declared.kind.DType.TheVariants as kinds
-use Rattle.xr_defs.specs.Arrays.{Array, IsCell}
+use Rattle.xr_arrays.specs.Arrays.{Array, IsCell}
 use Rattle.xr_defs.specs.Limits.{most_cells}
-use Rattle.xr_defs.specs.Nodes.{IsNode, node_value}
-use Rattle.xr_defs.specs.Canonical.{are_distinct}
-use Rattle.xr_defs.specs.Values.{axis_names}
-use Rattle.xr_defs.specs.declared.node.Node.TheVariants.{Source}
+use Rattle.xr_arrays.specs.Nodes.{IsNode, node_value}
+use Rattle.xr_types.specs.Names.{are_distinct}
+use Rattle.xr_types.specs.Names.{axis_names}
+use Rattle.xr_arrays.specs.declared.node.Node.TheVariants.{Source}
 use Rattle.xr_values.specs.declared.dataset.Dataset.{Dataset}
 use Rattle.xr_values.specs.declared.variable.Variable.{Variable}
 use Rattle.xr_values.specs.Stands.{shape_named, IsNodeOf, IsDatasetIn}

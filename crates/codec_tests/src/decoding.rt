@@ -11,7 +11,8 @@ use std::alloc::Global;
 use std::test::*;
 use std::thread::Threads;
 use xr_decode::{decode_bytes, decode_into, decode_set};
-use xr_defs::{ArrayValue, CdfFile, Form, Node};
+use xr_files::CdfFile;
+use xr_arrays::{ArrayValue, Form, Node};
 use xr_types::{ComputeFault, NodeId};
 use xr_values::{Cx, Variable};
 

@@ -1,10 +1,10 @@
 //! A dataset that is written where no node is computed. No script can show it, since a run computes every node.
 ghost use Rattle.std.specs.Prelude.{◌≡◌, ◌≤◌, ◌∷◌, [], length, true, MatchOption, All, IfOk, ⊤, refl};
-ghost use Rattle.xr_defs.specs.Arrays.{IsCell};
+ghost use Rattle.xr_arrays.specs.Arrays.{IsCell};
 ghost use Rattle.xr_defs.specs.Limits.{most_cells};
-ghost use Rattle.xr_defs.specs.Nodes.{IsNode};
-ghost use Rattle.xr_defs.specs.declared.node.Node.TheVariants.{Source};
-ghost use Rattle.xr_defs.specs.Files.{is_version};
+ghost use Rattle.xr_arrays.specs.Nodes.{IsNode};
+ghost use Rattle.xr_arrays.specs.declared.node.Node.TheVariants.{Source};
+ghost use Rattle.xr_files.specs.Files.{is_version};
 ghost use Rattle.xr_values.specs.Stands.{IsDatasetIn};
 ghost use Rattle.xr_values.specs.WellFormed.{AreSeen, IsIndex};
 
@@ -12,7 +12,8 @@ use plan_core::{Compute, Plan};
 use std::alloc::Global;
 use std::test::*;
 use std::thread::Threads;
-use xr_defs::{ArrayValue, Cells, Node, WriteOptions};
+use xr_arrays::{ArrayValue, Cells, Node};
+use xr_defs::WriteOptions;
 use xr_encode::encode_set;
 use xr_types::{Attr, Axis, CallFault, ComputeFault, DType, Items, Labels, Name, NoMemory, NodeId};
 use xr_values::{Cx, Dataset, Variable, Variables};

@@ -1,12 +1,13 @@
 //! Printed times, which no script can make, since an index that counts times is one of whole numbers so far. They are Python's
 //! `datetime.timestamp()`.
 ghost use Rattle.std.specs.Prelude.{◌≡◌, All, true};
-ghost use Rattle.xr_defs.specs.Times.{IsTime};
+ghost use Rattle.xr_arrays.specs.Times.{IsTime};
 ghost use Rattle.xr_print.specs.Conditions.{AreTimes, HasTimes, HoldsTime};
 
 use std::alloc::{AllocError, Global};
 use std::test::Fail;
-use xr_defs::{ArrayValue, Cells, Content, Coord};
+use xr_arrays::{ArrayValue, Cells};
+use xr_defs::{Content, Coord};
 use xr_print::{array_text, set_text};
 use xr_types::{
     Attr, Axis, DType, Items, LabelList, Labels, Name, NcType, TextBytes, TimeCoding, TimeUnit,

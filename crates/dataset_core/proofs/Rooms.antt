@@ -2,9 +2,10 @@
 use Rattle.std.proofs.Common.{◌≡◌, List, [], ◌∷◌, ◌++◌, ap, sym, subst, ◌∙◌}
 use Rattle.std.specs.declared.alloc.Global.{Global}
 use Rattle.std.specs.declared.rc.Rc.{Rc}
-use Rattle.xr_defs.specs.declared.node.Node.{Node}
+use Rattle.xr_arrays.specs.declared.node.Node.{Node}
 use Rattle.xr_defs.specs.Meanings as of
-use Rattle.xr_defs.specs.Room.{of_array, of_set, portions, room, AddsAtMost, AddsForAny, Portion}
+use Rattle.xr_arrays.specs.Added.{AddsAtMost}
+use Rattle.xr_defs.specs.Room.{of_array, of_set, portions, room, AddsForAny, Portion}
 use Rattle.xr_arguments.proofs.Variants.{is_array, is_set}
 use Rattle.xr_values.specs.declared.data_array.DataArray.{DataArray}
 use Rattle.xr_values.specs.declared.dataset.Dataset.{Dataset}

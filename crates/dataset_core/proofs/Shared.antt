@@ -3,10 +3,10 @@ use Rattle.std.proofs.Common.{◌≡◌, List, Result, Ok, Err, ap, sym, ◌∙�
 use Rattle.std.specs.declared.alloc.Global.{Global}
 use Rattle.std.specs.declared.rc.Rc.{Rc}
 use Rattle.xr_types.specs.declared.fault.Fault.{Fault}
-use Rattle.xr_defs.specs.declared.node.Node.{Node}
+use Rattle.xr_arrays.specs.declared.node.Node.{Node}
 use Rattle.xr_types.specs.declared.fault.CallFault.{CallFault}
 use Rattle.xr_types.specs.declared.fault.CallFault.TheVariants.{Refused, Declined, NoMemory}
-use Rattle.xr_defs.specs.Results.{◌>>=◌, Answers}
+use Rattle.xr_types.specs.Results.{◌>>=◌, Answers}
 use Rattle.xr_values.specs.Answers.{Fails}
 use Rattle.xr_defs.specs.Meanings as of
 use Rattle.xr_defs.specs.Values as values

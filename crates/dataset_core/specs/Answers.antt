@@ -4,12 +4,12 @@ use Rattle.std.specs.declared.alloc.Global.{Global}
 use Rattle.std.specs.declared.rc.Rc.{Rc}
 use Rattle.xr_types.specs.declared.fault.Fault.{Fault}
 use Rattle.xr_types.specs.declared.fault.CallFault.{CallFault}
-use Rattle.xr_defs.specs.declared.node.Node.{Node}
-use Rattle.xr_defs.specs.Results.{◌>>=◌}
-use Rattle.xr_defs.specs.Files.{is_version}
+use Rattle.xr_arrays.specs.declared.node.Node.{Node}
+use Rattle.xr_types.specs.Results.{◌>>=◌}
+use Rattle.xr_files.specs.Files.{is_version}
 use Rattle.xr_defs.specs.Meanings as of
 use Rattle.xr_defs.specs.Values as sets
-use Rattle.xr_defs.specs.Results.{◌>>=◌}
+use Rattle.xr_types.specs.Results.{◌>>=◌}
 use Rattle.xr_defs.specs.Calls.{Asked}
 use Rattle.xr_values.specs.declared.dataset.Dataset.{Dataset}
 use Rattle.xr_values.specs.declared.value.Value.{Value}

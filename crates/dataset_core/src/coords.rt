@@ -1,7 +1,7 @@
 //! `assign_coords`: the arrays that become coordinates are computed.
 ghost use Rattle.std.specs.Prelude.{◌≡◌, ℕ, List, Ok, false};
 ghost use denote.Param.Send.{IsSync};
-ghost use Rattle.xr_defs.specs.declared.node.Node.{Node};
+ghost use Rattle.xr_arrays.specs.declared.node.Node.{Node};
 ghost use Rattle.xr_defs.specs.Building.{assigned_to_array, assigned_to_set};
 ghost use Rattle.xr_defs.specs.Calls.{of_both};
 ghost use Rattle.xr_values.specs.Meaning.{meaning, given, IsValueIn, AreArgsIn};

@@ -1,7 +1,8 @@
 //! The methods that compute no cells.
 ghost use Rattle.std.specs.Prelude.{◌≡◌, ◌++◌, true, IfOk};
-ghost use Rattle.xr_defs.specs.Canonical.{are_distinct};
-ghost use Rattle.xr_defs.specs.Room.{portions, room, AddsAtMost};
+ghost use Rattle.xr_types.specs.Names.{are_distinct};
+ghost use Rattle.xr_arrays.specs.Added.{AddsAtMost};
+ghost use Rattle.xr_defs.specs.Room.{portions, room};
 ghost use Rattle.xr_defs.specs.Calls.{of_array, of_both, array_with_attrs as described_array, set_with_attrs as described_set, sum_called as summed};
 ghost use Rattle.xr_defs.specs.Parts.{dropped_of_array as left_of_array, dropped_of_set as left_of_set, renamed as named, to_dataset as as_dataset, transposed as reordered};
 ghost use Rattle.xr_defs.specs.Selecting.{isel_array as selected_array, isel_set as selected_set};

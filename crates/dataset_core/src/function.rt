@@ -1,8 +1,9 @@
 //! The functions that take no file.
 ghost use Rattle.std.specs.Prelude.{◌≡◌, ◌∷◌, ℕ, List, false, IfOk};
 ghost use denote.Param.Send.{IsSync};
-ghost use Rattle.xr_defs.specs.declared.node.Node.{Node};
-ghost use Rattle.xr_defs.specs.Room.{portions, room, AddsAtMost, Portion};
+ghost use Rattle.xr_arrays.specs.declared.node.Node.{Node};
+ghost use Rattle.xr_arrays.specs.Added.{AddsAtMost};
+ghost use Rattle.xr_defs.specs.Room.{portions, room, Portion};
 ghost use Rattle.xr_defs.specs.Building.{data_array};
 ghost use Rattle.xr_defs.specs.Calls.{function_over_values};
 ghost use Rattle.plan_core.specs.Plans.{Grows};

@@ -1,10 +1,11 @@
 //! The methods of arrays and datasets, found by their names.
 ghost use Rattle.std.specs.Prelude.{◌≡◌, ◌++◌, ℕ, List, false, true, IfOk};
 ghost use denote.Param.Send.{IsSync};
-ghost use Rattle.xr_defs.specs.declared.node.Node.{Node};
-ghost use Rattle.xr_defs.specs.Canonical.{are_distinct};
-ghost use Rattle.xr_defs.specs.Room.{portions, room, AddsAtMost};
-ghost use Rattle.xr_defs.specs.Classic.{among};
+ghost use Rattle.xr_arrays.specs.declared.node.Node.{Node};
+ghost use Rattle.xr_types.specs.Names.{are_distinct};
+ghost use Rattle.xr_arrays.specs.Added.{AddsAtMost};
+ghost use Rattle.xr_defs.specs.Room.{portions, room};
+ghost use Rattle.xr_types.specs.Names.{among};
 ghost use Rattle.xr_defs.specs.Calls.{method_called, uncomputed_method as uncomputed, other_method as other_method_called, is_labelled_data as is_labelled, promoting};
 ghost use Rattle.plan_core.specs.Plans.{Grows};
 ghost use Rattle.xr_values.specs.Meaning.{meaning, given, IsValueIn, AreArgsIn};

@@ -1,7 +1,7 @@
 //! What `open_dataset(name, mask)` is asked for.
 ghost use Rattle.std.specs.Prelude.{List, Some, option_map};
-ghost use Rattle.xr_defs.specs.declared.node.Node.{Node};
-ghost use Rattle.xr_defs.specs.Results.{Answers};
+ghost use Rattle.xr_arrays.specs.declared.node.Node.{Node};
+ghost use Rattle.xr_types.specs.Results.{Answers};
 ghost use Rattle.xr_defs.specs.Calls.{mask_given as mask_told, open_asked};
 ghost use Rattle.xr_values.specs.Meaning.{meaning, given};
 ghost use Rattle.dataset_core.specs.Answers.{AnswersOpening};

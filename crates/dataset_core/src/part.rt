@@ -1,6 +1,7 @@
 //! `x["v"]`: a variable or coordinate by its name.
 ghost use Rattle.std.specs.Prelude.{◌++◌, IfOk};
-ghost use Rattle.xr_defs.specs.Room.{portions, room, AddsAtMost};
+ghost use Rattle.xr_arrays.specs.Added.{AddsAtMost};
+ghost use Rattle.xr_defs.specs.Room.{portions, room};
 ghost use Rattle.xr_defs.specs.Calls.{part_picked};
 ghost use Rattle.plan_core.specs.Plans.{Grows};
 ghost use Rattle.xr_values.specs.Meaning.{meaning, IsValueIn};

@@ -1,7 +1,7 @@
 //! `slice(stop)`, `slice(start, stop)` and `slice(start, stop, step)`.
 ghost use Rattle.std.specs.Prelude.{◌≡◌, List, map, IfOk};
-ghost use Rattle.xr_defs.specs.declared.node.Node.{Node};
-ghost use Rattle.xr_defs.specs.Results.{Answers};
+ghost use Rattle.xr_arrays.specs.declared.node.Node.{Node};
+ghost use Rattle.xr_types.specs.Results.{Answers};
 ghost use Rattle.xr_defs.specs.Arguments as calls;
 ghost use Rattle.xr_defs.specs.Meanings.{Slice};
 ghost use Rattle.xr_values.specs.Meaning.{meaning, given, IsValueIn};
@@ -68,7 +68,7 @@ fn slice_of(alloc: Global, plain: &[Value]) -> Result<Value, CallFault>
 }
 
 /// The slice of one to three plain arguments: its ends are none, numbers or texts, and its step is none or a number.
-#[tactic(auto, unfolding(xr_defs::specs::Arguments::slice_given, xr_defs::specs::Results::unless, xr_values::specs::Meaning::given))]
+#[tactic(auto, unfolding(xr_defs::specs::Arguments::slice_given, xr_types::specs::Results::unless, xr_values::specs::Meaning::given))]
 pub(crate) fn slice_given(alloc: Global, args: &Args) -> Result<Value, CallFault>
     ensures means { (nodes : List Node) → Answers (meaning nodes) result (calls.slice_given (given nodes args.now)) }
     ensures inside { IfOk result (λ v. (nodes : List Node) → IsValueIn nodes v) }

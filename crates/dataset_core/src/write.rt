@@ -1,8 +1,8 @@
 //! What `to_netcdf(name, format, fill_value, unlimited_dims)` is asked for.
 ghost use Rattle.std.specs.Prelude.{◌≡◌, true, List, Some, map, option_map, IfOk};
-ghost use Rattle.xr_defs.specs.declared.node.Node.{Node};
-ghost use Rattle.xr_defs.specs.Files.{is_version};
-ghost use Rattle.xr_defs.specs.Results.{Answers};
+ghost use Rattle.xr_arrays.specs.declared.node.Node.{Node};
+ghost use Rattle.xr_files.specs.Files.{is_version};
+ghost use Rattle.xr_types.specs.Results.{Answers};
 ghost use Rattle.xr_defs.specs.Building.{option as option_at};
 ghost use Rattle.xr_defs.specs.Calls as calls;
 ghost use Rattle.xr_defs.specs.Calls.{write_asked};
@@ -147,7 +147,7 @@ fn as_dataset(alloc: Global, on: &Value) -> Result<Rc<Dataset>, CallFault>
 /// `WrongKind` for a receiver that is no array or dataset; then `BadArgument` for arguments that fit no parameter, and where
 /// there is no name; then, for each argument in turn, `WrongKind` for a value of another kind, and `BadArgument` for a format
 /// that isn't one of the two; then `BadArgument` for an array that has no name, and the faults of a dataset of it.
-#[tactic(auto, unfolding(xr_defs::specs::Calls::write_asked, xr_defs::specs::Results::unless))]
+#[tactic(auto, unfolding(xr_defs::specs::Calls::write_asked, xr_types::specs::Results::unless))]
 pub fn write_request(alloc: Global, on: &Value, args: &Args) -> Result<WriteRequest, CallFault>
     ensures { (nodes : List Node) → IsValueIn nodes on.now → AnswersRequest nodes result (write_asked (meaning nodes on.now) (given nodes args.now)) }
 {

@@ -1,7 +1,7 @@
 -- The numbers of each kind lie between the ends of the widest signed one.
 use Rattle.std.proofs.Common.{◌≡◌, ◌%◌, ℤ, pos, negsuc, neg_ℤ, ◌-ℤ◌, ◌*ℤ◌, ◌<ℤ◌, ◌≤ℤ◌, ◌<◌, ℕ, zero, suc, refl, sym, ap, ◌∙◌, arith, to_z, of_z}
 use Rattle.std.specs.Int.{int_rem_euclid}
-use Rattle.xr_defs.specs.Elements.{floor_quotient, unless_zero}
+use Rattle.xr_arrays.specs.Elements.{floor_quotient, unless_zero}
 use Rattle.std.proofs.lemmas.Int.{ints, to_z-of_z}
 use lib.Signed.{lt_z}
 use Rattle.std.specs.Prelude.{true, false}

@@ -3,9 +3,9 @@ use Rattle.std.proofs.Common.{◌≡◌, ◌-◌, ℕ, ℤ, zero, suc, max, refl
 use Rattle.std.specs.Prelude.{Option, Some, None, option_map}
 use Rattle.xr_types.specs.declared.kind.DType.{DType}
 use Rattle.xr_types.specs.declared.kind.DType.TheVariants.{Bool}
-use Rattle.xr_defs.specs.Elements.{elem, lifted, filled, choose}
-use Rattle.xr_defs.specs.declared.operation.OpKind.{OpKind}
-use Rattle.xr_defs.specs.declared.operation.OpKind.TheVariants as ops
+use Rattle.xr_arrays.specs.Elements.{elem, lifted, filled, choose}
+use Rattle.xr_types.specs.declared.operation.OpKind.{OpKind}
+use Rattle.xr_types.specs.declared.operation.OpKind.TheVariants as ops
 use Rattle.strided_block.specs.Typed.{truth, unless_hidden}
 use Rattle.strided_block.specs.Zips.{Zips}
 use Rattle.elem_kernel.specs.Conditions.{IsComparison, IsNumeric, IsSign, IsNullTest}

@@ -1,7 +1,7 @@
 -- Which operations a call takes.
 use Rattle.std.specs.Prelude.{⊤}
-use Rattle.xr_defs.specs.declared.operation.OpKind.{OpKind}
-use Rattle.xr_defs.specs.declared.operation.OpKind.TheVariants as ops
+use Rattle.xr_types.specs.declared.operation.OpKind.{OpKind}
+use Rattle.xr_types.specs.declared.operation.OpKind.TheVariants as ops
 
 -- `+ - * // %`
 abbrev pub IsArithmetic : OpKind → Type 0

@@ -1,8 +1,8 @@
 -- How the masks of operands come together, and what they say of cells.
 use Rattle.std.specs.Prelude.{◌≡◌, ℕ, ℤ, zero, suc, max, Some, None}
 use Rattle.xr_types.specs.declared.kind.DType.TheVariants.{Bool}
-use Rattle.xr_defs.specs.Elements.{elem}
-use Rattle.xr_defs.specs.declared.operation.OpKind.{OpKind}
+use Rattle.xr_arrays.specs.Elements.{elem}
+use Rattle.xr_types.specs.declared.operation.OpKind.{OpKind}
 use Rattle.strided_block.specs.Typed.{truth, unless_hidden}
 
 -- a cell is hidden where an operand's is

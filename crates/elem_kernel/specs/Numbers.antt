@@ -1,8 +1,8 @@
 -- The number of an operation at a point.
 use Rattle.std.specs.Prelude.{◌≡◌, ℤ, Option, Some, None}
 use Rattle.xr_types.specs.declared.kind.DType.{DType}
-use Rattle.xr_defs.specs.Elements.{elem}
-use Rattle.xr_defs.specs.declared.operation.OpKind.{OpKind}
+use Rattle.xr_arrays.specs.Elements.{elem}
+use Rattle.xr_types.specs.declared.operation.OpKind.{OpKind}
 use Rattle.elem_kernel.specs.Pairs.{Maps, Pairs}
 
 -- the number r is the operation on the numbers a and b

@@ -1,8 +1,8 @@
 -- The truth value of a comparison at a point.
 use Rattle.std.specs.Prelude.{◌≡◌, ℕ, ℤ, Option, Some, option_map}
 use Rattle.xr_types.specs.declared.kind.DType.{DType}
-use Rattle.xr_defs.specs.Elements.{elem}
-use Rattle.xr_defs.specs.declared.operation.OpKind.{OpKind}
+use Rattle.xr_arrays.specs.Elements.{elem}
+use Rattle.xr_types.specs.declared.operation.OpKind.{OpKind}
 use Rattle.strided_block.specs.Typed.{truth}
 use Rattle.elem_kernel.specs.Pairs.{Pairs}
 

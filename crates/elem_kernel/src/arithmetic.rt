@@ -1,8 +1,8 @@
 //! `+ - * // % & | ^` of the cells of two views.
 ghost use Rattle.std.specs.Prelude.{◌≡◌, ℕ, List, Some};
-ghost use Rattle.xr_defs.specs.Points.{IsPoint};
-ghost use Rattle.xr_defs.specs.Elements.{elem};
-ghost use Rattle.xr_defs.specs.declared.operation.OpKind.TheVariants.{Add, Subtract, Multiply, FloorDivide, Remainder, And, Or, Xor};
+ghost use Rattle.xr_types.specs.Points.{IsPoint};
+ghost use Rattle.xr_arrays.specs.Elements.{elem};
+ghost use Rattle.xr_types.specs.declared.operation.OpKind.TheVariants.{Add, Subtract, Multiply, FloorDivide, Remainder, And, Or, Xor};
 ghost use Rattle.strided_block.specs.Views.{Cut, KeptOutside, shown, cell_at};
 ghost use Rattle.elem_kernel.specs.Conditions.{IsArithmetic, IsBitwise, IsNumeric};
 ghost use Rattle.elem_kernel.specs.Pairs.{Pairs};
@@ -11,7 +11,7 @@ use crate::bits::Bits;
 use crate::number::{difference, product, quotient, remainder, sum};
 use crate::pairs::zip_pairs;
 use strided_block::{View, Win};
-use xr_defs::OpKind;
+use xr_types::OpKind;
 use xr_types::Elem;
 
 // Writes what `+ - * // %` gives of the cells of two views.

@@ -1,7 +1,7 @@
 //! `& | ^` on the bits of numbers.
 ghost use Rattle.std.specs.Prelude.{◌≡◌, Some};
-ghost use Rattle.xr_defs.specs.Elements.{elem};
-ghost use Rattle.xr_defs.specs.declared.operation.OpKind.TheVariants.{And, Or, Xor};
+ghost use Rattle.xr_arrays.specs.Elements.{elem};
+ghost use Rattle.xr_types.specs.declared.operation.OpKind.TheVariants.{And, Or, Xor};
 
 use xr_types::Elem;
 

@@ -1,10 +1,10 @@
 //! The element operations on views of cells with their mask.
 ghost use Rattle.std.specs.Prelude.{◌≡◌, ◌≢◌, ℕ, List, None};
 ghost use Rattle.xr_types.specs.declared.kind.DType.TheVariants.{Bool};
-ghost use Rattle.xr_defs.specs.Arrays.{IsCell};
-ghost use Rattle.xr_defs.specs.Points.{IsPoint};
-ghost use Rattle.xr_defs.specs.Elements.{elem, choose as chosen};
-ghost use Rattle.xr_defs.specs.declared.operation.OpKind.TheVariants.{FillNa, Cast};
+ghost use Rattle.xr_arrays.specs.Arrays.{IsCell};
+ghost use Rattle.xr_types.specs.Points.{IsPoint};
+ghost use Rattle.xr_arrays.specs.Elements.{elem, choose as chosen};
+ghost use Rattle.xr_types.specs.declared.operation.OpKind.TheVariants.{FillNa, Cast};
 ghost use Rattle.strided_block.specs.Boxes.{plus};
 ghost use Rattle.strided_block.specs.Typed.{view_kind, win_kind};
 ghost use Rattle.strided_block.specs.Cells.{cell_shown, cell_held, cell_in, SameWindow};
@@ -19,8 +19,7 @@ use crate::picks::pick_numbers;
 use crate::signs::turn_numbers;
 use crate::typed::bools;
 use strided_block::{CellView, CellWin};
-use xr_defs::OpKind;
-
+use xr_types::OpKind;
 // Writes the negated cells of a view, or those with all bits turned.
 fn turn<'v>(op: OpKind, a: &CellView<'v>, out: &mut CellWin)
     requires op { IsSign op }

@@ -2,9 +2,9 @@
 ghost use Rattle.std.specs.Prelude.{◌≡◌, ℕ, List};
 ghost use Rattle.xr_types.specs.Kinds.{wrap_to};
 ghost use Rattle.xr_types.specs.declared.kind.DType.TheVariants.{Bool};
-ghost use Rattle.xr_defs.specs.Points.{IsPoint};
-ghost use Rattle.xr_defs.specs.Elements.{cast_to};
-ghost use Rattle.xr_defs.specs.declared.operation.OpKind.TheVariants.{Cast};
+ghost use Rattle.xr_types.specs.Points.{IsPoint};
+ghost use Rattle.xr_arrays.specs.Elements.{cast_to};
+ghost use Rattle.xr_types.specs.declared.operation.OpKind.TheVariants.{Cast};
 ghost use Rattle.strided_block.specs.Boxes.{plus};
 ghost use Rattle.strided_block.specs.Views.{Cut, KeptOutside, shown, cell_at};
 ghost use Rattle.strided_block.specs.Typed.{truth, view_shape, number_shown, win_kind, win_box, number_held};

@@ -2,13 +2,13 @@
 ghost use Rattle.std.specs.Prelude.{◌≡◌, ◌≢◌, ◌-ℤ◌, ◌*ℤ◌, ◌≤ℤ◌, pos, negsuc, bit_and, bit_or, bit_xor, ℤ, Option, Some, None};
 ghost use Rattle.xr_types.specs.Kinds.{InRange, wrap_to};
 ghost use Rattle.xr_types.specs.declared.kind.DType.TheVariants as kinds;
-ghost use Rattle.xr_defs.specs.Arrays.{IsCell};
-ghost use Rattle.xr_defs.specs.Elements.{elem, floor_quotient, bitwise, cast_to};
-ghost use Rattle.xr_defs.specs.declared.operation.OpKind.TheVariants as ops;
+ghost use Rattle.xr_arrays.specs.Arrays.{IsCell};
+ghost use Rattle.xr_arrays.specs.Elements.{elem, floor_quotient, bitwise, cast_to};
+ghost use Rattle.xr_types.specs.declared.operation.OpKind.TheVariants as ops;
 ghost use Rattle.elem_kernel.specs.Conditions.{IsArithmetic, IsBitwise, IsComparison, IsOnIntegers, IsPlain};
 
 use crate::division::{floor, rest};
-use xr_defs::OpKind;
+use xr_types::OpKind;
 use xr_types::{DType, wrap};
 
 fn and_bits(of: DType, m: i128, n: i128) -> i128

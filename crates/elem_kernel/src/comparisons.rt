@@ -1,8 +1,8 @@
 //! `== != < <= > >=` of the cells of two views.
 ghost use Rattle.std.specs.Prelude.{◌≡◌, ℕ, List, Some};
-ghost use Rattle.xr_defs.specs.Points.{IsPoint};
-ghost use Rattle.xr_defs.specs.Elements.{elem};
-ghost use Rattle.xr_defs.specs.declared.operation.OpKind.TheVariants.{Equal, NotEqual, Less, LessEqual};
+ghost use Rattle.xr_types.specs.Points.{IsPoint};
+ghost use Rattle.xr_arrays.specs.Elements.{elem};
+ghost use Rattle.xr_types.specs.declared.operation.OpKind.TheVariants.{Equal, NotEqual, Less, LessEqual};
 ghost use Rattle.strided_block.specs.Views.{Cut, KeptOutside, shown, cell_at};
 ghost use Rattle.strided_block.specs.Typed.{truth, view_kind, view_shape, number_shown, win_kind, win_box, number_held};
 ghost use Rattle.strided_block.specs.Boxes.{plus};
@@ -15,7 +15,7 @@ use crate::number::{at_most, differs, equal, less};
 use crate::pairs::zip_pairs;
 use crate::truths::compare_truths;
 use strided_block::{TypedView, TypedWin, View, Win};
-use xr_defs::OpKind;
+use xr_types::OpKind;
 use xr_types::Elem;
 
 fn equals<'v, T: Elem + Drop>(a: &View<'v, T>, b: &View<'v, T>, out: &mut Win<u8>)

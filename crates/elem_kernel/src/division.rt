@@ -1,6 +1,6 @@
 //! Quotients of whole numbers, rounded down, what they leave, and negations. A processor divides 64 bits by itself, so wider divisions are left to the ends of the range.
 ghost use Rattle.std.specs.Prelude.{◌≡◌, ◌≢◌, ◌≤ℤ◌, ◌-ℤ◌, ◌*ℤ◌, neg_ℤ, pos, negsuc, true};
-ghost use Rattle.xr_defs.specs.Elements.{floor_quotient, unless_zero};
+ghost use Rattle.xr_arrays.specs.Elements.{floor_quotient, unless_zero};
 
 /// The greatest whole number that isn't above x / y.
 pub(crate) fn floor(x: i128, y: i128) -> i128

@@ -1,6 +1,6 @@
 //! The masks of results. Where no operand has a missing cell, and the window had none, no byte is touched.
 ghost use Rattle.std.specs.Prelude.{◌≡◌, ℕ, List, Some, max};
-ghost use Rattle.xr_defs.specs.Points.{IsPoint};
+ghost use Rattle.xr_types.specs.Points.{IsPoint};
 ghost use Rattle.strided_block.specs.Views.{KeptOutside, shown, cell_at};
 ghost use Rattle.strided_block.specs.Typed.{box_of};
 ghost use Rattle.strided_block.specs.Zips.{Zips};

@@ -1,8 +1,8 @@
 //! `isnull` and `notnull`.
 ghost use Rattle.std.specs.Prelude.{◌≡◌, ℕ, List, Some};
 ghost use Rattle.xr_types.specs.declared.kind.DType.TheVariants.{Bool};
-ghost use Rattle.xr_defs.specs.Points.{IsPoint};
-ghost use Rattle.xr_defs.specs.declared.operation.OpKind.TheVariants.{IsNull, NotNull};
+ghost use Rattle.xr_types.specs.Points.{IsPoint};
+ghost use Rattle.xr_types.specs.declared.operation.OpKind.TheVariants.{IsNull, NotNull};
 ghost use Rattle.strided_block.specs.Boxes.{plus};
 ghost use Rattle.strided_block.specs.Views.{Cut, KeptOutside, shown, cell_at};
 ghost use Rattle.strided_block.specs.Typed.{truth, view_shape, number_shown, win_kind, win_box, number_held};
@@ -12,7 +12,7 @@ ghost use Rattle.elem_kernel.specs.Pairs.{Pairs};
 
 use crate::pairs::zip_pairs;
 use strided_block::{TypedView, TypedWin, View, Win};
-use xr_defs::OpKind;
+use xr_types::OpKind;
 use xr_types::Elem;
 
 // Whether a cell is missing, by the byte of its mask, as a truth value.

@@ -1,7 +1,7 @@
 //! The operations on the numbers of cells.
 ghost use Rattle.std.specs.Prelude.{◌≡◌, Some, None};
-ghost use Rattle.xr_defs.specs.Elements.{elem};
-ghost use Rattle.xr_defs.specs.declared.operation.OpKind.TheVariants.{Add, Subtract, Multiply, FloorDivide, Remainder, Negate, Invert, Equal, NotEqual, Less, LessEqual};
+ghost use Rattle.xr_arrays.specs.Elements.{elem};
+ghost use Rattle.xr_types.specs.declared.operation.OpKind.TheVariants.{Add, Subtract, Multiply, FloorDivide, Remainder, Negate, Invert, Equal, NotEqual, Less, LessEqual};
 ghost use Rattle.strided_block.specs.Typed.{truth};
 
 use crate::division::{floor_or_zero, opposite, rest_or_zero, turned};

@@ -1,7 +1,7 @@
 //! Operations of two operands on the numbers of typed cells.
 ghost use Rattle.std.specs.Prelude.{◌≡◌, ◌≢◌, ℕ, List};
 ghost use Rattle.xr_types.specs.declared.kind.DType.TheVariants.{Bool};
-ghost use Rattle.xr_defs.specs.Points.{IsPoint};
+ghost use Rattle.xr_types.specs.Points.{IsPoint};
 ghost use Rattle.strided_block.specs.Boxes.{plus};
 ghost use Rattle.strided_block.specs.Typed.{view_kind, view_shape, number_shown, win_kind, win_box, number_held};
 ghost use Rattle.elem_kernel.specs.Conditions.{IsArithmetic, IsNumeric};
@@ -11,8 +11,7 @@ use crate::arithmetic::combine_cells;
 use crate::truths::combine_truths;
 use crate::typed::{bools, bytes, chars, ints, longs, shorts};
 use strided_block::{TypedView, TypedWin};
-use xr_defs::OpKind;
-
+use xr_types::OpKind;
 /// Writes what an operation gives of the numbers of two views.
 pub(crate) fn combine_numbers<'v>(
     op: OpKind,

@@ -1,6 +1,6 @@
 //! Windows whose cells are made from those of one view or of two.
 ghost use Rattle.std.specs.Prelude.{◌≡◌, ℕ, List};
-ghost use Rattle.xr_defs.specs.Points.{IsPoint};
+ghost use Rattle.xr_types.specs.Points.{IsPoint};
 ghost use Rattle.strided_block.specs.Views.{Cut, KeptOutside, shown, cell_at};
 ghost use Rattle.elem_kernel.specs.Pairs.{Maps, Pairs};
 

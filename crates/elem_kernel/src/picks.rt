@@ -1,6 +1,6 @@
 //! Cells that are taken from one view or from another.
 ghost use Rattle.std.specs.Prelude.{◌≡◌, ℕ, List};
-ghost use Rattle.xr_defs.specs.Points.{IsPoint};
+ghost use Rattle.xr_types.specs.Points.{IsPoint};
 ghost use Rattle.strided_block.specs.Boxes.{plus};
 ghost use Rattle.strided_block.specs.Views.{Cut, KeptOutside, shown, cell_at};
 ghost use Rattle.strided_block.specs.Typed.{view_kind, view_shape, number_shown, win_kind, win_box, number_held};

@@ -1,9 +1,9 @@
 //! Unary `-` and `~` of the numbers of typed cells.
 ghost use Rattle.std.specs.Prelude.{◌≡◌, ◌≢◌, ℕ, List, Some, None};
 ghost use Rattle.xr_types.specs.declared.kind.DType.TheVariants.{Bool};
-ghost use Rattle.xr_defs.specs.Points.{IsPoint};
-ghost use Rattle.xr_defs.specs.Elements.{elem};
-ghost use Rattle.xr_defs.specs.declared.operation.OpKind.TheVariants.{Negate, Invert};
+ghost use Rattle.xr_types.specs.Points.{IsPoint};
+ghost use Rattle.xr_arrays.specs.Elements.{elem};
+ghost use Rattle.xr_types.specs.declared.operation.OpKind.TheVariants.{Negate, Invert};
 ghost use Rattle.strided_block.specs.Boxes.{plus};
 ghost use Rattle.strided_block.specs.Views.{Cut, KeptOutside, shown, cell_at};
 ghost use Rattle.strided_block.specs.Typed.{truth, view_kind, view_shape, number_shown, win_kind, win_box, number_held};
@@ -16,7 +16,7 @@ use crate::pairs::map_cells;
 use crate::truths::invert_truths;
 use crate::typed::{bools, bytes, chars, ints, longs, shorts};
 use strided_block::{TypedView, TypedWin, View, Win};
-use xr_defs::OpKind;
+use xr_types::OpKind;
 use xr_types::Elem;
 
 // Writes the negated cells, or those with all bits turned.

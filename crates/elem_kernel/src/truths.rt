@@ -1,8 +1,8 @@
 //! Operations on truth values: `== != < <= > >=`, `& | ^` and `~`.
 ghost use Rattle.std.specs.Prelude.{◌≡◌, ℕ, List, Some, None};
-ghost use Rattle.xr_defs.specs.Points.{IsPoint};
-ghost use Rattle.xr_defs.specs.Elements.{elem};
-ghost use Rattle.xr_defs.specs.declared.operation.OpKind.TheVariants.{Equal, NotEqual, Less, LessEqual, And, Or, Xor, Invert};
+ghost use Rattle.xr_types.specs.Points.{IsPoint};
+ghost use Rattle.xr_arrays.specs.Elements.{elem};
+ghost use Rattle.xr_types.specs.declared.operation.OpKind.TheVariants.{Equal, NotEqual, Less, LessEqual, And, Or, Xor, Invert};
 ghost use Rattle.xr_types.specs.declared.kind.DType.TheVariants.{Bool};
 ghost use Rattle.strided_block.specs.Views.{Cut, KeptOutside, shown, cell_at};
 ghost use Rattle.strided_block.specs.Typed.{truth};
@@ -12,8 +12,7 @@ ghost use Rattle.elem_kernel.specs.Pairs.{Maps, Pairs};
 use crate::number::{at_most, differs, equal, less};
 use crate::pairs::{map_cells, zip_pairs};
 use strided_block::{View, Win};
-use xr_defs::OpKind;
-
+use xr_types::OpKind;
 fn equals<'v>(a: &View<'v, u8>, b: &View<'v, u8>, out: &mut Win<u8>)
     requires { (a.now.shape ≡ out.old.shape) × (b.now.shape ≡ out.old.shape) }
     ensures place { Cut out.old out.new out.old.low out.old.shape }

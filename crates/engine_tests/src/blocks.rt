@@ -1,7 +1,7 @@
 //! Blocks of cells, their windows and their views, with ample memory.
 ghost use Rattle.std.specs.Prelude.{◌≡◌, [], ◌∷◌, IfOk, length, take};
 ghost use Rattle.xr_types.specs.declared.kind.DType.TheVariants.{Bool, Int16};
-ghost use Rattle.xr_defs.specs.Points.{IsPoint};
+ghost use Rattle.xr_types.specs.Points.{IsPoint};
 ghost use Rattle.strided_block.specs.Typed.{block_kind, block_shape, view_shape, win_kind, win_box, IsWide};
 ghost use Rattle.strided_block.specs.Views.{IsWhole};
 

@@ -3,7 +3,7 @@ ghost use Rattle.std.specs.Prelude.{◌≡◌, ◌≤◌, ◌^◌, length};
 
 use fold_kernel::{Partial, scan_masked, scan_run};
 use std::process::Abort;
-use xr_defs::FoldKind;
+use xr_types::FoldKind;
 use xr_types::{DType, Elem};
 
 fn folds() -> [FoldKind; 11] {

@@ -1,12 +1,13 @@
 //! Labels found on an axis: by themselves, near them, and between two ends.
 ghost use Rattle.std.specs.Prelude.{◌≡◌, ◌≤◌, IfOk, length};
-ghost use Rattle.xr_defs.specs.Labels.{IsLabelled};
+ghost use Rattle.xr_arrays.specs.Labels.{IsLabelled};
 
 use label_index::Index;
 use std::alloc::{AllocError, Global};
 use std::process::Abort;
 use std::test::Fail;
-use xr_defs::{Direction, Near, Span};
+use xr_types::Near;
+use xr_arrays::{Direction, Span};
 use xr_types::{
     Axis, DType, Fault, Items, Label, LabelList, Labels, TextBytes, TimeCoding, TimeUnit, Units,
 };

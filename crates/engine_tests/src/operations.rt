@@ -2,13 +2,13 @@
 ghost use Rattle.std.specs.Prelude.{◌≡◌, ◌≢◌, true};
 ghost use Rattle.xr_types.specs.Kinds.{InRange};
 ghost use Rattle.xr_types.specs.declared.kind.DType.TheVariants.{Int8};
-ghost use Rattle.xr_defs.specs.Arrays.{IsCell};
-ghost use Rattle.xr_defs.specs.declared.operation.OpKind.TheVariants.{Divide};
+ghost use Rattle.xr_arrays.specs.Arrays.{IsCell};
+ghost use Rattle.xr_types.specs.declared.operation.OpKind.TheVariants.{Divide};
 
 use elem_kernel::one_cell;
 use std::alloc::{AllocError, Global};
 use std::process::Abort;
-use xr_defs::OpKind;
+use xr_types::OpKind;
 use xr_types::DType;
 
 // What NumPy 1.24 gives: a line for each operation, with what it gives of each pair of the kind's numbers, then of each

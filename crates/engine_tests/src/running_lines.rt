@@ -1,7 +1,7 @@
 //! Running sums along lines of blocks, against NumPy's `cumsum`.
 ghost use Rattle.std.specs.Prelude.{◌≡◌, ◌<◌, [], ◌∷◌, All, IfOk};
 ghost use Rattle.xr_types.specs.declared.kind.DType.TheVariants.{Int8, Int64};
-ghost use Rattle.xr_defs.specs.Arrays.{IsCell};
+ghost use Rattle.xr_arrays.specs.Arrays.{IsCell};
 ghost use Rattle.strided_block.specs.Typed.{block_kind, win_kind};
 ghost use Rattle.strided_block.specs.Views.{IsWhole};
 
@@ -10,7 +10,7 @@ use std::alloc::Global;
 use std::process::Abort;
 use std::test::Fail;
 use strided_block::{CellBlock, CellView, CellWin};
-use xr_defs::FoldKind;
+use xr_types::FoldKind;
 use xr_types::{DType, Shape};
 
 /// The sums down the second column of a block, into that of a window, from 1000 on.

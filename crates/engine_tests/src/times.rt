@@ -1,11 +1,11 @@
 ghost use Rattle.std.specs.Prelude.{All};
-ghost use Rattle.xr_defs.specs.Times.{IsTime};
+ghost use Rattle.xr_arrays.specs.Times.{IsTime};
 ghost use Rattle.cf_time.specs.Bins.{IsFreq};
 
 use cf_time::{bins, count, decode, field, fields, read_date, read_units, text, written_unit};
 use std::alloc::Global;
 use std::process::Abort;
-use xr_defs::{Field, Freq};
+use xr_arrays::{Field, Freq};
 use xr_types::{CallFault, TimeUnit, Units};
 
 // The times and what they show are those of Python:

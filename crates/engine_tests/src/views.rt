@@ -1,7 +1,7 @@
 //! The calls over views, against the values that NumPy gives.
 ghost use Rattle.std.specs.Prelude.{◌≡◌, ◌≢◌, [], ◌∷◌, IfOk, All};
 ghost use Rattle.xr_types.specs.declared.kind.DType.TheVariants.{Bool, Int16};
-ghost use Rattle.xr_defs.specs.Arrays.{IsCell};
+ghost use Rattle.xr_arrays.specs.Arrays.{IsCell};
 ghost use Rattle.strided_block.specs.Typed.{block_kind, view_kind, win_kind};
 ghost use Rattle.strided_block.specs.Views.{IsWhole};
 ghost use Rattle.elem_kernel.specs.Conditions.{IsBinary, IsComparison, IsArithmetic, IsOnIntegers, IsSign, IsUnary};
@@ -11,7 +11,7 @@ use elem_kernel::{binary, cast, choose, compare, fill, unary};
 use std::alloc::Global;
 use std::test::Fail;
 use strided_block::{CellBlock, CellView, CellWin};
-use xr_defs::OpKind;
+use xr_types::OpKind;
 use xr_types::{DType, Shape};
 
 /// The numbers at the edges of a kind's range, with a few between.

@@ -1,7 +1,7 @@
 //! Operations on the cells of whole blocks, and running sums along a line of one.
 ghost use Rattle.std.specs.Prelude.{◌≡◌, ◌≤◌, [], ◌∷◌, ℕ, List, Some, IfOk, IfSome, length};
 ghost use Rattle.xr_types.specs.declared.kind.DType.TheVariants as kinds;
-ghost use Rattle.xr_defs.specs.Points.{size, IsPoint};
+ghost use Rattle.xr_types.specs.Points.{size, IsPoint};
 ghost use Rattle.elem_kernel.specs.Conditions.{IsBinary};
 ghost use Rattle.strided_block.specs.Cells.{SameWindow};
 ghost use Rattle.strided_block.specs.Typed.{block_kind, block_shape, win_kind};
@@ -14,7 +14,7 @@ use std::alloc::{AllocError, Global};
 use std::rt::Clock;
 use std::time::Instant;
 use strided_block::{Block, CellBlock, CellWin, TypedBlock};
-use xr_defs::{FoldKind, OpKind};
+use xr_types::{FoldKind, OpKind};
 use xr_types::{DType, NoMemory, Shape};
 
 /// The operands of a job in blocks of so many rows and columns, of which the first columns are read.

@@ -2,7 +2,7 @@
 use crate::Job;
 use fold_kernel::{Partial, scan_run};
 use std::alloc::{AllocError, Global};
-use xr_defs::FoldKind;
+use xr_types::FoldKind;
 use xr_types::DType;
 
 // Numbers from -504 to 504.

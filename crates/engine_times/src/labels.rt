@@ -1,6 +1,6 @@
 //! Indexes of labels.
 ghost use Rattle.std.specs.Prelude.{◌≡◌, ◌<◌, ◌^◌, IfOk, length};
-ghost use Rattle.xr_defs.specs.Labels.{IsLabelled};
+ghost use Rattle.xr_arrays.specs.Labels.{IsLabelled};
 
 use anyhow::Result;
 use label_index::Index;

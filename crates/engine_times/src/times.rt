@@ -1,6 +1,6 @@
 //! Fields and bins of times.
 ghost use Rattle.std.specs.Prelude.{All, IfOk};
-ghost use Rattle.xr_defs.specs.Times.{IsTime};
+ghost use Rattle.xr_arrays.specs.Times.{IsTime};
 ghost use Rattle.cf_time.specs.Bins.{IsFreq};
 
 use anyhow::Result;
@@ -8,8 +8,7 @@ use cf_time::{bins, fields};
 use std::alloc::{AllocError, Global};
 use std::rt::Clock;
 use std::time::Instant;
-use xr_defs::{Field, Freq};
-
+use xr_arrays::{Field, Freq};
 // An hour behind 2000-01-01.
 fn hour(i: u32) -> i64
     ensures { IsTime result }

@@ -3,8 +3,8 @@ use Rattle.std.proofs.Common.{[], ◌∷◌, refl, arith}
 use Rattle.std.specs.Str.{is_utf8, chars}
 use lib.Utf8
 use Rattle.xr_types.specs.declared.attr.NcType.TheVariants.{Int}
-use Rattle.xr_defs.specs.declared.file.CdfFile.{CdfFile}
-use Rattle.xr_defs.specs.Canonical.{IsFile}
+use Rattle.xr_files.specs.declared.file.CdfFile.{CdfFile}
+use Rattle.xr_files.specs.Canonical.{IsFile}
 
 abbrev three : CdfFile
 three = record {

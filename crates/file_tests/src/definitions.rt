@@ -1,7 +1,7 @@
 use bytes::Bytes;
 use std::alloc::{AllocError, Global};
 use std::test::Fail;
-use xr_defs::{ArrayValue, Cells, Form, StoredArray};
+use xr_arrays::{ArrayValue, Cells, Form, StoredArray};
 use xr_types::{DType, Items, NcType};
 
 /// The shorts 7 and -7, the second hidden.

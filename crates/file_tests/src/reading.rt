@@ -12,7 +12,8 @@ use cdf_reader::{
 use std::alloc::{AllocError, Global};
 use std::test::*;
 use stored_cells::sum;
-use xr_defs::{CdfFile, CdfVar, Cells};
+use xr_files::{CdfFile, CdfVar};
+use xr_arrays::Cells;
 use xr_types::{Items, NcType, TextBytes};
 
 const ONE: [u8; 92] = [

@@ -1,12 +1,12 @@
 //! A file whose bytes were worked out by hand from the format's text.
 ghost use Rattle.std.specs.Prelude.{◌≡◌, IfOk};
-ghost use Rattle.xr_defs.specs.Canonical.{IsFile};
+ghost use Rattle.xr_files.specs.Canonical.{IsFile};
 
 use bytes::{Bytes, BytesQueue};
 use cdf_writer::*;
 use std::alloc::{AllocError, Global};
 use std::test::*;
-use xr_defs::{CdfDim, CdfFile, CdfVar};
+use xr_files::{CdfDim, CdfFile, CdfVar};
 use xr_types::{Items, Name, NcType};
 
 // a variable `v` over `x` that holds 1, 2 and 3

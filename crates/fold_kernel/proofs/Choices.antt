@@ -1,8 +1,8 @@
 -- The cells that argmin and argmax choose: the first ones that hold the least and the greatest number.
 use Rattle.std.proofs.Common.{◌≡◌, ℕ, ℤ, pos, List, find, Option, Some, None, option_map, option_and_then, ap, refl, sym, ◌∙◌}
-use Rattle.xr_defs.specs.declared.operation.FoldKind.TheVariants.{ArgMin, ArgMax}
-use Rattle.xr_defs.specs.Folds.{numbers, least, greatest, first_place}
-use Rattle.xr_defs.proofs.Folds.{HasNumber, holds, find_holds, least_found, greatest_found}
+use Rattle.xr_types.specs.declared.operation.FoldKind.TheVariants.{ArgMin, ArgMax}
+use Rattle.xr_arrays.specs.Folds.{numbers, least, greatest, first_place}
+use Rattle.xr_arrays.proofs.Folds.{HasNumber, holds, find_holds, least_found, greatest_found}
 use Rattle.fold_kernel.specs.declared.found.Found.{Found}
 use Rattle.fold_kernel.specs.Partials.{found, found_with, IsChosen}
 

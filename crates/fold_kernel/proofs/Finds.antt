@@ -2,7 +2,7 @@
 use Rattle.std.proofs.Common.{◌≡◌, ◌<◌, ◌≤◌, ◌+◌, ◌-◌, ℕ, ℤ, suc, List, [], ◌∷◌, ◌++◌, map, length, take, get_or, Option, Some, None, length-take, arith, ap, refl, ◌∙◌}
 use Rattle.std.proofs.Math.Seq.{take-suc}
 use Rattle.std.specs.List.{last_or}
-use Rattle.xr_defs.specs.Folds.{present}
+use Rattle.xr_arrays.specs.Folds.{present}
 use Rattle.fold_kernel.specs.declared.found.Found.{Found}
 use Rattle.fold_kernel.specs.Partials.{found, last_found}
 use Rattle.fold_kernel.specs.Rows.{placed}

@@ -3,7 +3,7 @@ use Rattle.std.proofs.Common.{◌≡◌, ◌++◌, ℕ, ℤ, List, [], ◌∷◌
 use Rattle.std.specs.Int.{int_min, int_max}
 use Rattle.std.proofs.lemmas.Int.{ints, clamps}
 use Rattle.std.proofs.lemmas.List.{take-append-drop}
-use Rattle.xr_defs.specs.Folds.{present, numbers, of_both, least, greatest}
+use Rattle.xr_arrays.specs.Folds.{present, numbers, of_both, least, greatest}
 use Rattle.fold_kernel.specs.declared.gather.Least.{Least}
 use Rattle.fold_kernel.specs.declared.gather.Greatest.{Greatest}
 use Rattle.fold_kernel.specs.Rows.{placed, gathered, filled, first_shown}

@@ -6,10 +6,10 @@ use Rattle.std.proofs.lemmas.Int.{ints, clamps, by_lt_z, int_wrap_fits}
 use Rattle.xr_types.specs.Kinds.{wrap_to}
 use Rattle.xr_types.specs.declared.kind.DType.{DType}
 use Rattle.xr_types.specs.declared.kind.DType.TheVariants.{Int64}
-use Rattle.xr_defs.specs.declared.operation.FoldKind.{FoldKind}
-use Rattle.xr_defs.specs.declared.operation.FoldKind.TheVariants.{Sum, Prod, Min, Max, First, Last, ArgMin, ArgMax, Count, Any, All}
-use Rattle.xr_defs.specs.Folds.{present, of_both}
-use Rattle.xr_defs.proofs.Folds.{kept_place, int_ge, sum-append, prod-append, min-append, max-append, firsts-append, lasts-append, argmin-append, argmax-append, count-append, any-append, all-append}
+use Rattle.xr_types.specs.declared.operation.FoldKind.{FoldKind}
+use Rattle.xr_types.specs.declared.operation.FoldKind.TheVariants.{Sum, Prod, Min, Max, First, Last, ArgMin, ArgMax, Count, Any, All}
+use Rattle.xr_arrays.specs.Folds.{present, of_both}
+use Rattle.xr_arrays.proofs.Folds.{kept_place, int_ge, sum-append, prod-append, min-append, max-append, firsts-append, lasts-append, argmin-append, argmax-append, count-append, any-append, all-append}
 use Rattle.fold_kernel.specs.declared.found.Found.{Found}
 use Rattle.fold_kernel.specs.Partials.{Folded, StandsFor, seen, joined_number, chosen}
 

@@ -4,9 +4,9 @@ use Rattle.std.specs.Int.{w64}
 use Rattle.std.specs.List.{last_or}
 use Rattle.std.proofs.lemmas.Int.{ints, int_wrap_fits}
 use Rattle.xr_types.specs.declared.kind.DType.{DType}
-use Rattle.xr_defs.specs.declared.operation.FoldKind.{FoldKind}
-use Rattle.xr_defs.specs.declared.operation.FoldKind.TheVariants.{Sum, Prod, Min, Max, First, Last, ArgMin, ArgMax, Count, Any, All}
-use Rattle.xr_defs.specs.Folds.{present, numbers}
+use Rattle.xr_types.specs.declared.operation.FoldKind.{FoldKind}
+use Rattle.xr_types.specs.declared.operation.FoldKind.TheVariants.{Sum, Prod, Min, Max, First, Last, ArgMin, ArgMax, Count, Any, All}
+use Rattle.xr_arrays.specs.Folds.{present, numbers}
 use Rattle.fold_kernel.specs.declared.found.Found.{Found}
 use Rattle.fold_kernel.specs.Partials.{StandsFor, seen, number_of, IsChosen, found, first_found}
 use Rattle.fold_kernel.proofs.Joins.{length-present}

@@ -5,8 +5,8 @@ use Rattle.std.specs.List.{fold, range_with_len}
 use Rattle.std.proofs.lemmas.List.{get_or-map, length-map}
 use Rattle.std.proofs.lemmas.List.FromFn.{length-range_with_len, get_or-range_with_len}
 use Rattle.std.proofs.lemmas.List.Sums.{fold_more}
-use Rattle.xr_defs.specs.Folds.{fold_of, numbered}
-use Rattle.xr_defs.specs.declared.operation.FoldKind.TheVariants.{Sum}
+use Rattle.xr_arrays.specs.Folds.{fold_of, numbered}
+use Rattle.xr_types.specs.declared.operation.FoldKind.TheVariants.{Sum}
 use Rattle.strided_block.specs.Boxes.{zeros}
 use Rattle.strided_block.specs.Lines.{prior, Follows}
 use Rattle.strided_block.specs.Typed.{unless_hidden}

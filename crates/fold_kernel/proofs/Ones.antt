@@ -4,10 +4,10 @@ use Rattle.std.specs.Int.{int_wrap}
 use Rattle.std.proofs.lemmas.Int.{ints}
 use Rattle.xr_types.specs.Kinds.{wrap_to}
 use Rattle.xr_types.specs.declared.kind.DType.TheVariants.{Int64}
-use Rattle.xr_defs.specs.declared.operation.FoldKind.{FoldKind}
-use Rattle.xr_defs.specs.declared.operation.FoldKind.TheVariants.{Sum, Prod, Min, Max, First, Last, ArgMin, ArgMax, Count, Any, All}
-use Rattle.xr_defs.specs.Folds.{present, truth, is_nonzero}
-use Rattle.xr_defs.proofs.Folds.{argmin_one, argmax_one}
+use Rattle.xr_types.specs.declared.operation.FoldKind.{FoldKind}
+use Rattle.xr_types.specs.declared.operation.FoldKind.TheVariants.{Sum, Prod, Min, Max, First, Last, ArgMin, ArgMax, Count, Any, All}
+use Rattle.xr_arrays.specs.Folds.{present, truth, is_nonzero}
+use Rattle.xr_arrays.proofs.Folds.{argmin_one, argmax_one}
 use Rattle.fold_kernel.specs.Partials.{IsChosen, first_found, number_of}
 
 pub none_chosen : (k : FoldKind) → IsChosen k None []

@@ -1,7 +1,7 @@
 -- The cells of a masked run.
 use Rattle.std.proofs.Common.{◌≡◌, ◌==◌, ◌≢◌, ◌<◌, ◌+◌, ℕ, ℤ, suc, zero, min, Bool, true, false, List, [], ◌∷◌, map, length, take, get_or, Option, Some, None, option_map, if◌then◌else◌, arith, ap, refl, sym, ◌∙◌}
 use Rattle.std.proofs.Math.Dec.{eqb-suc-zero}
-use Rattle.xr_defs.specs.Arrays.{hidden}
+use Rattle.xr_arrays.specs.Arrays.{hidden}
 use Rattle.fold_kernel.specs.Rows.{shown, filled, placed, count_shown, zeros}
 
 pub length_shown : {T : Type 0} (xs : List T) (mask : List ℕ) → length (shown xs mask) ≡ min (length xs) (length mask)

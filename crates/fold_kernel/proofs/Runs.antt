@@ -7,8 +7,8 @@ use Rattle.xr_types.specs.Kinds.{wrap_to}
 use Rattle.xr_types.specs.Cells.{again_int8, again_int16, again_int32, again_int64}
 use Rattle.xr_types.specs.declared.kind.DType.{DType}
 use Rattle.xr_types.specs.declared.kind.DType.TheVariants.{Bool as Truths, Char, Int8, Int16, Int32, Int64}
-use Rattle.xr_defs.specs.Folds.{present, numbers, sum_of, product_of, of_both, least, greatest, is_nonzero}
-use Rattle.xr_defs.proofs.Folds.{add_assoc_ℤ, mul_assoc_ℤ, min_assoc, max_assoc}
+use Rattle.xr_arrays.specs.Folds.{present, numbers, sum_of, product_of, of_both, least, greatest, is_nonzero}
+use Rattle.xr_arrays.proofs.Folds.{add_assoc_ℤ, mul_assoc_ℤ, min_assoc, max_assoc}
 use Rattle.fold_kernel.specs.declared.gather.Total.{Total}
 use Rattle.fold_kernel.specs.declared.gather.Product.{Product}
 use Rattle.fold_kernel.specs.declared.gather.AnyNonzero.{AnyNonzero}

@@ -6,10 +6,10 @@ use Rattle.std.specs.Int.{int_wrap, w64}
 use Rattle.std.specs.List.{fold}
 use Rattle.std.proofs.lemmas.Int.{ints, int_wrap-add_left}
 use Rattle.xr_types.specs.declared.kind.DType.{DType}
-use Rattle.xr_defs.specs.declared.operation.FoldKind.TheVariants.{Sum}
-use Rattle.xr_defs.specs.Arrays.{hidden}
-use Rattle.xr_defs.specs.Folds.{fold_of, present, numbers, sum_of, numbered}
-use Rattle.xr_defs.proofs.Folds.{add_assoc_ℤ, present-append, numbers-append, sum_of-append}
+use Rattle.xr_types.specs.declared.operation.FoldKind.TheVariants.{Sum}
+use Rattle.xr_arrays.specs.Arrays.{hidden}
+use Rattle.xr_arrays.specs.Folds.{fold_of, present, numbers, sum_of, numbered}
+use Rattle.xr_arrays.proofs.Folds.{add_assoc_ℤ, present-append, numbers-append, sum_of-append}
 use Rattle.fold_kernel.specs.Partials.{Folded, StandsFor, best_of}
 use Rattle.fold_kernel.specs.Rows.{placed, shown, with_cell}
 use Rattle.fold_kernel.proofs.Rows.{whole_run, masked_run}

@@ -6,9 +6,9 @@ use Rattle.std.specs.List.{last_or, list_any, list_all}
 use Rattle.xr_types.specs.Kinds.{wrap_to}
 use Rattle.xr_types.specs.declared.kind.DType.{DType}
 use Rattle.xr_types.specs.declared.kind.DType.TheVariants.{Int64}
-use Rattle.xr_defs.specs.declared.operation.FoldKind.{FoldKind}
-use Rattle.xr_defs.specs.declared.operation.FoldKind.TheVariants.{Sum, Prod, Min, Max, First, Last, ArgMin, ArgMax, Count, Any, All}
-use Rattle.xr_defs.specs.Folds.{fold_of, present, numbers, first_place, least, greatest, sum_of, product_of, truth, is_nonzero}
+use Rattle.xr_types.specs.declared.operation.FoldKind.{FoldKind}
+use Rattle.xr_types.specs.declared.operation.FoldKind.TheVariants.{Sum, Prod, Min, Max, First, Last, ArgMin, ArgMax, Count, Any, All}
+use Rattle.xr_arrays.specs.Folds.{fold_of, present, numbers, first_place, least, greatest, sum_of, product_of, truth, is_nonzero}
 use Rattle.fold_kernel.specs.declared.found.Found.{Found}
 
 -- a fold so far: which one, of cells of which kind, its value, and for argmin and argmax the number at that position

@@ -1,7 +1,7 @@
 -- Runs of cells as they lie in memory, and what a loop over one gathers.
 use Rattle.std.specs.Prelude.{◌==◌, ◌+◌, ◌/◌, ℕ, suc, ℤ, ◌+ℤ◌, List, [], ◌∷◌, map, zip, Option, Some, None, option_map, if◌then◌else◌}
 use Rattle.std.specs.Int.{int_wrap, w64}
-use Rattle.xr_defs.specs.Folds.{numbered}
+use Rattle.xr_arrays.specs.Folds.{numbered}
 
 -- the cells of a run, of which those are missing whose byte in the mask isn't 0
 abbrev pub shown : {T : Type 0} → List T → List ℕ → List (Option T)

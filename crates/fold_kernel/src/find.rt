@@ -1,6 +1,6 @@
 //! Searches for a present cell in a run.
 ghost use Rattle.std.specs.Prelude.{◌≡◌, ◌≤◌, ◌+◌, ◌^◌, length};
-ghost use Rattle.xr_defs.specs.Folds.{present};
+ghost use Rattle.xr_arrays.specs.Folds.{present};
 ghost use Rattle.fold_kernel.specs.Partials.{first_found, last_found, found_with};
 ghost use Rattle.fold_kernel.specs.Rows.{placed};
 

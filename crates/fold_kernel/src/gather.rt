@@ -1,7 +1,7 @@
 //! One loop over a run for every fold that takes the cells in turn.
 ghost use Rattle.std.specs.Prelude.{◌≡◌, ◌||◌, ◌&&◌, [], ◌∷◌, take, drop, length, ℤ, pos, ◌+ℤ◌, ◌*ℤ◌, int_lt, if◌then◌else◌};
 ghost use Rattle.std.specs.Int.{int_wrap, w64};
-ghost use Rattle.xr_defs.specs.Folds.{is_nonzero, truth};
+ghost use Rattle.xr_arrays.specs.Folds.{is_nonzero, truth};
 ghost use Rattle.fold_kernel.specs.Rows.{gathered, half};
 
 use crate::row::Row;

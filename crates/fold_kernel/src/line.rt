@@ -1,9 +1,9 @@
 //! Running sums along a line of cells.
 ghost use Rattle.std.specs.Prelude.{◌≡◌, ◌<◌, ◌+◌, ◌++◌, ℕ, ℤ, List, Option, Some, length, take, get_or, option_map, pos, slice_set};
 ghost use Rattle.xr_types.specs.declared.kind.DType.TheVariants.{Int64};
-ghost use Rattle.xr_defs.specs.Folds.{fold_of, numbered};
-ghost use Rattle.xr_defs.specs.Points.{IsPoint};
-ghost use Rattle.xr_defs.specs.declared.operation.FoldKind.TheVariants.{Sum};
+ghost use Rattle.xr_arrays.specs.Folds.{fold_of, numbered};
+ghost use Rattle.xr_types.specs.Points.{IsPoint};
+ghost use Rattle.xr_types.specs.declared.operation.FoldKind.TheVariants.{Sum};
 ghost use Rattle.strided_block.specs.Boxes.{plus, zeros};
 ghost use Rattle.strided_block.specs.Cells.{cell_shown, cell_held, cell_in, SameWindow};
 ghost use Rattle.strided_block.specs.Lines.{IsLine};

@@ -1,8 +1,8 @@
 //! A fold of cells that is under way.
 ghost use Rattle.std.specs.Prelude.{◌≡◌, ◌≤◌, ◌<◌, ◌+◌, ◌^◌, ℕ, ℤ, List, [], ◌∷◌, ◌++◌, map, length, Option, Some, None};
-ghost use Rattle.xr_defs.specs.Arrays.{hidden};
-ghost use Rattle.xr_defs.specs.Folds.{fold_of, numbered, present};
-ghost use Rattle.xr_defs.specs.declared.operation.FoldKind.TheVariants.{Sum};
+ghost use Rattle.xr_arrays.specs.Arrays.{hidden};
+ghost use Rattle.xr_arrays.specs.Folds.{fold_of, numbered, present};
+ghost use Rattle.xr_types.specs.declared.operation.FoldKind.TheVariants.{Sum};
 ghost use Rattle.fold_kernel.specs.Partials.{StandsFor, joined_number, number_of, chosen, keeps_first, first_found};
 ghost use Rattle.fold_kernel.specs.Rows.{placed};
 
@@ -11,7 +11,7 @@ use crate::gather::{added, multiplied, truth};
 use crate::row::{Masked, Row, Whole};
 use crate::run::{run_found, run_number};
 use std::marker::Model;
-use xr_defs::FoldKind;
+use xr_types::FoldKind;
 use xr_types::{DType, Elem};
 
 /// A fold of the cells that it has absorbed so far, each with its position. It takes no memory.

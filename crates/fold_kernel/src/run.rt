@@ -2,7 +2,7 @@
 ghost use Rattle.std.specs.Prelude.{◌≡◌, ◌≤◌, ◌+◌, ◌^◌, ℕ, pos, length, option_map, option_and_then};
 ghost use Rattle.xr_types.specs.Kinds.{wrap_to};
 ghost use Rattle.xr_types.specs.declared.kind.DType.TheVariants.{Int64};
-ghost use Rattle.xr_defs.specs.Folds.{present, numbers, sum_of, least, greatest};
+ghost use Rattle.xr_arrays.specs.Folds.{present, numbers, sum_of, least, greatest};
 ghost use Rattle.fold_kernel.specs.Partials.{number_of, found_with, IsChosen};
 ghost use Rattle.fold_kernel.specs.Rows.{placed, first_shown};
 
@@ -12,7 +12,7 @@ use crate::gather::{
     AllNonzero, AnyNonzero, Greatest, Least, Product, Total, gather, gather_halves, truth,
 };
 use crate::row::{Filled, Row};
-use xr_defs::FoldKind;
+use xr_types::FoldKind;
 use xr_types::Elem;
 
 /// The sum, the product or the count of the present cells, wrapped at 64 bits, or 1 or 0 for any and all.

@@ -1,8 +1,8 @@
 //! Running sums along a run.
 ghost use Rattle.std.specs.Prelude.{◌≡◌, ◌<◌, ◌+◌, ◌∷◌, ◌++◌, ℕ, ℤ, pos, List, Option, Some, None, map, length, take, fold, slice_index_or};
-ghost use Rattle.xr_defs.specs.Arrays.{hidden};
-ghost use Rattle.xr_defs.specs.Folds.{fold_of, numbered};
-ghost use Rattle.xr_defs.specs.declared.operation.FoldKind.TheVariants.{Sum};
+ghost use Rattle.xr_arrays.specs.Arrays.{hidden};
+ghost use Rattle.xr_arrays.specs.Folds.{fold_of, numbered};
+ghost use Rattle.xr_types.specs.declared.operation.FoldKind.TheVariants.{Sum};
 ghost use Rattle.fold_kernel.specs.Partials.{StandsFor};
 ghost use Rattle.fold_kernel.specs.Rows.{with_cell};
 

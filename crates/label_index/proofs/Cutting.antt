@@ -6,10 +6,10 @@ use Rattle.xr_types.specs.declared.fault.Fault.TheVariants.{NotMonotonic}
 use Rattle.std.proofs.lemmas.Bool.{cases_lt}
 use Rattle.std.proofs.lemmas.Bool.Decides.{nat_tests}
 use Rattle.xr_types.specs.declared.axis.Label.{Label}
-use Rattle.xr_defs.specs.Labels.{label_at, at_most, below, is_from, is_to, is_neither, direction_of, between, ordered_slice}
-use Rattle.xr_defs.specs.declared.search.Direction.{Direction}
-use Rattle.xr_defs.specs.declared.search.Direction.TheVariants.{Neither}
-use Rattle.xr_defs.proofs.LabelPlaces.{positions_run, positions_none}
+use Rattle.xr_arrays.specs.Labels.{label_at, at_most, below, is_from, is_to, is_neither, direction_of, between, ordered_slice}
+use Rattle.xr_arrays.specs.declared.search.Direction.{Direction}
+use Rattle.xr_arrays.specs.declared.search.Direction.TheVariants.{Neither}
+use Rattle.xr_arrays.proofs.LabelPlaces.{positions_run, positions_none}
 use Rattle.label_index.specs.declared.rank.Ranks.{Ranks}
 use Rattle.label_index.specs.declared.rank.Ranks.TheVariants.{Rising, Falling}
 use Rattle.label_index.specs.Ranks.{ranked, direction, stands_before}

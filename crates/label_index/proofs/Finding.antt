@@ -4,9 +4,9 @@ use Rattle.std.proofs.lemmas.Bool.{cases_eq, cases_lt}
 use Rattle.std.proofs.lemmas.Bool.Decides.{nat_tests}
 use Rattle.xr_types.specs.declared.axis.Label.{Label}
 use Rattle.xr_types.specs.declared.fault.Fault.TheVariants.{NotUnique, NoSuchLabel}
-use Rattle.xr_defs.specs.Labels.{label_at, at_most, below, same, positions, place, sole, repeats}
-use Rattle.xr_defs.proofs.LabelLaws.{below_is, same_is, at_most-trans}
-use Rattle.xr_defs.proofs.LabelPlaces.{positions_none, positions_one, positions_two, repeats_none, repeats_two}
+use Rattle.xr_arrays.specs.Labels.{label_at, at_most, below, same, positions, place, sole, repeats}
+use Rattle.xr_arrays.proofs.LabelLaws.{below_is, same_is, at_most-trans}
+use Rattle.xr_arrays.proofs.LabelPlaces.{positions_none, positions_one, positions_two, repeats_none, repeats_two}
 use Rattle.label_index.specs.declared.rank.Ranks.{Ranks}
 use Rattle.label_index.specs.Ranks.{position, IsRanked, ranked}
 

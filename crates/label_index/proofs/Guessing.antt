@@ -9,9 +9,9 @@ use Rattle.xr_types.specs.declared.axis.LabelList.{LabelList}
 use Rattle.xr_types.specs.declared.axis.LabelList.TheVariants.{Numbers, Times}
 use Rattle.xr_types.specs.declared.axis.TimeCoding.{TimeCoding}
 use Rattle.xr_types.specs.declared.kind.DType.{DType}
-use Rattle.xr_defs.specs.Labels.{labels_of, label_at, same, repeats, place, sole}
-use Rattle.xr_defs.proofs.LabelLaws.{order_total, at_most-trans}
-use Rattle.xr_defs.proofs.LabelPlaces.{positions_one, repeats_two}
+use Rattle.xr_arrays.specs.Labels.{labels_of, label_at, same, repeats, place, sole}
+use Rattle.xr_arrays.proofs.LabelLaws.{order_total, at_most-trans}
+use Rattle.xr_arrays.proofs.LabelPlaces.{positions_one, repeats_two}
 use Rattle.label_index.proofs.Finding.{is_false, same_both, same_most, same_least}
 use Rattle.label_index.proofs.Rows.{numbers_at, times_at}
 

@@ -8,8 +8,8 @@ use Rattle.xr_types.specs.declared.axis.Label.TheVariants.{Int, Time, Text}
 use Rattle.xr_types.specs.declared.axis.LabelList.{LabelList}
 use Rattle.xr_types.specs.declared.axis.LabelList.TheVariants.{Numbers, Times, Texts}
 use Rattle.xr_types.specs.declared.fault.Fault.TheVariants.{NoSuchLabel}
-use Rattle.xr_defs.specs.Labels.{labels_of, label_at, same, repeats, place, sole, is_kin}
-use Rattle.xr_defs.proofs.LabelPlaces.{positions_none, repeats_none}
+use Rattle.xr_arrays.specs.Labels.{labels_of, label_at, same, repeats, place, sole, is_kin}
+use Rattle.xr_arrays.proofs.LabelPlaces.{positions_none, repeats_none}
 use Rattle.label_index.specs.Slots.{numbers_of, number_of, home, holds, seek, look, IsHashed}
 use Rattle.std.specs.Global.{Vec}
 use Rattle.label_index.specs.declared.place.Places.{Places}

@@ -9,10 +9,10 @@ use Rattle.xr_types.specs.declared.axis.Label.{Label}
 use Rattle.xr_types.specs.declared.axis.Label.TheVariants.{Int, Time, Text}
 use Rattle.xr_types.specs.declared.axis.LabelList.{LabelList}
 use Rattle.xr_types.specs.declared.axis.LabelList.TheVariants.{Numbers, Times, Texts}
-use Rattle.xr_defs.specs.declared.operation.Near.TheVariants.{Pad, Backfill, Nearest}
-use Rattle.xr_defs.specs.Labels.{labels_of, label_at, at_most, below, repeats, distance, is_near, near, is_kin, is_text}
-use Rattle.xr_defs.proofs.LabelLaws.{below_is, at_most-refl, one_way}
-use Rattle.xr_defs.proofs.LabelPlaces.{positions_none, list_all_holds, list_all_fails}
+use Rattle.xr_types.specs.declared.operation.Near.TheVariants.{Pad, Backfill, Nearest}
+use Rattle.xr_arrays.specs.Labels.{labels_of, label_at, at_most, below, repeats, distance, is_near, near, is_kin, is_text}
+use Rattle.xr_arrays.proofs.LabelLaws.{below_is, at_most-refl, one_way}
+use Rattle.xr_arrays.proofs.LabelPlaces.{positions_none, list_all_holds, list_all_fails}
 use Rattle.label_index.specs.declared.rank.Ranks.{Ranks}
 use Rattle.label_index.specs.Ranks.{position, IsRanked, ranked}
 use Rattle.label_index.proofs.Rows.{numbers_at, times_at}

@@ -1,7 +1,7 @@
 -- The numbers below a count, in another order: each once.
 use Rattle.std.proofs.Common.{◌≡◌, ℕ, ◌<◌, ◌+◌, List, [], ◌∷◌, ◌++◌, subst, length, refl, sym, ◌∙◌, ap, arith, get_or, inl, inr}
 use Rattle.std.specs.List.{range_with_len, swap}
-use Rattle.xr_defs.proofs.LabelPlaces.{range_with_len-add}
+use Rattle.xr_arrays.proofs.LabelPlaces.{range_with_len-add}
 use Rattle.std.specs.List.Sorted.{IsPermutation}
 use Rattle.std.proofs.lemmas.Bool.{cases_eq}
 use Rattle.std.proofs.lemmas.List.{get_or_default}

@@ -5,11 +5,11 @@ use Rattle.std.specs.List.Sorted.{IsPermutation, IsSortedBy}
 use Rattle.std.specs.Ordering.{is_lt}
 use Rattle.std.specs.Global.{Vec}
 use Rattle.xr_types.specs.declared.axis.Label.{Label}
-use Rattle.xr_defs.specs.Labels.{label_at, at_most, is_ascending, is_descending, order}
-use Rattle.xr_defs.specs.declared.search.Direction.{Direction}
-use Rattle.xr_defs.specs.declared.search.Direction.TheVariants.{Ascending, Descending, Neither}
-use Rattle.xr_defs.proofs.LabelLaws.{at_most-trans, at_most-refl, not_less}
-use Rattle.xr_defs.proofs.LabelPlaces.{each_next_at}
+use Rattle.xr_arrays.specs.Labels.{label_at, at_most, is_ascending, is_descending, order}
+use Rattle.xr_arrays.specs.declared.search.Direction.{Direction}
+use Rattle.xr_arrays.specs.declared.search.Direction.TheVariants.{Ascending, Descending, Neither}
+use Rattle.xr_arrays.proofs.LabelLaws.{at_most-trans, at_most-refl, not_less}
+use Rattle.xr_arrays.proofs.LabelPlaces.{each_next_at}
 use Rattle.label_index.specs.declared.rank.Ranks.TheVariants.{Rising, Falling, Sorted}
 use Rattle.label_index.proofs.Permuting.{Once, once_permuted, found_permuted}
 use Rattle.label_index.specs.Ranks.{IsRanked}

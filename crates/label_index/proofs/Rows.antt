@@ -6,7 +6,7 @@ use Rattle.xr_types.specs.declared.axis.LabelList.{LabelList}
 use Rattle.xr_types.specs.declared.axis.LabelList.TheVariants.{Numbers, Times, Texts}
 use Rattle.xr_types.specs.declared.axis.TimeCoding.{TimeCoding}
 use Rattle.xr_types.specs.declared.kind.DType.{DType}
-use Rattle.xr_defs.specs.Labels.{labels_of, label_at, order}
+use Rattle.xr_arrays.specs.Labels.{labels_of, label_at, order}
 use Rattle.std.specs.Ordering.{is_lt, int_cmp, nat_cmp}
 use Rattle.std.specs.Cmp.Lexicographic.{slice_cmp}
 

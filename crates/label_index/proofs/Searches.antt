@@ -3,8 +3,8 @@ use Rattle.std.proofs.Common.{◌≡◌, ℕ, ◌<◌, ◌≤◌, ◌+◌, Bool,
 use Rattle.std.proofs.lemmas.Bool.{cases_eq}
 use Rattle.std.proofs.lemmas.Bool.Decides.{nat_tests}
 use Rattle.xr_types.specs.declared.axis.Label.{Label}
-use Rattle.xr_defs.specs.Labels.{at_most, below, same}
-use Rattle.xr_defs.proofs.LabelLaws.{below_is, at_most-trans}
+use Rattle.xr_arrays.specs.Labels.{at_most, below, same}
+use Rattle.xr_arrays.proofs.LabelLaws.{below_is, at_most-trans}
 use Rattle.label_index.specs.declared.rank.Ranks.{Ranks}
 use Rattle.label_index.specs.Ranks.{IsRanked, ranked, stands_before}
 

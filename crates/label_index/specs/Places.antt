@@ -1,8 +1,8 @@
 -- How an index finds positions.
 use Rattle.std.specs.Prelude.{◌≡◌}
 use Rattle.xr_types.specs.declared.axis.LabelList.{LabelList}
-use Rattle.xr_defs.specs.Labels.{labels_of, direction_of}
-use Rattle.xr_defs.specs.declared.search.Direction.TheVariants.{Neither}
+use Rattle.xr_arrays.specs.Labels.{labels_of, direction_of}
+use Rattle.xr_arrays.specs.declared.search.Direction.TheVariants.{Neither}
 use Rattle.label_index.specs.declared.place.Places.{Places}
 use Rattle.label_index.specs.declared.place.Places.TheVariants.{Ranked, Hashed}
 use Rattle.label_index.specs.Ranks.{IsRanked}

@@ -1,9 +1,9 @@
 -- The order in which an index takes the positions of an axis, so that their labels ascend.
 use Rattle.std.specs.Prelude.{◌≡◌, ◌<◌, ◌≤◌, ◌-◌, ℕ, Bool, true, List, length, slice_index, if◌then◌else◌}
 use Rattle.xr_types.specs.declared.axis.Label.{Label}
-use Rattle.xr_defs.specs.Labels.{label_at, at_most, below, direction_of}
-use Rattle.xr_defs.specs.declared.search.Direction.{Direction}
-use Rattle.xr_defs.specs.declared.search.Direction.TheVariants.{Ascending, Descending, Neither}
+use Rattle.xr_arrays.specs.Labels.{label_at, at_most, below, direction_of}
+use Rattle.xr_arrays.specs.declared.search.Direction.{Direction}
+use Rattle.xr_arrays.specs.declared.search.Direction.TheVariants.{Ascending, Descending, Neither}
 use Rattle.label_index.specs.declared.rank.Ranks.{Ranks}
 use Rattle.label_index.specs.declared.rank.Ranks.TheVariants.{Rising, Falling, Sorted}
 

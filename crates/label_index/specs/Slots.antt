@@ -5,7 +5,7 @@ use Rattle.xr_types.specs.declared.axis.Label.{Label}
 use Rattle.xr_types.specs.declared.axis.Label.TheVariants.{Int, Time, Text}
 use Rattle.xr_types.specs.declared.axis.LabelList.{LabelList}
 use Rattle.xr_types.specs.declared.axis.LabelList.TheVariants.{Numbers, Times, Texts}
-use Rattle.xr_defs.specs.Labels.{labels_of}
+use Rattle.xr_arrays.specs.Labels.{labels_of}
 
 -- the numbers of a list, times by their seconds
 abbrev pub numbers_of : LabelList → List ℤ

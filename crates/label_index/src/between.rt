@@ -2,14 +2,14 @@
 ghost use Rattle.std.specs.Prelude.{◌≡◌, ◌≢◌, ◌<◌, ◌≤◌, ◌-◌, ◌&&◌, ◌||◌, nat_le, nat_lt, ℕ, length, true, false, is_some, Some, Ok, Err, MatchResult, IfOk};
 ghost use Rattle.std.specs.List.{range_with_len};
 ghost use Rattle.std.specs.Option.{option_copied};
-ghost use Rattle.xr_defs.specs.Labels.{labels_of, label_at, is_from, is_to, is_neither, is_kin_end, direction_of, ordered_slice};
-ghost use Rattle.xr_defs.specs.declared.search.Direction.TheVariants.{Neither};
+ghost use Rattle.xr_arrays.specs.Labels.{labels_of, label_at, is_from, is_to, is_neither, is_kin_end, direction_of, ordered_slice};
+ghost use Rattle.xr_arrays.specs.declared.search.Direction.TheVariants.{Neither};
 ghost use Rattle.label_index.specs.Ranks.{direction, IsRanked};
 
 use crate::label;
 use crate::rank::Ranks;
 use crate::search::first_rank;
-use xr_defs::Span;
+use xr_arrays::Span;
 use xr_types::{Fault, Label, LabelList};
 
 /// Whether an end is of the list's kind, if there is one.

@@ -1,7 +1,7 @@
 //! A guess at the position of a label among ascending ones, by their mean step. Evenly spaced labels are found by
 //! one division; a wrong guess costs a look, and never gives a wrong answer.
 ghost use Rattle.std.specs.Prelude.{◌≡◌, ◌<◌, pos, length, false, true, slice_index_or, IfSome, Ok};
-ghost use Rattle.xr_defs.specs.Labels.{labels_of, label_at, same, repeats, place};
+ghost use Rattle.xr_arrays.specs.Labels.{labels_of, label_at, same, repeats, place};
 
 use crate::label;
 use crate::place::Places;

@@ -2,7 +2,7 @@
 //! the number's hash. The table is taken where each number is then found at its own position, so that no number
 //! stands twice and a search that finds none is right.
 ghost use Rattle.std.specs.Prelude.{◌≡◌, ◌<◌, ◌≤◌, ◌^◌, ◌-◌, ◌+◌, ℕ, pos, length, min, take, drop, slice_index_or, true, false, IfOk, IfSome, Some};
-ghost use Rattle.xr_defs.specs.Labels.{labels_of, place, is_kin};
+ghost use Rattle.xr_arrays.specs.Labels.{labels_of, place, is_kin};
 ghost use Rattle.label_index.specs.Slots.{numbers_of, number_of, hash, mark, home, holds, seek, look, FindsEach, IsHashed};
 
 use crate::label;

@@ -2,14 +2,15 @@
 ghost use Rattle.std.specs.Prelude.{◌≡◌, ◌<◌, ◌≤◌, ◌^◌, IfOk, MatchOption, MatchResult, Ok, Err, Some, not};
 ghost use Rattle.std.specs.List.{range_with_len};
 ghost use Rattle.std.specs.Option.{option_copied};
-ghost use Rattle.xr_defs.specs.Labels.{labels_of, repeats, direction_of, find_of, find_near_of, slice_of, IsLabelled, list_of};
+ghost use Rattle.xr_arrays.specs.Labels.{labels_of, repeats, direction_of, find_of, find_near_of, slice_of, IsLabelled, list_of};
 ghost use Rattle.label_index.specs.Places.{IsPlaced};
 
 use crate::place::Places;
 use crate::{between, guess, hash, label, near, place, search};
 use std::alloc::Global;
 use std::marker::Model;
-use xr_defs::{Direction, Near, Span};
+use xr_types::Near;
+use xr_arrays::{Direction, Span};
 use xr_types::{Axis, Fault, Label, LabelList, NoMemory};
 
 /// An axis's labels, ready for look-ups. It holds the axis and, where the labels neither ascend nor descend, six
@@ -26,7 +27,7 @@ pub struct Index<'a> {
 impl<'a> Model for Index<'a> {
     ghost use Rattle.std.specs.Prelude.{◌≡◌, ◌<◌, false, not};
     ghost use Rattle.xr_types.specs.declared.axis.LabelList.{LabelList};
-    ghost use Rattle.xr_defs.specs.Labels.{labels_of, repeats};
+    ghost use Rattle.xr_arrays.specs.Labels.{labels_of, repeats};
     ghost use Rattle.label_index.specs.Places.{IsPlaced};
 
     ghost Value = { LabelList };

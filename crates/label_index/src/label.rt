@@ -1,6 +1,6 @@
 //! The labels of a list, one at a time.
 ghost use Rattle.std.specs.Prelude.{◌≡◌, ◌<◌, length};
-ghost use Rattle.xr_defs.specs.Labels.{labels_of, label_at, order, distance, is_kin, is_text};
+ghost use Rattle.xr_arrays.specs.Labels.{labels_of, label_at, order, distance, is_kin, is_text};
 ghost use Rattle.label_index.specs.Slots.{numbers_of, number_of};
 
 use std::cmp::Ordering;

@@ -1,14 +1,14 @@
 //! The position whose label is near one.
 ghost use Rattle.std.specs.Prelude.{◌≡◌, ◌<◌, ℕ, length, true, false, IfSome, Some};
 ghost use Rattle.std.specs.Option.{option_to_list};
-ghost use Rattle.xr_defs.specs.Labels.{labels_of, repeats, near, is_kin, is_text, can_be_near, suits, reached};
-ghost use Rattle.xr_defs.specs.declared.operation.Near.TheVariants as methods;
+ghost use Rattle.xr_arrays.specs.Labels.{labels_of, repeats, near, is_kin, is_text, can_be_near, suits, reached};
+ghost use Rattle.xr_types.specs.declared.operation.Near.TheVariants as methods;
 ghost use Rattle.label_index.specs.Ranks.{direction, IsRanked};
 
 use crate::rank::Ranks;
 use crate::search::first_rank;
 use crate::{label, rank};
-use xr_defs::Near;
+use xr_types::Near;
 use xr_types::{Fault, Label, LabelList};
 
 /// Whether a label can be sought near: it is of the list's kind, and a text has no distance.

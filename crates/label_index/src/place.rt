@@ -1,12 +1,12 @@
 //! How an index finds the positions of its labels.
 ghost use Rattle.std.specs.Prelude.{◌≡◌, ◌≤◌, ◌^◌, not, length, IfOk};
-ghost use Rattle.xr_defs.specs.Labels.{labels_of, direction_of, repeats};
+ghost use Rattle.xr_arrays.specs.Labels.{labels_of, direction_of, repeats};
 ghost use Rattle.label_index.specs.Places.{IsPlaced};
 
 use crate::rank::Ranks;
 use crate::{hash, label, rank, scan, search};
 use std::alloc::{AllocError, Global};
-use xr_defs::Direction;
+use xr_arrays::Direction;
 use xr_types::LabelList;
 
 /// How the positions of labels are found.

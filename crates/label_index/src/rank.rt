@@ -1,11 +1,11 @@
 //! The ranks of an axis's positions: with the ranks the labels ascend.
 ghost use Rattle.std.specs.Prelude.{◌≡◌, ◌<◌, ◌≤◌, ℕ, length, true, false};
-ghost use Rattle.xr_defs.specs.Labels.{labels_of, label_at, order};
+ghost use Rattle.xr_arrays.specs.Labels.{labels_of, label_at, order};
 ghost use Rattle.label_index.specs.Ranks.{position, direction, HasRank, IsRanked, stands_before};
 
 use crate::label;
 use std::cmp::Ordering;
-use xr_defs::Direction;
+use xr_arrays::Direction;
 use xr_types::{Label, LabelList};
 
 /// How the position at a rank is found.

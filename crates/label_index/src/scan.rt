@@ -4,7 +4,7 @@ ghost use Rattle.std.specs.List.{range_with_len};
 ghost use Rattle.std.specs.List.Sorted.{IsPermutation, IsSortedBy};
 ghost use Rattle.std.specs.Ordering.{is_lt, int_cmp, nat_cmp};
 ghost use Rattle.std.specs.Cmp.Lexicographic.{slice_cmp};
-ghost use Rattle.xr_defs.specs.Labels.{labels_of, label_at, each_next, is_ascending, is_descending};
+ghost use Rattle.xr_arrays.specs.Labels.{labels_of, label_at, each_next, is_ascending, is_descending};
 ghost use Rattle.label_index.specs.Ranks.{next_way, IsRanked};
 
 use crate::label;
@@ -13,7 +13,7 @@ use std::alloc::{AllocError, Global};
 use xr_types::{LabelList, TextBytes};
 
 /// Whether the label at a position is at least the one before; where they are to fall, at most.
-#[tactic(auto, using(xr_defs::proofs::LabelLaws::at_least_is))]
+#[tactic(auto, using(xr_arrays::proofs::LabelLaws::at_least_is))]
 fn steps(list: &LabelList, at: usize, falling: bool) -> bool
     requires from { 0 < at }
     requires within { at < length (labels_of list.now) }

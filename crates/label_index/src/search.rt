@@ -1,6 +1,6 @@
 //! Searches among ranks.
 ghost use Rattle.std.specs.Prelude.{◌≡◌, ◌<◌, ◌≤◌, ◌+◌, ◌-◌, ◌&&◌, nat_lt, not, ℕ, length, true, false};
-ghost use Rattle.xr_defs.specs.Labels.{labels_of, label_at, order, same, place, repeats};
+ghost use Rattle.xr_arrays.specs.Labels.{labels_of, label_at, order, same, place, repeats};
 ghost use Rattle.label_index.specs.Ranks.{position, HasRank, IsRanked, ranked, stands_before};
 
 use crate::rank::Ranks;

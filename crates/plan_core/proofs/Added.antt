@@ -4,13 +4,15 @@ use Rattle.std.proofs.lemmas.List.{append-nil}
 use Rattle.std.proofs.lemmas.Nat.{mul-le}
 use Rattle.std.proofs.lemmas.List.Sums.{sum_by-append}
 use Rattle.std.specs.List.{sum_by}
-use Rattle.xr_defs.specs.Points.{size}
-use Rattle.xr_defs.specs.Arrays.{Array}
-use Rattle.xr_defs.specs.Nodes.{node_value, value, values, Pushes}
-use Rattle.xr_defs.specs.declared.node.Node.{Node}
-use Rattle.xr_defs.specs.Canonical.{are_distinct}
-use Rattle.xr_defs.specs.Values.{DataArray, axis_names, shape_over}
-use Rattle.xr_defs.specs.Room.{cells_of, AddsAtMost, AddsForAny, Portion, count, of_array, room, span}
+use Rattle.xr_types.specs.Points.{size}
+use Rattle.xr_arrays.specs.Arrays.{Array}
+use Rattle.xr_arrays.specs.Nodes.{node_value, value, values, Pushes}
+use Rattle.xr_arrays.specs.declared.node.Node.{Node}
+use Rattle.xr_types.specs.Names.{are_distinct}
+use Rattle.xr_types.specs.Names.{axis_names, shape_over}
+use Rattle.xr_defs.specs.Values.{DataArray}
+use Rattle.xr_arrays.specs.Added.{cells_of, AddsAtMost}
+use Rattle.xr_defs.specs.Room.{AddsForAny, Portion, count, of_array, room, span}
 use Rattle.xr_defs.proofs.Spans.{back_among, greatest_both, points_above}
 use Rattle.plan_core.proofs.Plans.{values-append}
 

@@ -10,10 +10,10 @@ use Rattle.xr_types.specs.Kinds.{InRange, wrap_to}
 use Rattle.xr_types.specs.declared.kind.DType.{DType}
 use Rattle.xr_types.specs.declared.kind.DType.TheVariants as kinds
 use Rattle.xr_types.proofs.Wrapping.{wrapped_only}
-use Rattle.xr_defs.specs.Points.{size, tab, place, IsPoint}
-use Rattle.xr_defs.specs.Arrays.{Array, cell, hidden, wide, kind_of, InKind, IsCell}
-use Rattle.xr_defs.specs.declared.typed.Cells.{Cells}
-use Rattle.xr_defs.specs.declared.typed.Cells.TheVariants.{Bool as Truths, Char, Int8, Int16, Int32, Int64}
+use Rattle.xr_types.specs.Points.{size, tab, place, IsPoint}
+use Rattle.xr_arrays.specs.Arrays.{Array, cell, hidden, wide, kind_of, InKind, IsCell}
+use Rattle.xr_arrays.specs.declared.typed.Cells.{Cells}
+use Rattle.xr_arrays.specs.declared.typed.Cells.TheVariants.{Bool as Truths, Char, Int8, Int16, Int32, Int64}
 use Rattle.plan_core.specs.Arrangements.{shown, arranged, arranged_cells, arranged_mask, filling, gap, cell_from, rearranged, LieInside, ShowsAll}
 use Rattle.plan_core.proofs.Tabs.{tab_same, tab-map, tab-zip, tab-length, place_below, All-tab}
 

@@ -3,9 +3,9 @@ use Rattle.std.proofs.Common.{◌≡◌, ◌<◌, ◌≤◌, ◌+◌, ◌-◌, �
 use Rattle.std.specs.Prelude.{IfSome}
 use Rattle.std.proofs.lemmas.List.{get_or_default}
 use Rattle.xr_types.specs.declared.kind.DType.{DType}
-use Rattle.xr_defs.specs.Points.{size, place, IsPoint}
-use Rattle.xr_defs.specs.Arrays.{Array}
-use Rattle.xr_defs.specs.Nodes.{IsBelow, taken_or_picked}
+use Rattle.xr_types.specs.Points.{size, place, IsPoint}
+use Rattle.xr_arrays.specs.Arrays.{Array}
+use Rattle.xr_arrays.specs.Nodes.{IsBelow, taken_or_picked}
 use Rattle.plan_core.specs.Arrangements.{shown, arranged, cell_from}
 use Rattle.plan_core.specs.Takes.{parts, each_block, taking_sizes, taking_point, IsRun, IsTaking}
 use Rattle.plan_core.proofs.Tabs.{tab_same, place_below}

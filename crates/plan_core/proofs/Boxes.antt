@@ -1,10 +1,10 @@
 -- Boxes read by the strides of their list, and axes that stay before those that are folded.
 use Rattle.std.proofs.Common.{◌≡◌, ◌≢◌, ◌<◌, ◌≤◌, ◌+◌, ◌-◌, ◌*◌, ◌^◌, ℕ, zero, suc, List, [], ◌∷◌, ◌++◌, length, take, drop, get_or, min, Option, refl, sym, ap, subst, ◌∙◌, arith, append_assoc, length-append, drop-cons, add-one}
 use Rattle.std.proofs.lemmas.List.{append-nil, drop_all, nil_from_length}
-use Rattle.xr_defs.specs.declared.node.Feed.{Feed}
-use Rattle.xr_defs.specs.declared.node.Feed.TheVariants as feed
-use Rattle.xr_defs.specs.Points.{size, place, IsPoint}
-use Rattle.xr_defs.specs.Nodes.{kept}
+use Rattle.xr_arrays.specs.declared.node.Feed.{Feed}
+use Rattle.xr_arrays.specs.declared.node.Feed.TheVariants as feed
+use Rattle.xr_types.specs.Points.{size, place, IsPoint}
+use Rattle.xr_arrays.specs.Nodes.{kept}
 use Rattle.plan_core.specs.Arrangements.{shown, arranged, LieInside}
 use Rattle.plan_core.specs.Strides.{reached, strided, Reaches, IsBox, dot, own_strides, spread, woven, sorted_sizes, sorted_point, selected, selected_one, IsSorting}
 use Rattle.plan_core.proofs.Tabs.{tab_same, tab-length, place_below}

@@ -7,11 +7,11 @@ use Rattle.std.proofs.lemmas.List.Elements.{All-head, All-tail, All-cons, All-ap
 use Rattle.std.proofs.lemmas.Slice.Zip.{length-zip}
 use Rattle.std.proofs.Math.ListN.{get_or-append}
 use Rattle.std.proofs.lemmas.List.{append-nil, drop_all, take_all, take_more, map-append, length-map, length-replicate}
-use Rattle.xr_defs.specs.Points.{size, place, IsPoint}
-use Rattle.xr_defs.specs.Arrays.{Array, at, cell, hidden, wide}
-use Rattle.xr_defs.specs.declared.typed.Cells.{Cells}
+use Rattle.xr_types.specs.Points.{size, place, IsPoint}
+use Rattle.xr_arrays.specs.Arrays.{Array, at, cell, hidden, wide}
+use Rattle.xr_arrays.specs.declared.typed.Cells.{Cells}
 use Rattle.xr_types.specs.declared.kind.DType.{DType}
-use Rattle.xr_defs.specs.Nodes.{along, end_to_end, Continues, concatenated, first_array, most_node_cells}
+use Rattle.xr_arrays.specs.Nodes.{along, end_to_end, Continues, concatenated, first_array, most_node_cells}
 use Rattle.plan_core.specs.Concats.{joined_mask, row_of}
 use Rattle.plan_core.specs.Arrangements.{rearranged, LieInside}
 use Rattle.plan_core.specs.Joins.{joined_place, joined_total, joined_sizes, joined_point, IsJoining}

@@ -1,12 +1,12 @@
 -- When a plan takes a node, by the shapes of the arrays that it names.
 use Rattle.std.proofs.Common.{◌≡◌, ◌<◌, ◌≤◌, ℕ, ℤ, Bool, true, List, [], ◌∷◌, length, map, insert, get_or, Option, refl, sym, subst}
 use Rattle.std.specs.List.{All}
-use Rattle.xr_defs.specs.declared.node.Node.TheVariants.{Source, Take, Reorder, Widen, Fold, Concat}
-use Rattle.xr_defs.specs.declared.node.Feed.{Feed}
-use Rattle.xr_defs.specs.declared.operation.FoldKind.{FoldKind}
-use Rattle.xr_defs.specs.Points.{size}
-use Rattle.xr_defs.specs.Arrays.{Array, IsArray, IsCell}
-use Rattle.xr_defs.specs.Nodes.{values, node_value, input_of, IsNode, IsBelow, IsOrder, Continues, first_array, concatenated, kept, most_node_cells}
+use Rattle.xr_arrays.specs.declared.node.Node.TheVariants.{Source, Take, Reorder, Widen, Fold, Concat}
+use Rattle.xr_arrays.specs.declared.node.Feed.{Feed}
+use Rattle.xr_types.specs.declared.operation.FoldKind.{FoldKind}
+use Rattle.xr_types.specs.Points.{size}
+use Rattle.xr_arrays.specs.Arrays.{Array, IsArray, IsCell}
+use Rattle.xr_arrays.specs.Nodes.{values, node_value, input_of, IsNode, IsBelow, IsOrder, Continues, first_array, concatenated, kept, most_node_cells}
 use Rattle.plan_core.specs.Takes.{taking_sizes}
 use Rattle.plan_core.proofs.Needs.{shape_taken}
 

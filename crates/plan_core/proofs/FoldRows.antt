@@ -2,10 +2,10 @@
 use Rattle.std.proofs.Common.{◌≡◌, ◌+◌, ℕ, ℤ, ◌+ℤ◌, ◌*ℤ◌, Bool, true, false, not, cond, List, [], ◌∷◌, map, drop, zip, Option, Some, None, refl, sym, ap, ◌∙◌}
 use Rattle.std.specs.Int.{int_wrap, w64}
 use Rattle.std.proofs.lemmas.Int.{int_wrap-add_left, int_wrap-add_right, int_wrap-mul_left, int_wrap-mul_right}
-use Rattle.xr_defs.specs.Arrays.{cell}
-use Rattle.xr_defs.specs.Folds.{numbers, present, numbered, sum_of}
-use Rattle.xr_defs.specs.Stored.{is_fill, unless_fill}
-use Rattle.xr_defs.proofs.Folds.{add_assoc_ℤ, mul_assoc_ℤ}
+use Rattle.xr_arrays.specs.Arrays.{cell}
+use Rattle.xr_arrays.specs.Folds.{numbers, present, numbered, sum_of}
+use Rattle.xr_arrays.specs.Stored.{is_fill, unless_fill}
+use Rattle.xr_arrays.proofs.Folds.{add_assoc_ℤ, mul_assoc_ℤ}
 use Rattle.stored_cells.specs.Counted.{present as shown}
 use Rattle.plan_core.specs.Rows.{those}
 

@@ -6,15 +6,15 @@ use Rattle.std.proofs.lemmas.List.{take_at, drop_at, length-take-le, nil_from_le
 use Rattle.std.proofs.lemmas.List.Elements.{All-head, All-tail, All-cons, All-take, All-drop}
 use Rattle.xr_types.specs.declared.kind.DType.{DType}
 use Rattle.xr_types.specs.declared.kind.DType.TheVariants.{Int64}
-use Rattle.xr_defs.specs.declared.operation.FoldKind.{FoldKind}
-use Rattle.xr_defs.specs.declared.operation.FoldKind.TheVariants.{Sum}
-use Rattle.xr_defs.specs.declared.node.Feed.{Feed}
-use Rattle.xr_defs.specs.declared.node.Feed.TheVariants as feed
-use Rattle.xr_defs.specs.Points.{size, tab, IsPoint}
-use Rattle.xr_defs.specs.Arrays.{Array, at, made, IsCell}
-use Rattle.xr_defs.specs.Folds.{folded_kind, fold_of, numbered, sum_of}
-use Rattle.xr_defs.specs.Nodes.{kept, gathered, folded}
-use Rattle.xr_defs.proofs.FoldRanges.{AreCells, fold_in_kind}
+use Rattle.xr_types.specs.declared.operation.FoldKind.{FoldKind}
+use Rattle.xr_types.specs.declared.operation.FoldKind.TheVariants.{Sum}
+use Rattle.xr_arrays.specs.declared.node.Feed.{Feed}
+use Rattle.xr_arrays.specs.declared.node.Feed.TheVariants as feed
+use Rattle.xr_types.specs.Points.{size, tab, IsPoint}
+use Rattle.xr_arrays.specs.Arrays.{Array, at, made, IsCell}
+use Rattle.xr_arrays.specs.Folds.{folded_kind, fold_of, numbered, sum_of}
+use Rattle.xr_arrays.specs.Nodes.{kept, gathered, folded}
+use Rattle.xr_arrays.proofs.FoldRanges.{AreCells, fold_in_kind}
 use Rattle.plan_core.specs.Arrangements.{cell_from, rearranged}
 use Rattle.plan_core.specs.Takes.{each_block}
 use Rattle.plan_core.specs.Strides.{spread, woven, sorted_sizes, sorted_point}

@@ -4,8 +4,8 @@ use Rattle.std.specs.List.{flat_map, range_with_len}
 use Rattle.std.proofs.lemmas.Bool.{lt-ltb, le-ltb}
 use Rattle.std.proofs.lemmas.Grind.{flat_map-append}
 use Rattle.std.proofs.lemmas.List.{append-nil, drop_all, nil_from_length}
-use Rattle.xr_defs.specs.Points.{size, tab, place}
-use Rattle.xr_defs.specs.Nodes.{along}
+use Rattle.xr_types.specs.Points.{size, tab, place}
+use Rattle.xr_arrays.specs.Nodes.{along}
 use Rattle.plan_core.specs.Arrangements.{shown, arranged}
 use Rattle.plan_core.specs.Joins.{joined_place, joined_point, joined_sizes, joined_row, joined_total, IsJoining}
 use Rattle.plan_core.proofs.Tabs.{flat_same, tab_same, tab_part, blocks, within, suc_times, tab-length}

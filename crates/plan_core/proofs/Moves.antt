@@ -5,8 +5,8 @@ use Rattle.std.proofs.lemmas.List.{length-map, get_or-map, length-set, length-re
 use Rattle.std.proofs.lemmas.List.FromFn.{length-range_with_len, get_or-map-range_with_len}
 use Rattle.std.proofs.lemmas.List.Sums.{passes_at_first}
 use Rattle.std.proofs.lemmas.Bool.{eqb-true}
-use Rattle.xr_defs.specs.Points.{size, place, IsPoint}
-use Rattle.xr_defs.specs.Nodes.{IsOrder, moved}
+use Rattle.xr_types.specs.Points.{size, place, IsPoint}
+use Rattle.xr_arrays.specs.Nodes.{IsOrder, moved}
 use Rattle.plan_core.specs.Arrangements.{shown, arranged, LieInside}
 use Rattle.plan_core.specs.Strides.{reached, strided, Reaches, dot, own_strides, moved_point, moved_sizes, AreMoved, IsMoving}
 use Rattle.plan_core.proofs.Tabs.{tab_same, place_below}

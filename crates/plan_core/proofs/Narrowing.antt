@@ -5,9 +5,9 @@ use Rattle.std.proofs.lemmas.Int.{ints}
 use Rattle.std.proofs.lemmas.List.Elements.{All-head, All-tail, All-cons}
 use Rattle.xr_types.specs.declared.kind.DType.{DType}
 use Rattle.xr_types.specs.declared.kind.DType.TheVariants as kinds
-use Rattle.xr_defs.specs.Arrays.{Array, cell, hidden, kind_of, IsCell, InKind}
-use Rattle.xr_defs.specs.declared.typed.Cells.{Cells}
-use Rattle.xr_defs.specs.declared.typed.Cells.TheVariants.{Bool as Truths}
+use Rattle.xr_arrays.specs.Arrays.{Array, cell, hidden, kind_of, IsCell, InKind}
+use Rattle.xr_arrays.specs.declared.typed.Cells.{Cells}
+use Rattle.xr_arrays.specs.declared.typed.Cells.TheVariants.{Bool as Truths}
 use Rattle.plan_core.specs.Arrangements.{filling, gap}
 use Rattle.plan_core.proofs.Arrangements.{masked_hole}
 

@@ -7,13 +7,13 @@ use Rattle.std.proofs.lemmas.List.{take_more, length-take, length-map, take-appe
 use Rattle.std.proofs.lemmas.List.Elements.{All-head, All-tail, All-cons}
 use Rattle.std.proofs.Math.Seq.{get_or-append_seam}
 use Rattle.std.proofs.Math.ListN.{get_or-append}
-use Rattle.xr_defs.specs.declared.node.Node.{Node}
-use Rattle.xr_defs.specs.declared.node.Node.TheVariants.{Source, Take, Reorder, Widen, Fold, Concat}
-use Rattle.xr_defs.specs.declared.node.Feed.{Feed}
-use Rattle.xr_defs.specs.declared.operation.FoldKind.{FoldKind}
-use Rattle.xr_defs.specs.Points.{size}
-use Rattle.xr_defs.specs.Arrays.{Array, IsCell}
-use Rattle.xr_defs.specs.Nodes.{value, values, node_value, input_of, nothing, AllFit, Fits, IsBelow, IsOrder, Continues, first_array, concatenated, taken_or_picked, reordered, widened, folded, kept, most_node_cells}
+use Rattle.xr_arrays.specs.declared.node.Node.{Node}
+use Rattle.xr_arrays.specs.declared.node.Node.TheVariants.{Source, Take, Reorder, Widen, Fold, Concat}
+use Rattle.xr_arrays.specs.declared.node.Feed.{Feed}
+use Rattle.xr_types.specs.declared.operation.FoldKind.{FoldKind}
+use Rattle.xr_types.specs.Points.{size}
+use Rattle.xr_arrays.specs.Arrays.{Array, IsCell}
+use Rattle.xr_arrays.specs.Nodes.{value, values, node_value, input_of, nothing, AllFit, Fits, IsBelow, IsOrder, Continues, first_array, concatenated, taken_or_picked, reordered, widened, folded, kept, most_node_cells}
 use Rattle.plan_core.specs.Plans.{Grows}
 use Rattle.plan_core.specs.Takes.{taking_sizes, IsTaking}
 use Rattle.plan_core.specs.Widens.{IsWidening}

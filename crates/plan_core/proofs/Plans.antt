@@ -3,9 +3,9 @@ use Rattle.std.proofs.Common.{◌≡◌, ◌<◌, ◌≤◌, ◌+◌, ℕ, zero,
 use Rattle.std.proofs.lemmas.List.{append-nil}
 use Rattle.std.proofs.Math.Seq.{get_or-append_seam}
 use Rattle.std.proofs.Math.ListN.{get_or-append}
-use Rattle.xr_defs.specs.Arrays.{Array}
-use Rattle.xr_defs.specs.Nodes.{IsNode, AllFit, node_value, values, values_from, value, nothing, Pushes}
-use Rattle.xr_defs.specs.declared.node.Node.{Node}
+use Rattle.xr_arrays.specs.Arrays.{Array}
+use Rattle.xr_arrays.specs.Nodes.{IsNode, AllFit, node_value, values, values_from, value, nothing, Pushes}
+use Rattle.xr_arrays.specs.declared.node.Node.{Node}
 use Rattle.plan_core.specs.Plans.{Grows}
 
 pub values-append : (done : List Array) (nodes : List Node) (node : Node) → values_from done (nodes ++ node ∷ []) ≡ values_from done nodes ++ node_value (values_from done nodes) node ∷ []

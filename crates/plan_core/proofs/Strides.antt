@@ -3,7 +3,7 @@ use Rattle.std.proofs.Common.{◌≡◌, ◌<◌, ◌≤◌, ◌+◌, ◌-◌, �
 use Rattle.std.specs.List.{flat_map, range_with_len}
 use Rattle.std.proofs.lemmas.Grind.{flat_map-append}
 use Rattle.std.proofs.lemmas.List.{append-nil, drop_all}
-use Rattle.xr_defs.specs.Points.{size, place, IsPoint}
+use Rattle.xr_types.specs.Points.{size, place, IsPoint}
 use Rattle.plan_core.specs.Strides.{reached, strided, Reaches, IsBox}
 use Rattle.plan_core.proofs.Tabs.{tab_part, flat_same}
 use Rattle.plan_core.proofs.Takes.{positive}

@@ -4,7 +4,7 @@ use Rattle.std.proofs.lemmas.List.{take_at, drop_at, take_all, drop-drop, map-ap
 use Rattle.std.proofs.lemmas.List.Elements.{All-head, All-tail, All-cons, All-append}
 use Rattle.std.proofs.Math.Seq.{take-add}
 use Rattle.std.specs.List.{All, flat_map, zip, range_with_len}
-use Rattle.xr_defs.specs.Points.{size, tab, place, IsPoint}
+use Rattle.xr_types.specs.Points.{size, tab, place, IsPoint}
 
 pub suc_times : (n s : ℕ) → suc n * s ≡ s + n * s
 suc_times n s = grind arith

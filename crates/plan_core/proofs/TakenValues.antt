@@ -2,8 +2,8 @@
 use Rattle.std.proofs.Common.{◌≡◌, ◌<◌, ℕ, ℤ, Bool, true, false, List, length, set, get_or, Option, Some, None, refl, ap}
 use Rattle.std.specs.List.{All}
 use Rattle.std.specs.Option.{option_map}
-use Rattle.xr_defs.specs.Arrays.{Array}
-use Rattle.xr_defs.specs.Nodes.{IsBelow, along, with_axis, without, from_source, taken_or_picked}
+use Rattle.xr_arrays.specs.Arrays.{Array}
+use Rattle.xr_arrays.specs.Nodes.{IsBelow, along, with_axis, without, from_source, taken_or_picked}
 use Rattle.plan_core.specs.Arrangements.{cell_from, rearranged, LieInside}
 use Rattle.plan_core.specs.Takes.{taking_sizes, taking_point, taken_point, picked_point}
 use Rattle.plan_core.proofs.Tabs.{tab_same}

@@ -4,8 +4,8 @@ use Rattle.std.specs.List.{All, flat_map, range_with_len, list_any}
 use Rattle.std.specs.Prelude.{IfSome, is_none, is_some}
 use Rattle.std.proofs.lemmas.List.{take-append-le, drop-append-le, take_all, append-nil, nil_from_length}
 use Rattle.std.proofs.lemmas.List.Elements.{All-weaker}
-use Rattle.xr_defs.specs.Points.{size, tab, place, IsPoint}
-use Rattle.xr_defs.specs.Nodes.{IsBelow, along, with_axis, without}
+use Rattle.xr_types.specs.Points.{size, tab, place, IsPoint}
+use Rattle.xr_arrays.specs.Nodes.{IsBelow, along, with_axis, without}
 use Rattle.plan_core.specs.Arrangements.{shown, arranged, LieInside, ShowsAll}
 use Rattle.plan_core.specs.Takes.{part, parts, each_block, taken_point, picked_point, taking_sizes, taking_point, IsRun, IsTaking}
 use Rattle.plan_core.proofs.Tabs.{tab_row, tab-length, tab_same, tab_read, flat_same, flat_agree, flat_by_index, blocks, within}

@@ -2,8 +2,8 @@
 use Rattle.std.proofs.Common.{◌≡◌, ◌<◌, ◌≤◌, ◌+◌, ◌-◌, ◌*◌, ◌^◌, ℕ, zero, suc, List, [], ◌∷◌, ◌++◌, length, take, drop, insert, get_or, min, refl, sym, ap, subst, ◌∙◌, arith, append_assoc}
 use Rattle.std.specs.List.{flat_map, range_with_len}
 use Rattle.std.proofs.lemmas.List.{nil_from_length}
-use Rattle.xr_defs.specs.Points.{size, tab, place, IsPoint}
-use Rattle.xr_defs.specs.Nodes.{without}
+use Rattle.xr_types.specs.Points.{size, tab, place, IsPoint}
+use Rattle.xr_arrays.specs.Nodes.{without}
 use Rattle.plan_core.specs.Arrangements.{shown, arranged, LieInside, ShowsAll}
 use Rattle.plan_core.specs.Takes.{each_block}
 use Rattle.plan_core.specs.Widens.{repeated, widened_point, IsWidening}

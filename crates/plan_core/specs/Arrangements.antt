@@ -2,10 +2,10 @@
 use Rattle.std.specs.Prelude.{◌≡◌, ℕ, ℤ, pos, Bool, true, false, List, replicate, Option, Some, None, is_some, IfSome, unsigned_abs, get_or}
 use Rattle.xr_types.specs.Kinds.{wrap_to}
 use Rattle.xr_types.specs.declared.kind.DType.TheVariants as kinds
-use Rattle.xr_defs.specs.Points.{size, tab, place, IsPoint}
-use Rattle.xr_defs.specs.Arrays.{Array, at, made}
-use Rattle.xr_defs.specs.declared.typed.Cells.{Cells}
-use Rattle.xr_defs.specs.declared.typed.Cells.TheVariants.{Bool as Truths, Char, Int8, Int16, Int32, Int64}
+use Rattle.xr_types.specs.Points.{size, tab, place, IsPoint}
+use Rattle.xr_arrays.specs.Arrays.{Array, at, made}
+use Rattle.xr_arrays.specs.declared.typed.Cells.{Cells}
+use Rattle.xr_arrays.specs.declared.typed.Cells.TheVariants.{Bool as Truths, Char, Int8, Int16, Int32, Int64}
 
 -- ---- arrays
 

@@ -1,7 +1,7 @@
 -- Cells of several arrays put one after the other.
 use Rattle.std.specs.Prelude.{ℕ, ℤ, List, [], ◌∷◌, length, ◌++◌, replicate, Option, Some, None, ⊤}
 use Rattle.xr_types.specs.declared.kind.DType.{DType}
-use Rattle.xr_defs.specs.Arrays.{Array}
+use Rattle.xr_arrays.specs.Arrays.{Array}
 use Rattle.xr_types.specs.declared.kind.DType.TheVariants.{Bool, Char}
 
 -- the mask of so many cells before and so many behind, where one of them has a mask

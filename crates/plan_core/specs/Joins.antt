@@ -1,7 +1,7 @@
 -- Lists in row order that stand one after the other, read as one along an axis.
 use Rattle.std.specs.Prelude.{◌≡◌, ◌<◌, ◌≤◌, ◌+◌, ◌-◌, ◌*◌, ℕ, suc, List, [], ◌∷◌, ◌++◌, length, take, drop, get_or, slice_set, sum, nat_lt, Option, Some, if◌then◌else◌}
-use Rattle.xr_defs.specs.Points.{size, place}
-use Rattle.xr_defs.specs.Nodes.{along, most_node_cells}
+use Rattle.xr_types.specs.Points.{size, place}
+use Rattle.xr_arrays.specs.Nodes.{along, most_node_cells}
 
 -- the cells before a list, and so many rows of the axis in each of them
 abbrev pub joined_place : List ℕ → ℕ → ℕ → ℕ → ℕ → List ℕ → List ℕ → ℕ → ℕ

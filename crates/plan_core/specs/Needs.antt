@@ -1,11 +1,11 @@
 -- Which nodes a node needs, which of them are held, and a node's value by those of its inputs.
 use Rattle.std.specs.Prelude.{◌≡◌, ◌<◌, ◌≤◌, ◌+◌, ℕ, zero, suc, List, [], ◌∷◌, length, map, get_or, Option, Some, None, All, true, ⊤}
 use Rattle.std.specs.Option.{option_or}
-use Rattle.xr_defs.specs.declared.node.Node.{Node}
-use Rattle.xr_defs.specs.declared.node.Node.TheVariants.{Source, Take, Reorder, Widen, Fold, Concat}
-use Rattle.xr_defs.specs.Points.{size}
-use Rattle.xr_defs.specs.Arrays.{Array, IsCell}
-use Rattle.xr_defs.specs.Nodes.{value, IsBelow, IsOrder, Continues, first_array, taken_or_picked, reordered, widened, folded, concatenated, most_node_cells}
+use Rattle.xr_arrays.specs.declared.node.Node.{Node}
+use Rattle.xr_arrays.specs.declared.node.Node.TheVariants.{Source, Take, Reorder, Widen, Fold, Concat}
+use Rattle.xr_types.specs.Points.{size}
+use Rattle.xr_arrays.specs.Arrays.{Array, IsCell}
+use Rattle.xr_arrays.specs.Nodes.{value, IsBelow, IsOrder, Continues, first_array, taken_or_picked, reordered, widened, folded, concatenated, most_node_cells}
 
 -- the nodes that a node is computed from
 abbrev pub inputs_of : Node → List ℕ

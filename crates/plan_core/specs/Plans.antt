@@ -2,9 +2,9 @@
 use Rattle.std.specs.Prelude.{◌≡◌, ◌++◌, ℕ, List, Bool, true, false, Result, Ok, Err, ⊤}
 use Rattle.xr_types.specs.declared.fault.ComputeFault.{ComputeFault}
 use Rattle.xr_types.specs.declared.fault.ComputeFault.TheVariants.{Declined, NoMemory}
-use Rattle.xr_defs.specs.Arrays.{Array}
-use Rattle.xr_defs.specs.Nodes.{value}
-use Rattle.xr_defs.specs.declared.node.Node.{Node}
+use Rattle.xr_arrays.specs.Arrays.{Array}
+use Rattle.xr_arrays.specs.Nodes.{value}
+use Rattle.xr_arrays.specs.declared.node.Node.{Node}
 
 -- the new plan is the old one with more nodes behind, or with none
 pub record Grows (old new : List Node) : Type 0 where

@@ -1,8 +1,8 @@
 -- Folds of rows of cells.
 use Rattle.std.specs.Prelude.{ℕ, ℤ, List, [], ◌∷◌, Option, Some, None}
 use Rattle.xr_types.specs.declared.kind.DType.{DType}
-use Rattle.xr_defs.specs.declared.operation.FoldKind.{FoldKind}
-use Rattle.xr_defs.specs.Folds.{fold_of, numbered}
+use Rattle.xr_types.specs.declared.operation.FoldKind.{FoldKind}
+use Rattle.xr_arrays.specs.Folds.{fold_of, numbered}
 use Rattle.plan_core.specs.Takes.{each_block}
 
 -- the numbers of the cells that are there

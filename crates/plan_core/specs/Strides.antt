@@ -1,9 +1,9 @@
 -- Lists in row order read by strides: along each axis the next cell stands so many places on.
 use Rattle.std.specs.Prelude.{◌≡◌, ◌<◌, ◌≤◌, ◌+◌, ◌*◌, ◌^◌, ℕ, List, [], ◌∷◌, ◌++◌, length, map, take, drop, get_or, Option, Some}
-use Rattle.xr_defs.specs.declared.node.Feed.{Feed}
-use Rattle.xr_defs.specs.declared.node.Feed.TheVariants as feed
-use Rattle.xr_defs.specs.Points.{size, tab, IsPoint}
-use Rattle.xr_defs.specs.Nodes.{IsOrder, moved, kept, most_node_cells}
+use Rattle.xr_arrays.specs.declared.node.Feed.{Feed}
+use Rattle.xr_arrays.specs.declared.node.Feed.TheVariants as feed
+use Rattle.xr_types.specs.Points.{size, tab, IsPoint}
+use Rattle.xr_arrays.specs.Nodes.{IsOrder, moved, kept, most_node_cells}
 
 -- the place of a point's cell, where the first cell stands at `start`
 abbrev pub reached : ℕ → List ℕ → List ℕ → ℕ

@@ -1,7 +1,7 @@
 -- Positions taken along one axis of a list in row order.
 use Rattle.std.specs.Prelude.{◌≡◌, ◌<◌, ◌≤◌, ◌+◌, ◌*◌, All, ℕ, zero, suc, List, [], ◌++◌, length, take, drop, replicate, flat_map, Option, Some, None, get_or, option_map, slice_set, Bool, true, false}
-use Rattle.xr_defs.specs.Points.{size}
-use Rattle.xr_defs.specs.Nodes.{along, with_axis, without, IsBelow, most_node_cells}
+use Rattle.xr_types.specs.Points.{size}
+use Rattle.xr_arrays.specs.Nodes.{along, with_axis, without, IsBelow, most_node_cells}
 
 -- so many cells at a source position, or holes
 abbrev pub part : {X : Type 0} → ℕ → List X → X → Option ℕ → List X

@@ -1,7 +1,7 @@
 -- Rows of a list in row order, each so many times.
 use Rattle.std.specs.Prelude.{◌≤◌, ℕ, zero, suc, List, [], ◌++◌, length, insert, Option, Some}
-use Rattle.xr_defs.specs.Points.{size}
-use Rattle.xr_defs.specs.Nodes.{without, most_node_cells}
+use Rattle.xr_types.specs.Points.{size}
+use Rattle.xr_arrays.specs.Nodes.{without, most_node_cells}
 
 abbrev pub repeated : {X : Type 0} → ℕ → List X → List X
 repeated zero row = []

@@ -1,12 +1,12 @@
 //! Cells of an array in another order, some of them more than once or not at all, and holes between them.
 ghost use Rattle.std.specs.Prelude.{◌≡◌, ◌≤◌, ◌^◌, ℕ, ℤ, pos, Bool, true, false, length, List, Option, Some, None, is_some, is_none, IfOk, IfSome, MatchOption, option_map};
-ghost use Rattle.xr_defs.specs.Points.{size, IsPoint};
-ghost use Rattle.xr_defs.specs.Arrays.{wide, IsCell};
+ghost use Rattle.xr_types.specs.Points.{size, IsPoint};
+ghost use Rattle.xr_arrays.specs.Arrays.{wide, IsCell};
 ghost use Rattle.plan_core.specs.Arrangements.{arranged, arranged_cells, arranged_mask, filling, gap, rearranged, LieInside, ShowsAll};
 
 use std::alloc::{AllocError, Global};
 use stored_cells::{Typed, as_typed};
-use xr_defs::{ArrayValue, Cells};
+use xr_arrays::{ArrayValue, Cells};
 use xr_types::{Elem, Items};
 
 /// How the cells of an array stand in another one: each shows one of them, or is a hole.

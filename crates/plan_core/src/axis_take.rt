@@ -1,8 +1,8 @@
 //! Positions of one axis of an array at hand.
 ghost use Rattle.std.specs.Prelude.{◌≡◌, ◌<◌, ◌≤◌, ℤ, true, length, take, All, Option, IfOk, IfSome, get_or, None};
-ghost use Rattle.xr_defs.specs.Points.{size};
-ghost use Rattle.xr_defs.specs.Nodes.{IsBelow, taken_or_picked, most_node_cells};
-ghost use Rattle.xr_defs.specs.Arrays.{IsCell};
+ghost use Rattle.xr_types.specs.Points.{size};
+ghost use Rattle.xr_arrays.specs.Nodes.{IsBelow, taken_or_picked, most_node_cells};
+ghost use Rattle.xr_arrays.specs.Arrays.{IsCell};
 ghost use Rattle.plan_core.specs.Takes.{taking_sizes, IsRun, IsTaking};
 
 use crate::arrange::rearrange;
@@ -10,8 +10,7 @@ use crate::shapes::points;
 use crate::take::{Taking, run_start, taken_shape};
 use std::alloc::{AllocError, Global};
 use stored_cells::shared_block;
-use xr_defs::{ArrayValue, Form, StoredArray};
-
+use xr_arrays::{ArrayValue, Form, StoredArray};
 // The first of these positions, where their cells lie together: the positions are a run, and no axis in front has more than
 // one.
 fn block_start(shape: &[u64], axis: usize, from: &[Option<u32>]) -> Option<u32>

@@ -1,13 +1,13 @@
 //! What computes the cells of a node.
 ghost use Rattle.std.specs.Prelude.{◌≡◌, ◌<◌, ◌++◌, ℕ, List, Bool, length};
 ghost use denote.Param.Send.{IsSync};
-ghost use Rattle.xr_defs.specs.declared.node.Node.{Node};
+ghost use Rattle.xr_arrays.specs.declared.node.Node.{Node};
 ghost use Rattle.plan_core.specs.Plans.{CellsAre};
 
 use crate::plan::Plan;
 use std::alloc::Global;
 use std::thread::Threads;
-use xr_defs::ArrayValue;
+use xr_arrays::ArrayValue;
 use xr_types::{ComputeFault, NodeId};
 
 /// What computes the cells of a plan's nodes, or declines some of them.

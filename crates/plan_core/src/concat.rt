@@ -2,9 +2,9 @@
 ghost use Rattle.std.specs.Prelude.{◌≡◌, ◌<◌, ◌+◌, ◌++◌, ◌^◌, [], length, map, flat_map, get_or, ◌≤◌, Option, Some, None, All, IfOk, IfSome, option_map};
 ghost use Rattle.xr_types.specs.Kinds.{InRange};
 ghost use Rattle.xr_types.specs.declared.kind.DType.TheVariants.{Bool};
-ghost use Rattle.xr_defs.specs.Points.{size};
-ghost use Rattle.xr_defs.specs.Arrays.{hidden, wide, kind_of, InKind};
-ghost use Rattle.xr_defs.specs.Nodes.{Continues, concatenated, first_array, most_node_cells};
+ghost use Rattle.xr_types.specs.Points.{size};
+ghost use Rattle.xr_arrays.specs.Arrays.{hidden, wide, kind_of, InKind};
+ghost use Rattle.xr_arrays.specs.Nodes.{Continues, concatenated, first_array, most_node_cells};
 ghost use Rattle.plan_core.specs.Concats.{joined_mask, row_of};
 
 use crate::arrange::rearrange;
@@ -14,7 +14,7 @@ use crate::take::push_holes;
 use crate::typed::Typed;
 use std::alloc::{AllocError, Global};
 use stored_cells::as_typed;
-use xr_defs::{ArrayValue, Cells};
+use xr_arrays::{ArrayValue, Cells};
 use xr_types::{DType, Items};
 
 // Cells so far, with a mask where one of their arrays has one.

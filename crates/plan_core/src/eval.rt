@@ -1,7 +1,7 @@
 //! The value of a node from those of its inputs.
 ghost use Rattle.std.specs.Prelude.{◌≡◌, ◌<◌, ◌≤◌, [], length, All, IfOk};
-ghost use Rattle.xr_defs.specs.Points.{size};
-ghost use Rattle.xr_defs.specs.Nodes.{value, AllFit, IsOrder, reordered, widened, most_node_cells};
+ghost use Rattle.xr_types.specs.Points.{size};
+ghost use Rattle.xr_arrays.specs.Nodes.{value, AllFit, IsOrder, reordered, widened, most_node_cells};
 ghost use Rattle.plan_core.specs.Widens.{IsWidening};
 ghost use Rattle.plan_core.specs.Needs.{inputs_at, node_by, IsHeld, IsReady};
 
@@ -13,8 +13,7 @@ use crate::inputs::{input, inputs};
 use crate::reorder::Moving;
 use crate::widen::Widening;
 use std::alloc::{AllocError, Global};
-use xr_defs::{ArrayValue, Node};
-
+use xr_arrays::{ArrayValue, Node};
 fn reorder(alloc: Global, a: &ArrayValue, order: &[u64]) -> Result<ArrayValue, AllocError>
     requires each { IsOrder (length a.now.shape) order.now }
     requires axes { length order.now ≤ 16 }

@@ -3,11 +3,11 @@ ghost use Rattle.std.specs.Prelude.{◌≡◌, ◌<◌, ◌≤◌, ◌*◌, ◌^
 ghost use Rattle.std.specs.Int.{int_wrap, w64};
 ghost use Rattle.xr_types.specs.declared.kind.DType.{DType};
 ghost use Rattle.xr_types.specs.declared.kind.DType.TheVariants.{Int64};
-ghost use Rattle.xr_defs.specs.declared.operation.FoldKind.TheVariants.{Sum};
-ghost use Rattle.xr_defs.specs.Points.{size};
-ghost use Rattle.xr_defs.specs.Arrays.{cell, IsCell, made};
-ghost use Rattle.xr_defs.specs.Folds.{folded_kind, sum_of};
-ghost use Rattle.xr_defs.specs.Nodes.{kept, folded, most_node_cells};
+ghost use Rattle.xr_types.specs.declared.operation.FoldKind.TheVariants.{Sum};
+ghost use Rattle.xr_types.specs.Points.{size};
+ghost use Rattle.xr_arrays.specs.Arrays.{cell, IsCell, made};
+ghost use Rattle.xr_arrays.specs.Folds.{folded_kind, sum_of};
+ghost use Rattle.xr_arrays.specs.Nodes.{kept, folded, most_node_cells};
 ghost use Rattle.plan_core.specs.Rows.{those, folded_rows};
 ghost use Rattle.plan_core.specs.Arrangements.{rearranged};
 ghost use Rattle.plan_core.specs.Strides.{sorted_sizes, sorted_point};
@@ -19,7 +19,8 @@ use crate::shapes::points;
 use crate::sort::{Sorting, folded_sizes, kept_sizes};
 use crate::total::total;
 use std::alloc::{AllocError, Global};
-use xr_defs::{ArrayValue, Feed, FoldKind};
+use xr_types::FoldKind;
+use xr_arrays::{ArrayValue, Feed};
 use xr_types::{DType, Items};
 
 fn folded_kind(fold: FoldKind, kind: DType) -> DType

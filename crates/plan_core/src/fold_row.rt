@@ -3,10 +3,10 @@ ghost use Rattle.std.specs.Prelude.{◌≡◌, ◌≤◌, ◌^◌, ℕ, ℤ, pos
 ghost use Rattle.std.specs.Int.{int_wrap, int_min, int_max, w64};
 ghost use Rattle.std.specs.List.{last_or, list_any, list_all};
 ghost use Rattle.xr_types.specs.declared.kind.DType.{DType};
-ghost use Rattle.xr_defs.specs.Folds.{of_both, sum_of, product_of, least, greatest, first_place, is_nonzero, present, numbered, fold_of, truth};
+ghost use Rattle.xr_arrays.specs.Folds.{of_both, sum_of, product_of, least, greatest, first_place, is_nonzero, present, numbered, fold_of, truth};
 ghost use Rattle.plan_core.specs.Rows.{those};
 
-use xr_defs::FoldKind;
+use xr_types::FoldKind;
 use xr_types::Elem;
 
 /// The sum, wrapped at 64 bits.

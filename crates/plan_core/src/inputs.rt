@@ -1,10 +1,10 @@
 //! The nodes that a node is computed from, and what is held of them.
 ghost use Rattle.std.specs.Prelude.{◌≡◌, ◌∷◌, [], map, Some, All, IfOk, IsSome, is_some, option_map};
-ghost use Rattle.xr_defs.specs.Nodes.{value};
+ghost use Rattle.xr_arrays.specs.Nodes.{value};
 ghost use Rattle.plan_core.specs.Needs.{inputs_of, source_of, IsHeld};
 
 use std::alloc::{AllocError, Global};
-use xr_defs::{ArrayValue, Node};
+use xr_arrays::{ArrayValue, Node};
 use xr_types::NodeId;
 
 fn one(alloc: Global, id: NodeId) -> Result<Vec<NodeId>, AllocError>

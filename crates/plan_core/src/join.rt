@@ -1,7 +1,7 @@
 //! Lists in row order that stand one after the other, read as one along an axis.
 ghost use Rattle.std.specs.Prelude.{◌≡◌, ◌<◌, ◌≤◌, ◌+◌, ◌*◌, ◌++◌, ◌^◌, [], ◌∷◌, length, drop, take, suc, sum, OnOk, IfOk, get_or, slice_set, flat_map};
 ghost use Rattle.std.specs.List.{range_with_len};
-ghost use Rattle.xr_defs.specs.Points.{size};
+ghost use Rattle.xr_types.specs.Points.{size};
 ghost use Rattle.plan_core.specs.Arrangements.{arranged};
 ghost use Rattle.plan_core.specs.Joins.{joined_row, joined_sizes, joined_point, joined_total, IsJoining};
 

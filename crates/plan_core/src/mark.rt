@@ -1,11 +1,11 @@
 //! How long the values of earlier nodes are kept for a node.
 ghost use Rattle.std.specs.Prelude.{◌≡◌, ◌<◌, ◌≤◌, ◌+◌, ℕ, [], length, get_or, All, OnOk, IfOk};
-ghost use Rattle.xr_defs.specs.Nodes.{AllFit};
+ghost use Rattle.xr_arrays.specs.Nodes.{AllFit};
 ghost use Rattle.plan_core.specs.Needs.{IsClosedFrom, IsMarked};
 
 use crate::inputs::inputs_of;
 use std::alloc::{AllocError, Global};
-use xr_defs::Node;
+use xr_arrays::Node;
 use xr_types::NodeId;
 
 fn mark(until: &mut [usize], id: NodeId, user: usize)

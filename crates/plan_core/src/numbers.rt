@@ -3,13 +3,13 @@ ghost use Rattle.std.specs.Prelude.{◌≡◌, ◌==◌, ℤ, length, map, zip, 
 ghost use Rattle.std.specs.List.{list_any};
 ghost use Rattle.xr_types.specs.Kinds.{InRange};
 ghost use Rattle.xr_types.specs.declared.kind.DType.TheVariants.{Bool};
-ghost use Rattle.xr_defs.specs.Points.{size};
-ghost use Rattle.xr_defs.specs.Arrays.{hidden, cell, kind_of, wide, IsCell, InKind};
+ghost use Rattle.xr_types.specs.Points.{size};
+ghost use Rattle.xr_arrays.specs.Arrays.{hidden, cell, kind_of, wide, IsCell, InKind};
 ghost use Rattle.plan_core.specs.Arrangements.{filling, gap};
 
 use std::alloc::{AllocError, Global};
 use stored_cells::{Typed, as_typed};
-use xr_defs::{ArrayValue, Cells};
+use xr_arrays::{ArrayValue, Cells};
 use xr_types::{DType, Elem, Items};
 
 fn present<T: Elem>(cell: T) -> Option<i128>

@@ -1,10 +1,10 @@
 //! A plan: nodes in order, each of which fits those before it.
 ghost use Rattle.std.specs.Prelude.{◌≡◌, [], IfOk, OnErr};
-ghost use Rattle.xr_defs.specs.Nodes.{IsNode, values, Pushes, AllFit};
+ghost use Rattle.xr_arrays.specs.Nodes.{IsNode, values, Pushes, AllFit};
 
 use std::alloc::Global;
 use std::marker::Model;
-use xr_defs::Node;
+use xr_arrays::Node;
 use xr_types::{Items, NoMemory, NodeId};
 
 /// Nodes, whose inputs are earlier nodes. A node's number is its place.
@@ -15,8 +15,8 @@ pub struct Plan {
 
 impl Model for Plan {
     ghost use Rattle.std.specs.Prelude.{List, []};
-    ghost use Rattle.xr_defs.specs.Nodes.{AllFit};
-    ghost use Rattle.xr_defs.specs.declared.node.Node.{Node};
+    ghost use Rattle.xr_arrays.specs.Nodes.{AllFit};
+    ghost use Rattle.xr_arrays.specs.declared.node.Node.{Node};
 
     ghost Value = { List Node };
 

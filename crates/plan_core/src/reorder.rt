@@ -1,8 +1,8 @@
 //! Axes in another order.
 ghost use Rattle.std.specs.Prelude.{◌≡◌, ◌==◌, ◌≤◌, ◌^◌, ℕ, length, map, get_or, IfOk};
 ghost use Rattle.std.specs.List.{position_or_len};
-ghost use Rattle.xr_defs.specs.Points.{size};
-ghost use Rattle.xr_defs.specs.Nodes.{IsOrder};
+ghost use Rattle.xr_types.specs.Points.{size};
+ghost use Rattle.xr_arrays.specs.Nodes.{IsOrder};
 ghost use Rattle.plan_core.specs.Arrangements.{arranged};
 ghost use Rattle.plan_core.specs.Strides.{moved_sizes, moved_point, AreMoved, IsMoving};
 

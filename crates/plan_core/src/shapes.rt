@@ -1,6 +1,6 @@
 //! Sizes of shapes.
 ghost use Rattle.std.specs.Prelude.{◌≡◌, ◌-◌, ◌^◌, min, get_or};
-ghost use Rattle.xr_defs.specs.Points.{size};
+ghost use Rattle.xr_types.specs.Points.{size};
 
 /// The product of the sizes, as far as 64 bits count.
 #[tactic(auto, using(crate::proofs::Products::saturates))]

@@ -1,7 +1,7 @@
 //! The axes that a fold keeps before those that it folds.
 ghost use Rattle.std.specs.Prelude.{◌≡◌, ◌++◌, length, OnOk, IfOk};
-ghost use Rattle.xr_defs.specs.Points.{size};
-ghost use Rattle.xr_defs.specs.Nodes.{kept};
+ghost use Rattle.xr_types.specs.Points.{size};
+ghost use Rattle.xr_arrays.specs.Nodes.{kept};
 ghost use Rattle.plan_core.specs.Arrangements.{arranged};
 ghost use Rattle.plan_core.specs.Strides.{selected, selected_one, spread, sorted_sizes, sorted_point, IsSorting};
 
@@ -9,7 +9,7 @@ use crate::arrange::Arrangement;
 use crate::shapes::points;
 use crate::stride::{own_strides, strided_cells};
 use std::alloc::{AllocError, Global};
-use xr_defs::Feed;
+use xr_arrays::Feed;
 use xr_types::Items;
 
 /// An array with these sizes, with the axes that are kept before those that are folded.

@@ -1,7 +1,7 @@
 //! Cells of a list in row order, read by strides.
 ghost use Rattle.std.specs.Prelude.{◌≡◌, ◌<◌, ◌≤◌, ◌+◌, ◌*◌, ◌++◌, ◌^◌, ℕ, [], ◌∷◌, length, drop, OnOk, IfOk};
-ghost use Rattle.xr_defs.specs.Points.{size, IsPoint};
-ghost use Rattle.xr_defs.specs.Nodes.{most_node_cells};
+ghost use Rattle.xr_types.specs.Points.{size, IsPoint};
+ghost use Rattle.xr_arrays.specs.Nodes.{most_node_cells};
 ghost use Rattle.plan_core.specs.Strides.{strided, own_strides, Reaches, IsBox};
 
 use crate::shapes::points;

@@ -1,8 +1,8 @@
 //! Positions of one axis.
 ghost use Rattle.std.specs.Prelude.{◌≡◌, ◌<◌, ◌≤◌, ◌+◌, ◌*◌, ◌++◌, ◌^◌, ℕ, length, Option, Some, None, true, All, IfSome, OnOk, IfOk, get_or, is_none, replicate, drop, take, suc, slice_set, if◌then◌else◌};
 ghost use Rattle.std.specs.List.{list_any};
-ghost use Rattle.xr_defs.specs.Points.{size};
-ghost use Rattle.xr_defs.specs.Nodes.{IsBelow, without};
+ghost use Rattle.xr_types.specs.Points.{size};
+ghost use Rattle.xr_arrays.specs.Nodes.{IsBelow, without};
 ghost use Rattle.plan_core.specs.Arrangements.{arranged};
 ghost use Rattle.plan_core.specs.Takes.{part, parts, each_block, taking_sizes, taking_point, IsRun, IsTaking};
 

@@ -1,14 +1,14 @@
 //! The sum of all cells of an array.
 ghost use Rattle.std.specs.Prelude.{◌≡◌, ◌==◌, ℤ, List, length, map, zip, Option, Some, None, IfSome, ◌+ℤ◌, ◌∷◌, option_map};
 ghost use Rattle.std.specs.Int.{int_wrap, w64};
-ghost use Rattle.xr_defs.specs.Points.{size};
-ghost use Rattle.xr_defs.specs.Arrays.{cell, hidden, wide};
-ghost use Rattle.xr_defs.specs.Folds.{sum_of};
+ghost use Rattle.xr_types.specs.Points.{size};
+ghost use Rattle.xr_arrays.specs.Arrays.{cell, hidden, wide};
+ghost use Rattle.xr_arrays.specs.Folds.{sum_of};
 ghost use Rattle.plan_core.specs.Rows.{those};
 
 use crate::fold_row::added;
 use stored_cells::sum;
-use xr_defs::{ArrayValue, Cells, Form, StoredArray, TypedArray};
+use xr_arrays::{ArrayValue, Cells, Form, StoredArray, TypedArray};
 use xr_types::{Elem, Items};
 
 // The sum with one more cell.

@@ -3,10 +3,10 @@ ghost use Rattle.std.specs.Prelude.{◌≡◌, map, All};
 ghost use Rattle.xr_types.specs.Kinds.{InRange};
 ghost use Rattle.xr_types.specs.declared.kind.DType.{DType};
 ghost use Rattle.xr_types.specs.declared.kind.DType.TheVariants.{Bool, Int8, Int16, Int32, Int64};
-ghost use Rattle.xr_defs.specs.Arrays.{kind_of, wide, InKind};
+ghost use Rattle.xr_arrays.specs.Arrays.{kind_of, wide, InKind};
 ghost use Rattle.plan_core.specs.Concats.{IsBytes};
 
-use xr_defs::Cells;
+use xr_arrays::Cells;
 use xr_types::Elem;
 
 /// A cell's type, as lists of cells have it.

@@ -1,7 +1,7 @@
 //! Computes each node whole, by plain lists.
 ghost use Rattle.std.specs.Prelude.{◌≡◌, ◌<◌, ◌≤◌, ◌+◌, ℕ, [], length, get_or, false, true, Some, None, All, OnOk, IfOk, refl};
 ghost use Rattle.std.specs.Option.{option_or};
-ghost use Rattle.xr_defs.specs.Nodes.{value, AllFit};
+ghost use Rattle.xr_arrays.specs.Nodes.{value, AllFit};
 ghost use Rattle.plan_core.specs.Needs.{inputs_at, source_at, IsClosedFrom, IsHeld, AreHeld};
 
 use crate::compute::Compute;
@@ -11,7 +11,7 @@ use crate::mark::mark_needed;
 use crate::plan::Plan;
 use std::alloc::{AllocError, Global};
 use std::thread::Threads;
-use xr_defs::{ArrayValue, Node};
+use xr_arrays::{ArrayValue, Node};
 use xr_types::{ComputeFault, NodeId};
 
 /// Computes nodes whole and on one thread, and declines none. Of the earlier nodes it computes those that the asked one

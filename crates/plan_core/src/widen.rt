@@ -1,6 +1,6 @@
 //! One more axis, along which all positions show the same cell.
 ghost use Rattle.std.specs.Prelude.{◌≡◌, ◌≤◌, ◌*◌, ◌++◌, length, insert, OnOk, IfOk};
-ghost use Rattle.xr_defs.specs.Points.{size};
+ghost use Rattle.xr_types.specs.Points.{size};
 ghost use Rattle.plan_core.specs.Arrangements.{arranged};
 ghost use Rattle.plan_core.specs.Takes.{each_block};
 ghost use Rattle.plan_core.specs.Widens.{repeated, widened_point, IsWidening};

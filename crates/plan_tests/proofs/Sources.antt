@@ -1,11 +1,11 @@
 -- When a plan of the tests takes a node.
 use Rattle.std.proofs.Common.{◌≡◌, ◌≤◌, ◌*◌, ◌∙◌, ℕ, List, [], ◌∷◌, length, refl, sym, ap, subst}
 use Rattle.xr_types.specs.declared.kind.DType.TheVariants.{Int16}
-use Rattle.xr_defs.specs.Arrays.{Array, IsArray}
-use Rattle.xr_defs.specs.Points.{size}
-use Rattle.xr_defs.specs.Nodes.{values, node_value, IsNode, most_node_cells}
-use Rattle.xr_defs.specs.declared.node.Node.{Node}
-use Rattle.xr_defs.specs.declared.node.Node.TheVariants.{Source}
+use Rattle.xr_arrays.specs.Arrays.{Array, IsArray}
+use Rattle.xr_types.specs.Points.{size}
+use Rattle.xr_arrays.specs.Nodes.{values, node_value, IsNode, most_node_cells}
+use Rattle.xr_arrays.specs.declared.node.Node.{Node}
+use Rattle.xr_arrays.specs.declared.node.Node.TheVariants.{Source}
 use Rattle.plan_core.proofs.Fitting.{source_fits, source_values}
 use Rattle.plan_tests.specs.Sources.{AreSources}
 

@@ -1,9 +1,9 @@
 -- A plan of the two arrays of the tests.
 use Rattle.std.specs.Prelude.{◌≡◌, List, [], ◌∷◌}
 use Rattle.xr_types.specs.declared.kind.DType.TheVariants.{Int16}
-use Rattle.xr_defs.specs.Arrays.{Array}
-use Rattle.xr_defs.specs.declared.node.Node.{Node}
-use Rattle.xr_defs.specs.declared.node.Node.TheVariants.{Source}
+use Rattle.xr_arrays.specs.Arrays.{Array}
+use Rattle.xr_arrays.specs.declared.node.Node.{Node}
+use Rattle.xr_arrays.specs.declared.node.Node.TheVariants.{Source}
 
 pub record AreSources (nodes : List Node) : Type 0 where
   pub left : Array

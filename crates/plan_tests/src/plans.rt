@@ -2,13 +2,13 @@
 ghost use Rattle.std.specs.Prelude.{◌≡◌, ◌<◌, ◌≤◌, ◌++◌, [], ◌∷◌, length, map, zip, get_or, true, Option, None, option_map, All, IfOk, IfSome, OnOk};
 ghost use denote.Param.Send.{IsSync};
 ghost use Rattle.xr_types.specs.declared.kind.DType.TheVariants.{Int16};
-ghost use Rattle.xr_defs.specs.Points.{size};
-ghost use Rattle.xr_defs.specs.Arrays.{cell, hidden, IsArray, IsCell};
-ghost use Rattle.xr_defs.specs.Classic.{width};
-ghost use Rattle.xr_defs.specs.Numbers.{is_whole};
-ghost use Rattle.xr_defs.specs.Stored.{stored_array, IsStored};
-ghost use Rattle.xr_defs.specs.Nodes.{kept, values, IsBelow, IsNode, most_node_cells};
-ghost use Rattle.xr_defs.specs.declared.node.Node.TheVariants.{Source};
+ghost use Rattle.xr_types.specs.Points.{size};
+ghost use Rattle.xr_arrays.specs.Arrays.{cell, hidden, IsArray, IsCell};
+ghost use Rattle.xr_types.specs.Widths.{width};
+ghost use Rattle.xr_arrays.specs.Numbers.{is_whole};
+ghost use Rattle.xr_arrays.specs.Stored.{stored_array, IsStored};
+ghost use Rattle.xr_arrays.specs.Nodes.{kept, values, IsBelow, IsNode, most_node_cells};
+ghost use Rattle.xr_arrays.specs.declared.node.Node.TheVariants.{Source};
 ghost use Rattle.plan_tests.specs.Sources.{AreSources};
 ghost use Rattle.plan_core.specs.Takes.{taking_sizes};
 
@@ -18,7 +18,8 @@ use std::alloc::{AllocError, Global};
 use std::test::Fail;
 use std::thread::Threads;
 use stored_cells::{Typed, as_typed};
-use xr_defs::{ArrayValue, Cells, Feed, FoldKind, Form, Node, StoredArray};
+use xr_types::FoldKind;
+use xr_arrays::{ArrayValue, Cells, Feed, Form, Node, StoredArray};
 use xr_types::{Elem, Items, NcType, NoMemory, NodeId, Shape};
 
 // A number, unless its byte in the mask isn't 0.

@@ -1,7 +1,7 @@
 //! Texts and their tokens.
 use std::alloc::{AllocError, Global};
 use std::test::Fail;
-use xr_defs::{Mark, Reserved, ScanEnd, Token};
+use xr_syntax::{Mark, Reserved, ScanEnd, Token};
 use xr_tokens::{scan, text_of};
 use xr_types::ScriptKind;
 

@@ -6,11 +6,11 @@ use Rattle.std.proofs.lemmas.List.FromFn.{take-map-range_with_len}
 use Rattle.xr_types.specs.declared.attr.NcType.{NcType}
 use Rattle.xr_types.specs.declared.attr.NcType.TheVariants.{Byte, Char, Short, Int, Float, Double}
 use Rattle.xr_types.specs.declared.kind.DType.{DType}
-use Rattle.xr_defs.specs.Arrays.{Array}
-use Rattle.xr_defs.specs.Classic.{width}
-use Rattle.xr_defs.specs.Points.{size}
-use Rattle.xr_defs.specs.Numbers.{is_whole, number_in, value_at, numbers_of}
-use Rattle.xr_defs.specs.Stored.{unless_fill, stored_cells, stored_array, IsStored}
+use Rattle.xr_arrays.specs.Arrays.{Array}
+use Rattle.xr_types.specs.Widths.{width}
+use Rattle.xr_types.specs.Points.{size}
+use Rattle.xr_arrays.specs.Numbers.{is_whole, number_in, value_at, numbers_of}
+use Rattle.xr_arrays.specs.Stored.{unless_fill, stored_cells, stored_array, IsStored}
 use Rattle.stored_cells.proofs.Lengths.{share_by}
 
 map_shifted : {X : Type 0} (f g : ℕ → X) (a b k : ℕ) → ((i : ℕ) → i < k → f (a + i) ≡ g (b + i)) → map f (range_with_len a k) ≡ map g (range_with_len b k)

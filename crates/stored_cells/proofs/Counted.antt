@@ -4,10 +4,10 @@ use Rattle.std.specs.Int.{w64, cast_signed, cast_unsigned, int_wrap}
 use Rattle.std.proofs.lemmas.Int.{ints, wrapping_add_onto, int_wrap-add_left}
 use Rattle.std.proofs.lemmas.List.FromFn.{filter_of_map_range_with_len_more}
 use Rattle.xr_types.specs.declared.attr.NcType.{NcType}
-use Rattle.xr_defs.specs.Folds.{sum_of}
-use Rattle.xr_defs.specs.Numbers.{number_in, value_at}
-use Rattle.xr_defs.specs.Stored.{is_fill}
-use Rattle.xr_defs.proofs.Folds.{sum_of-append}
+use Rattle.xr_arrays.specs.Folds.{sum_of}
+use Rattle.xr_arrays.specs.Numbers.{number_in, value_at}
+use Rattle.xr_arrays.specs.Stored.{is_fill}
+use Rattle.xr_arrays.proofs.Folds.{sum_of-append}
 use Rattle.stored_cells.specs.Counted.{present}
 use Rattle.stored_cells.proofs.NumbersInBytes.{numbers_to}
 

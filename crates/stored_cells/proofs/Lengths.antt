@@ -6,13 +6,13 @@ use Rattle.std.proofs.lemmas.List.FromFn.{length-map-range_with_len}
 use Rattle.xr_types.specs.declared.attr.NcType.{NcType}
 use Rattle.xr_types.specs.declared.attr.NcType.TheVariants.{Byte, Char, Short, Int, Float, Double}
 use Rattle.xr_types.specs.declared.kind.DType.TheVariants as kinds
-use Rattle.xr_defs.specs.declared.typed.Cells.{Cells}
-use Rattle.xr_defs.specs.declared.typed.Cells.TheVariants as cells
-use Rattle.xr_defs.specs.Arrays.{Array, kind_of, InKind}
-use Rattle.xr_defs.specs.Points.{size}
-use Rattle.xr_defs.specs.Stored.{unless_fill, stored_array, IsStored}
-use Rattle.xr_defs.specs.Classic.{width}
-use Rattle.xr_defs.specs.Numbers.{is_whole, cells_kind, number_in, value_at, numbers_of}
+use Rattle.xr_arrays.specs.declared.typed.Cells.{Cells}
+use Rattle.xr_arrays.specs.declared.typed.Cells.TheVariants as cells
+use Rattle.xr_arrays.specs.Arrays.{Array, kind_of, InKind}
+use Rattle.xr_types.specs.Points.{size}
+use Rattle.xr_arrays.specs.Stored.{unless_fill, stored_array, IsStored}
+use Rattle.xr_types.specs.Widths.{width}
+use Rattle.xr_arrays.specs.Numbers.{is_whole, cells_kind, number_in, value_at, numbers_of}
 use Rattle.stored_cells.specs.Masks.{Hides}
 
 pub share_by : (kind : NcType) (n s : ℕ) → is_whole kind ≡ true → n ≡ s * width kind → n / width kind ≡ s

@@ -4,8 +4,8 @@ use Rattle.std.specs.List.{list_any}
 use Rattle.std.specs.Ordering.{int_eq}
 use Rattle.std.proofs.lemmas.List.{take_more, length-map, take_all, drop_all}
 use Rattle.std.proofs.lemmas.List.Folds.{list_any-append}
-use Rattle.xr_defs.specs.Arrays.{cell}
-use Rattle.xr_defs.specs.Stored.{is_fill, unless_fill}
+use Rattle.xr_arrays.specs.Arrays.{cell}
+use Rattle.xr_arrays.specs.Stored.{is_fill, unless_fill}
 use Rattle.stored_cells.specs.Masks.{mark, marks, Hides}
 
 one_hidden : (b : Bool) (n : ℤ) → cell (n, cond b 1 0) ≡ cond b None (Some n)

@@ -7,7 +7,7 @@ use Rattle.std.proofs.lemmas.List.{get_or-take, get_or-drop, take_more_set, take
 use Rattle.std.proofs.lemmas.List.FromFn.{map-range_with_len_more}
 use Rattle.xr_types.specs.declared.attr.NcType.{NcType}
 use Rattle.xr_types.specs.declared.attr.NcType.TheVariants.{Char}
-use Rattle.xr_defs.specs.Numbers.{number_in, value_at}
+use Rattle.xr_arrays.specs.Numbers.{number_in, value_at}
 
 -- the first n numbers
 abbrev pub numbers_to : NcType → List ℕ → ℕ → List ℤ

@@ -1,7 +1,7 @@
 -- Masks of cells, some of which hold fill numbers.
 use Rattle.std.specs.Prelude.{◌≡◌, ℕ, ℤ, List, length, map, Option, MatchOption, ⊤, if◌then◌else◌}
-use Rattle.xr_defs.specs.Arrays.{hidden}
-use Rattle.xr_defs.specs.Stored.{is_fill, unless_fill}
+use Rattle.xr_arrays.specs.Arrays.{hidden}
+use Rattle.xr_arrays.specs.Stored.{is_fill, unless_fill}
 
 -- the mask of cells: 1 where a number stands for a missing cell
 abbrev pub mark : List ℤ → ℤ → ℕ

@@ -1,5 +1,5 @@
 -- An array with typed cells, lent or decoded.
-use Rattle.xr_defs.specs.Arrays.{Array}
+use Rattle.xr_arrays.specs.Arrays.{Array}
 use Rattle.stored_cells.specs.declared.kept.Kept.{Kept}
 use Rattle.stored_cells.specs.declared.kept.Kept.TheVariants.{Lent, Owned}
 

@@ -1,11 +1,11 @@
 //! Parts of an array that share its bytes.
 ghost use Rattle.std.specs.Prelude.{◌≡◌, ◌≤◌, ◌+◌, length, take, drop, IfOk, OnOk};
-ghost use Rattle.xr_defs.specs.Points.{size};
-ghost use Rattle.xr_defs.specs.Classic.{width};
-ghost use Rattle.xr_defs.specs.Nodes.{most_node_cells};
+ghost use Rattle.xr_types.specs.Points.{size};
+ghost use Rattle.xr_types.specs.Widths.{width};
+ghost use Rattle.xr_arrays.specs.Nodes.{most_node_cells};
 
 use std::alloc::{AllocError, Global};
-use xr_defs::StoredArray;
+use xr_arrays::StoredArray;
 use xr_types::{Items, NcType};
 
 // How many bytes a number has.

@@ -1,12 +1,12 @@
 //! Numbers of a file, big-endian, as cells of their kind.
 ghost use Rattle.std.specs.Prelude.{◌≡◌, ◌/◌, ◌<◌, length, IfOk, true};
 ghost use Rattle.xr_types.specs.declared.attr.NcType.TheVariants as types;
-ghost use Rattle.xr_defs.specs.Arrays.{kind_of, wide};
-ghost use Rattle.xr_defs.specs.Classic.{width};
-ghost use Rattle.xr_defs.specs.Numbers.{is_whole, cells_kind, number_in, value_at, numbers_of};
+ghost use Rattle.xr_arrays.specs.Arrays.{kind_of, wide};
+ghost use Rattle.xr_types.specs.Widths.{width};
+ghost use Rattle.xr_arrays.specs.Numbers.{is_whole, cells_kind, number_in, value_at, numbers_of};
 
 use std::alloc::{AllocError, Global};
-use xr_defs::Cells;
+use xr_arrays::Cells;
 use xr_types::{Items, NcType};
 
 pub(crate) fn int_at(raw: &[u8], i: usize) -> i32

@@ -1,11 +1,11 @@
 //! Masks of cells that hold fill numbers.
 ghost use Rattle.std.specs.Prelude.{◌≡◌, ◌<◌, ℕ, length, get_or, map, if◌then◌else◌, IfOk};
 ghost use Rattle.std.specs.Ordering.{int_eq};
-ghost use Rattle.xr_defs.specs.Arrays.{wide};
+ghost use Rattle.xr_arrays.specs.Arrays.{wide};
 ghost use Rattle.stored_cells.specs.Masks.{mark, marks, Hides};
 
 use std::alloc::{AllocError, Global};
-use xr_defs::Cells;
+use xr_arrays::Cells;
 use xr_types::{Elem, Items};
 
 // The mask of one cell, given what it was by the fill numbers before.

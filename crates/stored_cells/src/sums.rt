@@ -4,10 +4,10 @@ ghost use Rattle.xr_types.specs.Kinds.{wrap_to};
 ghost use Rattle.xr_types.specs.declared.attr.NcType.{NcType};
 ghost use Rattle.xr_types.specs.declared.attr.NcType.TheVariants.{Byte, Char, Short, Int};
 ghost use Rattle.xr_types.specs.declared.kind.DType.TheVariants.{Int64};
-ghost use Rattle.xr_defs.specs.Classic.{width};
-ghost use Rattle.xr_defs.specs.Folds.{sum_of};
-ghost use Rattle.xr_defs.specs.Numbers.{is_whole, number_in, value_at, numbers_of};
-ghost use Rattle.xr_defs.specs.Stored.{is_fill};
+ghost use Rattle.xr_types.specs.Widths.{width};
+ghost use Rattle.xr_arrays.specs.Folds.{sum_of};
+ghost use Rattle.xr_arrays.specs.Numbers.{is_whole, number_in, value_at, numbers_of};
+ghost use Rattle.xr_arrays.specs.Stored.{is_fill};
 ghost use Rattle.stored_cells.specs.Counted.{present};
 
 use crate::decode::{byte_at, int_at, short_at};

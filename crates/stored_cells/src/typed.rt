@@ -1,14 +1,14 @@
 //! Arrays with their cells at the width of their kind, whatever the form in which they are kept.
 ghost use Rattle.std.specs.Prelude.{◌≡◌, length, None, Some, MatchOption, IfOk};
-ghost use Rattle.xr_defs.specs.Points.{size};
-ghost use Rattle.xr_defs.specs.Arrays.{kind_of, wide, hidden, InKind};
+ghost use Rattle.xr_types.specs.Points.{size};
+ghost use Rattle.xr_arrays.specs.Arrays.{kind_of, wide, hidden, InKind};
 
 use crate::decode::decoded_cells;
 use crate::kept::Kept;
 use crate::masks::mask_for;
 use std::alloc::{AllocError, Global};
 use std::marker::Model;
-use xr_defs::{ArrayValue, Cells, Form, StoredArray, TypedArray};
+use xr_arrays::{ArrayValue, Cells, Form, StoredArray, TypedArray};
 use xr_types::Items;
 
 /// An array with its cells at the width of their kind.
@@ -18,7 +18,7 @@ pub struct Typed<'a> {
 }
 
 impl<'a> Model for Typed<'a> {
-    ghost use Rattle.xr_defs.specs.Arrays.{Array};
+    ghost use Rattle.xr_arrays.specs.Arrays.{Array};
     ghost use Rattle.stored_cells.specs.Typed.{kept_array};
 
     ghost Value = { Array };

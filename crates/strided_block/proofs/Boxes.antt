@@ -1,7 +1,7 @@
 -- Laws of points and boxes: where points of a box lie in its block, and where their cells stand in row order.
 use Rattle.std.proofs.Common.{◌≡◌, ◌<◌, ◌≤◌, ◌+◌, ◌*◌, ℕ, zero, suc, List, [], ◌∷◌, ◌++◌, length, take, drop, get_or, refl, ap, ◌∙◌, arith, lit<}
 use Rattle.std.proofs.lemmas.Nat.{same_from_place}
-use Rattle.xr_defs.specs.Points.{size, place, IsPoint}
+use Rattle.xr_types.specs.Points.{size, place, IsPoint}
 use Rattle.strided_block.specs.Boxes.{Fits, plus, zeros, along}
 
 pub point_long : (ns ps : List ℕ) → IsPoint ns ps → length ns ≡ length ps

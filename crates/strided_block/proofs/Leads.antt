@@ -4,7 +4,7 @@ use Rattle.std.specs.Prelude.{Bool, true, leb, ◌||◌, bytes_eq, Some, None}
 use Rattle.std.proofs.lemmas.Bool.{cases_lt}
 use Rattle.std.proofs.lemmas.Slice.Eq.{bytes_eq-Decides}
 use Rattle.std.proofs.lemmas.List.{get_or-map, get_or-take, get_or-drop}
-use Rattle.xr_defs.specs.Points.{size, place, IsPoint}
+use Rattle.xr_types.specs.Points.{size, place, IsPoint}
 use Rattle.strided_block.specs.Boxes.{Fits, plus, zeros}
 use Rattle.strided_block.specs.Views.{Seen, shown, together, sight, IsClear}
 use Rattle.strided_block.proofs.Boxes.{point_long, fits_long, place_below, plus-zeros, within}

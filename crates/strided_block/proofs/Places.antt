@@ -1,6 +1,6 @@
 -- Products that stop at a bound, and places counted axis by axis.
 use Rattle.std.proofs.Common.{◌≡◌, ◌<◌, ◌≤◌, ◌+◌, ◌*◌, ℕ, zero, suc, min, List, [], ◌∷◌, length, drop, get_or, ◌⊎◌, inl, inr, refl, sym, ap, ◌∙◌, arith}
-use Rattle.xr_defs.specs.Points.{size, place, IsPoint}
+use Rattle.xr_types.specs.Points.{size, place, IsPoint}
 use Rattle.strided_block.proofs.Boxes.{point_drop, place_below}
 
 below : (n s m : ℕ) → s ≤ m → min (n * min s m) m ≡ min (n * s) m

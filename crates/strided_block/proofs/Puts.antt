@@ -9,8 +9,8 @@ use Rattle.xr_types.specs.Cells.{again_char, again_int8, again_int16, again_int3
 use Rattle.xr_types.specs.Kinds.{InRange, wrap_to}
 use Rattle.xr_types.specs.declared.kind.DType.{DType}
 use Rattle.xr_types.specs.declared.kind.DType.TheVariants.{Bool, Char, Int8, Int16, Int32, Int64}
-use Rattle.xr_defs.specs.Arrays.{IsCell}
-use Rattle.xr_defs.specs.Points.{size, place, IsPoint}
+use Rattle.xr_arrays.specs.Arrays.{IsCell}
+use Rattle.xr_types.specs.Points.{size, place, IsPoint}
 use Rattle.strided_block.specs.Boxes.{plus, zeros, along, IsRow}
 use Rattle.strided_block.specs.Typed.{Box, IsWide, box_of, truth, number_or_zero}
 use Rattle.strided_block.specs.Views.{Stored, Seen, Window, shown, kept, held, cell_at, sight, wide_window, IsWhole, IsFull}

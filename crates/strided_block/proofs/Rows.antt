@@ -3,7 +3,7 @@ use Rattle.std.proofs.Common.{◌≡◌, ◌<◌, ◌≤◌, ◌+◌, ◌-◌, �
 use Rattle.std.specs.Prelude.{Some, None, slice_set}
 use Rattle.std.proofs.lemmas.Bool.{cases_lt}
 use Rattle.std.proofs.lemmas.List.{get_or-map, get_or-take, get_or-drop, get_or_append_left, get_or-append_right}
-use Rattle.xr_defs.specs.Points.{size, place, IsPoint}
+use Rattle.xr_types.specs.Points.{size, place, IsPoint}
 use Rattle.strided_block.specs.Boxes.{plus, zeros, along, IsRow}
 use Rattle.strided_block.specs.Views.{Window, Cut, held, cell_at, wide_window, IsFull}
 use Rattle.strided_block.specs.Zips.{stored}

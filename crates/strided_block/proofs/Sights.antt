@@ -2,7 +2,7 @@
 use Rattle.std.proofs.Common.{◌≡◌, ◌<◌, ◌≤◌, ◌+◌, ◌-◌, ℕ, zero, suc, List, [], ◌∷◌, length, map, get_or, sym, ap, subst, ◌∙◌, arith}
 use Rattle.std.specs.Prelude.{Some, None, slice_set}
 use Rattle.std.proofs.lemmas.List.{get_or-map}
-use Rattle.xr_defs.specs.Points.{place, IsPoint}
+use Rattle.xr_types.specs.Points.{place, IsPoint}
 use Rattle.strided_block.specs.Boxes.{Fits, plus, zeros, moved}
 use Rattle.strided_block.specs.Views.{Seen, shown, sight, IsClear, IsFull}
 use Rattle.strided_block.proofs.Boxes.{point_long, fits_long, plus_inside, place_below, zeros_fit}

@@ -3,7 +3,7 @@ use Rattle.std.proofs.Common.{◌≡◌, ◌<◌, ◌≤◌, ◌+◌, ◌*◌, �
 use Rattle.std.specs.Prelude.{Option, Some, None}
 use Rattle.std.proofs.lemmas.Bool.{cases_lt}
 use Rattle.std.proofs.lemmas.List.{get_or-map, take-append-drop}
-use Rattle.xr_defs.specs.Points.{size, place, IsPoint}
+use Rattle.xr_types.specs.Points.{size, place, IsPoint}
 use Rattle.strided_block.specs.Views.{Seen, shown}
 use Rattle.strided_block.specs.Zips.{Zips, point_at, stored}
 use Rattle.strided_block.proofs.Boxes.{place_below, point_drop, within, one_point}

@@ -1,6 +1,6 @@
 -- Boxes of points in a block, and points that are moved.
 use Rattle.std.specs.Prelude.{◌+◌, ◌<◌, ◌≤◌, ℕ, zero, suc, List, [], ◌∷◌, get_or, slice_set, ⊤}
-use Rattle.xr_defs.specs.Points.{IsPoint}
+use Rattle.xr_types.specs.Points.{IsPoint}
 
 -- a box of the sizes ss that begins at ls lies in a block of the sizes ns
 abbrev pub Fits : List ℕ → List ℕ → List ℕ → Type 0

@@ -1,6 +1,6 @@
 -- Blocks, views and windows: finite maps from points to cells. Contracts speak of them by `shown`, `together`, `held`, `cell_at` and the facts below, and by their sizes.
 use Rattle.std.specs.Prelude.{◌≡◌, ◌+◌, ◌<◌, ◌^◌, ℕ, Bool, List, map, drop, length, get_or, Option, Some, None, bytes_eq, leb, ◌||◌}
-use Rattle.xr_defs.specs.Points.{size, place, IsPoint}
+use Rattle.xr_types.specs.Points.{size, place, IsPoint}
 use Rattle.strided_block.specs.Boxes.{Fits, plus, zeros}
 
 -- a block: its sizes and its cells in row order

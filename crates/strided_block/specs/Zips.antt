@@ -1,6 +1,6 @@
 -- A cell that a relation ties to the cells of four views.
 use Rattle.std.specs.Prelude.{◌≡◌, ◌/◌, ◌%◌, ℕ, List, [], ◌∷◌, map, get_or, Option, Some, None}
-use Rattle.xr_defs.specs.Points.{size, place}
+use Rattle.xr_types.specs.Points.{size, place}
 
 -- all cells are there, and the relation holds of them
 pub record Zips {A B C D T : Type 0} (R : A → B → C → D → T → Type 0) (a : Option A) (b : Option B) (c : Option C) (d : Option D) (r : Option T) : Type 0 where

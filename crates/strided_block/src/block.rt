@@ -1,6 +1,6 @@
 //! Blocks of cells in row order.
 ghost use Rattle.std.specs.Prelude.{◌≡◌, ◌<◌, ℕ, pos, List, Option, Some, None, length, get_or, replicate, IfOk};
-ghost use Rattle.xr_defs.specs.Points.{size, place, IsPoint};
+ghost use Rattle.xr_types.specs.Points.{size, place, IsPoint};
 ghost use Rattle.strided_block.specs.Typed.{number_or_zero, mask_byte};
 ghost use Rattle.strided_block.specs.Views.{kept, sight};
 ghost use Rattle.strided_block.specs.Boxes.{zeros};

@@ -1,6 +1,6 @@
 //! Cells of one kind with their mask: blocks, views and windows.
 ghost use Rattle.std.specs.Prelude.{◌≡◌, false, ℕ, List, Some};
-ghost use Rattle.xr_defs.specs.Points.{IsPoint};
+ghost use Rattle.xr_types.specs.Points.{IsPoint};
 ghost use Rattle.strided_block.specs.Views.{kept, shown, cell_at};
 ghost use Rattle.strided_block.specs.Typed.{block_shape, view_shape, win_box, box_of};
 
@@ -52,8 +52,8 @@ pub struct CellWin {
 
 impl CellBlock {
     ghost use Rattle.std.specs.Prelude.{◌≡◌, ℕ, pos, List, Option, Some, None, length, get_or, All, IfOk};
-    ghost use Rattle.xr_defs.specs.Arrays.{IsCell};
-    ghost use Rattle.xr_defs.specs.Points.{size, place, IsPoint};
+    ghost use Rattle.xr_arrays.specs.Arrays.{IsCell};
+    ghost use Rattle.xr_types.specs.Points.{size, place, IsPoint};
     ghost use Rattle.strided_block.specs.Typed.{block_kind, view_kind};
     ghost use Rattle.strided_block.specs.Cells.{cell_kept, cell_shown};
 
@@ -124,8 +124,8 @@ impl CellBlock {
 
 impl<'a> CellView<'a> {
     ghost use Rattle.std.specs.Prelude.{◌≡◌, ◌-◌, ◌≤◌, ◌<◌, ℕ, List, length, get_or, slice_set};
-    ghost use Rattle.xr_defs.specs.Points.{IsPoint};
-    ghost use Rattle.xr_defs.specs.Arrays.{IsCell};
+    ghost use Rattle.xr_types.specs.Points.{IsPoint};
+    ghost use Rattle.xr_arrays.specs.Arrays.{IsCell};
     ghost use Rattle.strided_block.specs.Boxes.{moved};
     ghost use Rattle.strided_block.specs.Typed.{view_kind};
     ghost use Rattle.strided_block.specs.Cells.{cell_shown};
@@ -182,8 +182,8 @@ impl<'a> CellView<'a> {
 
 impl CellWin {
     ghost use Rattle.std.specs.Prelude.{◌≡◌, ◌<◌, ℕ, List, Option, None, length, get_or, All};
-    ghost use Rattle.xr_defs.specs.Points.{IsPoint};
-    ghost use Rattle.xr_defs.specs.Arrays.{IsCell};
+    ghost use Rattle.xr_types.specs.Points.{IsPoint};
+    ghost use Rattle.xr_arrays.specs.Arrays.{IsCell};
     ghost use Rattle.strided_block.specs.Boxes.{plus, along, IsRow};
     ghost use Rattle.strided_block.specs.Typed.{view_kind, block_kind, win_kind};
     ghost use Rattle.strided_block.specs.Views.{IsWhole};

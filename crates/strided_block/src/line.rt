@@ -1,6 +1,6 @@
 //! Cells along a line of a window, each made from the one before it.
 ghost use Rattle.std.specs.Prelude.{◌≡◌, ◌+◌, ◌*◌, ◌<◌, ℕ, List, Some, length, get_or, slice_set};
-ghost use Rattle.xr_defs.specs.Points.{IsPoint};
+ghost use Rattle.xr_types.specs.Points.{IsPoint};
 ghost use Rattle.strided_block.specs.Boxes.{plus, zeros};
 ghost use Rattle.strided_block.specs.Lines.{IsLine, prior, Follows};
 ghost use Rattle.strided_block.specs.Views.{Cut, shown, held, cell_at};

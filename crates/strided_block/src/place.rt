@@ -1,6 +1,6 @@
 //! Counts of cells, and where the cells of points lie.
 ghost use Rattle.std.specs.Prelude.{◌≡◌, ◌-◌, ◌^◌, ◌<◌, ◌≤◌, [], min, length, get_or, IfOk};
-ghost use Rattle.xr_defs.specs.Points.{size, place, IsPoint};
+ghost use Rattle.xr_types.specs.Points.{size, place, IsPoint};
 ghost use Rattle.strided_block.specs.Boxes.{plus, zeros};
 
 use xr_types::{NoMemory, Shape};

@@ -39,8 +39,8 @@ pub enum TypedWin {
 
 impl TypedBlock {
     ghost use Rattle.std.specs.Prelude.{◌≡◌, ℕ, ℤ, pos, List, Option, Some, None, length, get_or, All, IfOk};
-    ghost use Rattle.xr_defs.specs.Arrays.{IsCell};
-    ghost use Rattle.xr_defs.specs.Points.{size, place, IsPoint};
+    ghost use Rattle.xr_arrays.specs.Arrays.{IsCell};
+    ghost use Rattle.xr_types.specs.Points.{size, place, IsPoint};
     ghost use Rattle.strided_block.specs.Typed.{block_kind, block_shape, number_kept, view_kind, view_shape, number_shown};
 
     /// The kind of the cells.
@@ -117,7 +117,7 @@ impl<'a> TypedView<'a> {
     ghost use Rattle.std.specs.Prelude.{◌≡◌, ◌-◌, ◌<◌, ◌≤◌, ℕ, List, Some, length, get_or, slice_set};
     ghost use Rattle.strided_block.specs.Boxes.{moved};
     ghost use Rattle.xr_types.specs.Kinds.{InRange};
-    ghost use Rattle.xr_defs.specs.Points.{IsPoint};
+    ghost use Rattle.xr_types.specs.Points.{IsPoint};
     ghost use Rattle.strided_block.specs.Typed.{view_kind, view_shape, number_shown};
 
     /// The kind of the cells.
@@ -172,8 +172,8 @@ impl<'a> TypedView<'a> {
 impl TypedWin {
     ghost use Rattle.std.specs.Prelude.{◌≡◌, ◌<◌, ℕ, ℤ, List, Option, Some, None, length, get_or, All};
     ghost use Rattle.xr_types.specs.Kinds.{InRange};
-    ghost use Rattle.xr_defs.specs.Arrays.{IsCell};
-    ghost use Rattle.xr_defs.specs.Points.{IsPoint};
+    ghost use Rattle.xr_arrays.specs.Arrays.{IsCell};
+    ghost use Rattle.xr_types.specs.Points.{IsPoint};
     ghost use Rattle.strided_block.specs.Boxes.{plus, along, IsRow};
     ghost use Rattle.strided_block.specs.Typed.{view_kind, view_shape, block_kind, block_shape, win_kind, win_box, IsWide, number_shown, number_kept, number_held};
 

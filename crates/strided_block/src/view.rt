@@ -1,6 +1,6 @@
 //! Views of cells.
 ghost use Rattle.std.specs.Prelude.{◌≡◌, ◌-◌, ◌+◌, ◌*◌, ◌<◌, ◌≤◌, ◌++◌, ◌||◌, ℕ, List, Some, true, leb, bytes_eq, length, get_or, take, drop, slice_set};
-ghost use Rattle.xr_defs.specs.Points.{size, place, IsPoint};
+ghost use Rattle.xr_types.specs.Points.{size, place, IsPoint};
 ghost use Rattle.strided_block.specs.Boxes.{moved, plus, zeros};
 ghost use Rattle.strided_block.specs.Lines.{IsLine};
 ghost use Rattle.strided_block.specs.Views.{shown, together};

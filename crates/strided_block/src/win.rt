@@ -1,6 +1,6 @@
 //! Windows: owned cells of a block, to be written.
 ghost use Rattle.std.specs.Prelude.{◌≡◌, ◌+◌, ◌*◌, ◌<◌, ◌≤◌, ◌++◌, ◌⊎◌, ℕ, List, Option, Some, None, length, get_or, map, take, drop, slice_set};
-ghost use Rattle.xr_defs.specs.Points.{place, IsPoint};
+ghost use Rattle.xr_types.specs.Points.{place, IsPoint};
 ghost use Rattle.strided_block.specs.Boxes.{plus, along, IsRow};
 ghost use Rattle.strided_block.specs.Typed.{number_or_zero, mask_byte};
 ghost use Rattle.strided_block.specs.Views.{Cut, KeptOutside, IsWhole, shown, held, cell_at};

@@ -1,6 +1,6 @@
 //! A window whose cells are made from those of views, a run at a time.
 ghost use Rattle.std.specs.Prelude.{◌≡◌, ◌+◌, ◌*◌, ◌<◌, ◌≤◌, ◌^◌, ◌++◌, ◌⊎◌, ◌&&◌, ℕ, List, None, Some, true, length, get_or, map, take, drop};
-ghost use Rattle.xr_defs.specs.Points.{size, place, IsPoint};
+ghost use Rattle.xr_types.specs.Points.{size, place, IsPoint};
 ghost use Rattle.strided_block.specs.Views.{Cut, KeptOutside, shown, together, cell_at};
 ghost use Rattle.strided_block.specs.Zips.{Zips, point_at, stored};
 

@@ -5,7 +5,7 @@ use Rattle.std.proofs.lemmas.List.{map-append, drop-map, length-map, take_all}
 use Rattle.std.specs.List.{list_all}
 use Rattle.std.specs.Prelude.{nat_le, OnOk}
 use Rattle.xr_defs.specs.Meanings.{Value}
-use Rattle.xr_defs.specs.Results.{unless}
+use Rattle.xr_types.specs.Results.{unless}
 use Rattle.xr_defs.specs.Building.{bound, keyword, is_keyword_of}
 
 pub bound_is : {N : Type 0} (now : N → List ℕ) (names others : List N) (plain : List Value) (keyed : List (List ℕ × Value)) (values : List (Option Value)) → length plain ≤ length names → others ≡ drop (length plain) names

@@ -5,7 +5,7 @@ use Rattle.std.specs.declared.rc.Rc.{Rc}
 use Rattle.std.specs.declared.alloc.Global.{Global}
 use Rattle.xr_types.specs.declared.text.TextBytes.{TextBytes}
 use Rattle.xr_defs.specs.declared.slice.Part.{Part}
-use Rattle.xr_defs.specs.declared.node.Node.{Node}
+use Rattle.xr_arrays.specs.declared.node.Node.{Node}
 use Rattle.xr_defs.specs.Meanings as of
 use Rattle.xr_values.specs.declared.data_array.DataArray.{DataArray}
 use Rattle.xr_values.specs.declared.dataset.Dataset.{Dataset}

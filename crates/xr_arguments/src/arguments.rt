@@ -1,7 +1,7 @@
 //! What a call takes from its arguments.
 ghost use Rattle.std.specs.Prelude.{List};
-ghost use Rattle.xr_defs.specs.declared.node.Node.{Node};
-ghost use Rattle.xr_defs.specs.Results.{Answers};
+ghost use Rattle.xr_arrays.specs.declared.node.Node.{Node};
+ghost use Rattle.xr_types.specs.Results.{Answers};
 ghost use Rattle.xr_defs.specs.Arguments as calls;
 ghost use Rattle.xr_values.specs.Meaning.{meaning, given};
 
@@ -45,7 +45,7 @@ pub fn as_text(value: &Value) -> Result<&TextBytes, CallFault>
 }
 
 /// Refuses every argument.
-#[tactic(auto, unfolding(xr_defs::specs::Arguments::nothing_given, xr_defs::specs::Results::unless, xr_values::specs::Meaning::given))]
+#[tactic(auto, unfolding(xr_defs::specs::Arguments::nothing_given, xr_types::specs::Results::unless, xr_values::specs::Meaning::given))]
 pub fn nothing_given(args: &Args) -> Result<(), CallFault>
     ensures { (nodes : List Node) → Answers (λ u. u) result (calls.nothing_given (given nodes args.now)) }
 {

@@ -1,9 +1,9 @@
 //! Arguments by the names of a call's parameters.
 ghost use Rattle.std.specs.Prelude.{◌≡◌, ◌++◌, List, map, option_map, OnOk};
 ghost use Rattle.std.specs.List.{list_all};
-ghost use Rattle.xr_defs.specs.declared.node.Node.{Node};
-ghost use Rattle.xr_defs.specs.Classic.{among};
-ghost use Rattle.xr_defs.specs.Results.{Answers};
+ghost use Rattle.xr_arrays.specs.declared.node.Node.{Node};
+ghost use Rattle.xr_types.specs.Names.{among};
+ghost use Rattle.xr_types.specs.Results.{Answers};
 ghost use Rattle.xr_defs.specs.Building as calls;
 ghost use Rattle.xr_values.specs.Meaning.{meaning, given, with_key};
 
@@ -66,7 +66,7 @@ fn push_keywords<'a>(
 ///
 /// # Errors
 /// `BadArgument` for more plain arguments than parameters, and for a keyword that is none of the other parameters.
-#[tactic(auto, unfolding(xr_defs::specs::Building::bound, xr_defs::specs::Results::unless, xr_values::specs::Meaning::given))]
+#[tactic(auto, unfolding(xr_defs::specs::Building::bound, xr_types::specs::Results::unless, xr_values::specs::Meaning::given))]
 pub fn bound<'a>(
     alloc: Global,
     names: &[&str],

@@ -1,7 +1,7 @@
 //! Lists of texts.
 ghost use Rattle.std.specs.Prelude.{List};
-ghost use Rattle.xr_defs.specs.declared.node.Node.{Node};
-ghost use Rattle.xr_defs.specs.Results.{Answers};
+ghost use Rattle.xr_arrays.specs.declared.node.Node.{Node};
+ghost use Rattle.xr_types.specs.Results.{Answers};
 ghost use Rattle.xr_defs.specs.Parts as parts;
 ghost use Rattle.xr_values.specs.Meaning.{all_values};
 

@@ -3,8 +3,8 @@ use Rattle.std.proofs.Common.{◌≡◌, ℕ, true, false, not, List, [], ◌∷
 use Rattle.std.specs.Str.{bytes_eq}
 use Rattle.std.specs.List.{AllByRecursion}
 use Rattle.std.proofs.lemmas.Bool.{and_parts, and_from, or_parts, not-true, not_from_false}
-use Rattle.xr_defs.specs.Classic.{among}
-use Rattle.xr_defs.specs.Canonical.{are_distinct}
+use Rattle.xr_types.specs.Names.{among}
+use Rattle.xr_types.specs.Names.{are_distinct}
 use Rattle.xr_values.proofs.Named.{bytes_eq_swap}
 use Rattle.xr_building.proofs.Names.{absent_both, false_or}
 

@@ -6,10 +6,10 @@ use Rattle.std.specs.Prelude.{nat_le}
 use Rattle.xr_types.specs.declared.axis.Axis.{Axis}
 use Rattle.xr_types.specs.declared.fault.Fault.TheVariants.{BadArgument, WrongKind}
 use Rattle.std.specs.List.{list_all}
-use Rattle.xr_defs.specs.declared.node.Node.{Node}
+use Rattle.xr_arrays.specs.declared.node.Node.{Node}
 use Rattle.xr_values.specs.declared.value.Value.{Value as Held}
 use Rattle.xr_values.specs.Meaning.{meaning, all_values}
-use Rattle.xr_defs.specs.Results.{unless, all_of}
+use Rattle.xr_types.specs.Results.{unless, all_of}
 use Rattle.xr_defs.specs.Meanings.{Value, Array}
 use Rattle.xr_defs.specs.Values as of
 use Rattle.xr_defs.specs.Building.{check_coordinate, check_place, is_number, is_text}

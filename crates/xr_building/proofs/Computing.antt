@@ -8,11 +8,11 @@ use Rattle.xr_types.specs.declared.axis.Axis.{Axis}
 use Rattle.xr_types.specs.declared.axis.Labels.{Labels}
 use Rattle.xr_types.specs.declared.fault.CallFault.{CallFault}
 use Rattle.xr_types.specs.declared.fault.CallFault.TheVariants.{Declined}
-use Rattle.xr_defs.specs.declared.node.Node.{Node}
+use Rattle.xr_arrays.specs.declared.node.Node.{Node}
 use Rattle.xr_defs.specs.declared.value.Coord.{Coord}
-use Rattle.xr_defs.specs.Results.{◌>>=◌, unless}
-use Rattle.xr_defs.specs.Arrays.{Array as Cells}
-use Rattle.xr_defs.specs.Nodes.{value}
+use Rattle.xr_types.specs.Results.{◌>>=◌, unless}
+use Rattle.xr_arrays.specs.Arrays.{Array as Cells}
+use Rattle.xr_arrays.specs.Nodes.{value}
 use Rattle.xr_defs.specs.Meanings.{Array}
 use Rattle.xr_values.specs.declared.data_array.DataArray.{DataArray}
 use Rattle.xr_values.specs.declared.value.Value.{Value}

@@ -6,7 +6,7 @@ use Rattle.std.specs.List.{list_all}
 use Rattle.std.specs.Prelude.{◌==◌}
 use Rattle.std.proofs.lemmas.Bool.Decides.{nat_tests}
 use Rattle.xr_defs.specs.Meanings.{Value, Absent, Missing, Truth, Number, Text, Sequence, Table, Slice, Array, Set, Values, NoValue, With}
-use Rattle.xr_defs.specs.Points.{size}
+use Rattle.xr_types.specs.Points.{size}
 use Rattle.xr_defs.specs.Building.{elements, elements_of, items, is_nested, is_regular}
 
 one_element : (v : Value) → is_nested 0 v ≡ true → length (elements v) ≡ 1

@@ -9,11 +9,11 @@ use Rattle.xr_types.specs.declared.axis.Axis.{Axis}
 use Rattle.xr_types.specs.declared.kind.DType.{DType}
 use Rattle.xr_types.specs.declared.kind.DType.TheVariants as kinds
 use Rattle.xr_defs.specs.declared.value.Coord.{Coord}
-use Rattle.xr_defs.specs.Arrays.{IsCell}
-use Rattle.xr_defs.specs.Classic.{is_name}
-use Rattle.xr_defs.specs.Canonical.{are_distinct}
-use Rattle.xr_defs.specs.Points.{size}
-use Rattle.xr_defs.specs.Values.{shape_over}
+use Rattle.xr_arrays.specs.Arrays.{IsCell}
+use Rattle.xr_files.specs.Classic.{is_name}
+use Rattle.xr_types.specs.Names.{are_distinct}
+use Rattle.xr_types.specs.Points.{size}
+use Rattle.xr_types.specs.Names.{shape_over}
 use Rattle.xr_defs.specs.Meanings as of
 use Rattle.xr_defs.specs.Meanings.{Value}
 use Rattle.xr_defs.specs.Building.{bare_axes, elements, element_cell, fits_kind, first_item, is_missing, is_nested, is_regular, is_truth_cell, is_whole_cell, nested_shape, suits}

@@ -7,9 +7,9 @@ use Rattle.xr_types.specs.declared.kind.DType.{DType}
 use Rattle.xr_types.specs.declared.fault.Fault.{Fault}
 use Rattle.xr_types.specs.declared.fault.Fault.TheVariants.{DoesNotFit}
 use Rattle.xr_types.specs.declared.fault.CallFault.{CallFault}
-use Rattle.xr_defs.specs.declared.node.Node.{Node}
-use Rattle.xr_defs.specs.Results.{◌>>=◌, unless, all_of}
-use Rattle.xr_defs.specs.Values.{shape_over}
+use Rattle.xr_arrays.specs.declared.node.Node.{Node}
+use Rattle.xr_types.specs.Results.{◌>>=◌, unless, all_of}
+use Rattle.xr_types.specs.Names.{shape_over}
 use Rattle.xr_defs.specs.Building.{Frame, check_entry, check_numbers, fits_kind}
 use Rattle.xr_values.specs.declared.value.Value.{Value}
 use Rattle.xr_values.specs.Meaning.{with_key, IsEntryIn}

@@ -11,12 +11,13 @@ use Rattle.xr_types.specs.declared.kind.DType.TheVariants as kinds
 use Rattle.xr_types.specs.declared.fault.Fault.{Fault}
 use Rattle.xr_types.specs.declared.fault.Fault.TheVariants.{WrongKind, DoesNotFit, SizeConflict, NotAligned, DuplicateName}
 use Rattle.xr_defs.specs.declared.value.Coord.{Coord}
-use Rattle.xr_defs.specs.Results.{◌>>=◌, unless, all_of}
-use Rattle.xr_defs.specs.Classic.{among}
-use Rattle.xr_defs.specs.Labels.{labels_of}
+use Rattle.xr_types.specs.Results.{◌>>=◌, unless, all_of}
+use Rattle.xr_types.specs.Names.{among}
+use Rattle.xr_arrays.specs.Labels.{labels_of}
 use Rattle.xr_defs.specs.Encoding.{may_fill}
 use Rattle.xr_defs.specs.Values as of
-use Rattle.xr_defs.specs.Values.{axis_names, present}
+use Rattle.xr_types.specs.Names.{axis_names}
+use Rattle.xr_defs.specs.Values.{present}
 use Rattle.xr_defs.specs.Selecting.{axis_called}
 use Rattle.xr_defs.specs.Meanings.{Value, Values, Absent, Missing, Truth, Number, Text, Sequence, Table, Slice, Array, Set}
 use Rattle.xr_defs.specs.Building.{Frame, all_values, as_labels, check_axis, check_entry, check_labels, check_coordinate, check_numbers, coordinate_given, is_dimension, is_integer_kind, is_number, is_text, label_total, labels_given, numbers_in, same_labels, with_coord, with_coordinate, with_entry, with_labels}

@@ -17,14 +17,15 @@ use Rattle.xr_types.specs.declared.axis.LabelList.TheVariants.{Numbers, Texts}
 use Rattle.xr_types.specs.declared.kind.DType.TheVariants as kinds
 use Rattle.xr_types.specs.declared.fault.Fault.{Fault}
 use Rattle.xr_types.specs.declared.fault.Fault.TheVariants.{WrongKind, BadArgument, SizeConflict, NotAligned, NoDimension, DoesNotFit}
-use Rattle.xr_defs.specs.declared.node.Node.{Node}
-use Rattle.xr_defs.specs.Results.{◌>>=◌, unless, all_of}
-use Rattle.xr_defs.specs.Arrays.{cell, hidden}
-use Rattle.xr_defs.specs.Classic.{among}
-use Rattle.xr_defs.specs.Points.{size}
-use Rattle.xr_defs.specs.Labels.{labels_of}
+use Rattle.xr_arrays.specs.declared.node.Node.{Node}
+use Rattle.xr_types.specs.Results.{◌>>=◌, unless, all_of}
+use Rattle.xr_arrays.specs.Arrays.{cell, hidden}
+use Rattle.xr_types.specs.Names.{among}
+use Rattle.xr_types.specs.Points.{size}
+use Rattle.xr_arrays.specs.Labels.{labels_of}
 use Rattle.xr_defs.specs.Values as of
-use Rattle.xr_defs.specs.Values.{axis_names, axis_position, no_axis, present}
+use Rattle.xr_types.specs.Names.{axis_names}
+use Rattle.xr_defs.specs.Values.{axis_position, no_axis, present}
 use Rattle.xr_defs.specs.Selecting.{axis_called}
 use Rattle.xr_defs.specs.Meanings.{Value, NoValue, Absent, Missing, Truth, Number, Text, Sequence, Table, Slice, Array, Set}
 use Rattle.xr_defs.specs.Building.{all_values, as_labels, check_axis, check_labels, check_numbers, is_along, is_dimension, is_integer_kind, is_number, is_text, label_total, labels_given, numbers_in, same_labels}

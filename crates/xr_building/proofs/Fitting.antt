@@ -12,8 +12,8 @@ use Rattle.xr_types.specs.declared.axis.LabelList.{LabelList}
 use Rattle.xr_types.specs.declared.axis.LabelList.TheVariants.{Numbers, Times, Texts}
 use Rattle.xr_types.specs.declared.kind.DType.{DType}
 use Rattle.xr_types.specs.declared.kind.DType.TheVariants as kinds
-use Rattle.xr_defs.specs.Labels.{same, labels_of}
-use Rattle.xr_defs.specs.Arrays.{IsCell}
+use Rattle.xr_arrays.specs.Labels.{same, labels_of}
+use Rattle.xr_arrays.specs.Arrays.{IsCell}
 use Rattle.xr_defs.specs.Values.{present}
 use Rattle.xr_defs.specs.Encoding.{may_fill}
 use Rattle.xr_defs.specs.Building.{same_labels, is_integer_kind}

@@ -6,11 +6,11 @@ use Rattle.std.proofs.lemmas.Bool.{or_parts, not-true}
 use Rattle.xr_types.specs.declared.axis.Axis.{Axis}
 use Rattle.xr_types.specs.declared.axis.Labels.{Labels}
 use Rattle.xr_types.specs.declared.fault.Fault.TheVariants.{DuplicateName}
-use Rattle.xr_defs.specs.declared.node.Node.{Node}
+use Rattle.xr_arrays.specs.declared.node.Node.{Node}
 use Rattle.xr_defs.specs.declared.value.Coord.{Coord}
-use Rattle.xr_defs.specs.Classic.{among}
-use Rattle.xr_defs.specs.Canonical.{are_distinct}
-use Rattle.xr_defs.specs.Values.{axis_names}
+use Rattle.xr_types.specs.Names.{among}
+use Rattle.xr_types.specs.Names.{are_distinct}
+use Rattle.xr_types.specs.Names.{axis_names}
 use Rattle.xr_defs.specs.Meanings.{Value, Absent, Missing, Truth, Number, Text, Sequence, Table, Slice, Array, Set}
 use Rattle.xr_defs.specs.Building.{Frame, is_dimension, with_coord}
 use Rattle.xr_values.specs.declared.args.Args.{Args}

@@ -5,10 +5,10 @@ use Rattle.std.specs.List.{AllByRecursion}
 use Rattle.xr_types.specs.declared.axis.Axis.{Axis}
 use Rattle.xr_types.specs.declared.text.TextBytes.{TextBytes}
 use Rattle.xr_types.specs.declared.fault.CallFault.{CallFault}
-use Rattle.xr_defs.specs.declared.node.Node.{Node}
+use Rattle.xr_arrays.specs.declared.node.Node.{Node}
 use Rattle.xr_defs.specs.declared.value.Coord.{Coord}
-use Rattle.xr_defs.specs.Results.{◌>>=◌}
-use Rattle.xr_defs.specs.Values.{axis_names, shape_over}
+use Rattle.xr_types.specs.Results.{◌>>=◌}
+use Rattle.xr_types.specs.Names.{axis_names, shape_over}
 use Rattle.xr_defs.specs.Meanings.{Value}
 use Rattle.xr_defs.specs.Building.{Frame, frame_of_array, is_dimension}
 use Rattle.xr_values.specs.declared.data_array.DataArray.{DataArray}

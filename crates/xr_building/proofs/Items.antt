@@ -9,8 +9,8 @@ use Rattle.std.proofs.lemmas.List.Folds.{list_all-append, list_any-append}
 use Rattle.std.specs.List.{list_all, list_any}
 use Rattle.xr_types.specs.declared.fault.Fault.TheVariants.{WrongKind}
 use Rattle.xr_types.specs.declared.axis.LabelList.TheVariants.{Texts}
-use Rattle.xr_defs.specs.declared.node.Node.{Node}
-use Rattle.xr_defs.specs.Results.{◌>>=◌}
+use Rattle.xr_arrays.specs.declared.node.Node.{Node}
+use Rattle.xr_types.specs.Results.{◌>>=◌}
 use Rattle.xr_defs.specs.Arguments.{as_text}
 use Rattle.xr_defs.specs.Parts.{texts_in}
 use Rattle.xr_defs.specs.Meanings as of

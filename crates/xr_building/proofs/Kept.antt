@@ -10,8 +10,8 @@ use Rattle.xr_types.specs.Kinds.{low, high, wrap_to, InRange}
 use Rattle.xr_types.specs.declared.kind.DType.{DType}
 use Rattle.xr_types.specs.declared.kind.DType.TheVariants as kinds
 use Rattle.xr_types.proofs.Wrapping.{wrapped_only}
-use Rattle.xr_defs.specs.declared.typed.Cells.{Cells}
-use Rattle.xr_defs.specs.Arrays.{Array, IsCell, hidden, cell, kind_of, wide}
+use Rattle.xr_arrays.specs.declared.typed.Cells.{Cells}
+use Rattle.xr_arrays.specs.Arrays.{Array, IsCell, hidden, cell, kind_of, wide}
 use Rattle.xr_defs.specs.Encoding.{may_fill}
 use Rattle.xr_defs.specs.Meanings.{Value, Absent, Missing, Truth, Number, Text, Sequence, Table, Slice, Set}
 use Rattle.xr_defs.specs.Meanings as of

@@ -12,8 +12,8 @@ use Rattle.xr_types.specs.declared.kind.DType.{DType}
 use Rattle.xr_types.specs.declared.kind.DType.TheVariants as kinds
 use Rattle.xr_types.specs.declared.fault.Fault.{Fault}
 use Rattle.xr_types.specs.declared.fault.Fault.TheVariants.{WrongKind}
-use Rattle.xr_defs.specs.declared.node.Node.{Node}
-use Rattle.xr_defs.specs.Results.{◌>>=◌}
+use Rattle.xr_arrays.specs.declared.node.Node.{Node}
+use Rattle.xr_types.specs.Results.{◌>>=◌}
 use Rattle.xr_defs.specs.Arguments.{as_text}
 use Rattle.xr_defs.specs.Parts.{texts_in}
 use Rattle.xr_defs.specs.Encoding.{may_fill}

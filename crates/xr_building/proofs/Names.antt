@@ -5,8 +5,9 @@ use Rattle.std.proofs.lemmas.Slice.Eq.{bytes_eq-Decides}
 use Rattle.std.proofs.Math.Bool.{and-true}
 use Rattle.std.proofs.lemmas.Str.{is_utf8-from_IsUtf8}
 use Rattle.std.specs.Str.{bytes_eq, IsUtf8}
-use Rattle.xr_defs.specs.Classic.{among, is_name}
-use Rattle.xr_defs.specs.Canonical.{are_distinct}
+use Rattle.xr_types.specs.Names.{among}
+use Rattle.xr_files.specs.Classic.{is_name}
+use Rattle.xr_types.specs.Names.{are_distinct}
 use Rattle.xr_values.proofs.Named.{bytes_eq_swap}
 
 pub same_text : (a b : List ℕ) → bytes_eq a b ≡ true → a ≡ b

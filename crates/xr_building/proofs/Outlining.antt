@@ -5,9 +5,9 @@ use Rattle.xr_types.specs.declared.fault.Fault.{Fault}
 use Rattle.xr_types.specs.declared.fault.Fault.TheVariants.{BadArgument, SizeConflict}
 use Rattle.xr_types.specs.declared.fault.CallFault.{CallFault}
 use Rattle.xr_types.specs.declared.fault.CallFault.TheVariants.{Refused, Declined, NoMemory}
-use Rattle.xr_defs.specs.declared.node.Node.{Node}
+use Rattle.xr_arrays.specs.declared.node.Node.{Node}
 use Rattle.xr_defs.specs.Meanings.{Value}
-use Rattle.xr_defs.specs.Results.{unless, all_of, Answers}
+use Rattle.xr_types.specs.Results.{unless, all_of, Answers}
 use Rattle.xr_defs.specs.Values as of
 use Rattle.xr_defs.specs.Building.{Frame, bound, check_place, dims_given, entries_given, given_value, is_nested, is_regular, option, parameters}
 use Rattle.xr_values.specs.declared.data_array.DataArray.{DataArray}

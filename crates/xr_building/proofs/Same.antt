@@ -8,7 +8,7 @@ use Rattle.std.specs.Prelude.{◌==◌}
 use Rattle.std.specs.Str.{bytes_eq}
 use Rattle.xr_types.specs.declared.axis.Label.{Label}
 use Rattle.xr_types.specs.declared.axis.Label.TheVariants.{Int, Time, Text}
-use Rattle.xr_defs.specs.Labels.{same}
+use Rattle.xr_arrays.specs.Labels.{same}
 use Rattle.xr_defs.specs.Building.{same_labels}
 
 module _ {X : Type 0} (f : X → Label) where

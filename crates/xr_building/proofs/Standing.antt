@@ -5,17 +5,17 @@ use Rattle.std.specs.List.{AllByRecursion, list_all}
 use Rattle.std.specs.Prelude.{nat_le, MatchOption, ⊤}
 use Rattle.xr_types.specs.declared.attr.Attr.{Attr}
 use Rattle.xr_types.specs.declared.axis.Axis.{Axis}
-use Rattle.xr_defs.specs.declared.node.Node.{Node}
-use Rattle.xr_defs.specs.declared.node.Node.TheVariants.{Source}
+use Rattle.xr_arrays.specs.declared.node.Node.{Node}
+use Rattle.xr_arrays.specs.declared.node.Node.TheVariants.{Source}
 use Rattle.xr_defs.specs.declared.value.Coord.{Coord}
-use Rattle.xr_defs.specs.Classic.{is_name}
-use Rattle.xr_defs.specs.Points.{size}
-use Rattle.xr_defs.specs.Arrays.{Array, IsCell}
+use Rattle.xr_files.specs.Classic.{is_name}
+use Rattle.xr_types.specs.Points.{size}
+use Rattle.xr_arrays.specs.Arrays.{Array, IsCell}
 use Rattle.xr_defs.specs.Limits.{most_cells, most_dimensions}
-use Rattle.xr_defs.specs.Nodes.{IsNode, Pushes, values, node_value}
+use Rattle.xr_arrays.specs.Nodes.{IsNode, Pushes, values, node_value}
 use Rattle.xr_defs.specs.Selecting.{is_within, are_within, check_array}
-use Rattle.xr_defs.specs.Results.{unless}
-use Rattle.xr_defs.specs.Values.{shape_over}
+use Rattle.xr_types.specs.Results.{unless}
+use Rattle.xr_types.specs.Names.{shape_over}
 use Rattle.xr_values.specs.declared.data_array.DataArray.{DataArray}
 use Rattle.xr_values.specs.WellFormed.{AreSeen, IsDimension, IsDataArray}
 use Rattle.xr_values.specs.Stands.{array_in, with_cells, IsArrayIn}

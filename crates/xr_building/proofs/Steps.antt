@@ -9,13 +9,13 @@ use Rattle.xr_types.specs.declared.fault.Fault.{Fault}
 use Rattle.xr_types.specs.declared.fault.Fault.TheVariants.{WrongKind, BadArgument, SizeConflict, DoesNotFit, TooLarge}
 use Rattle.xr_types.specs.declared.fault.CallFault.{CallFault}
 use Rattle.xr_types.specs.declared.fault.CallFault.TheVariants.{Refused, Declined, NoMemory}
-use Rattle.xr_defs.specs.declared.node.Node.{Node}
+use Rattle.xr_arrays.specs.declared.node.Node.{Node}
 use Rattle.xr_defs.specs.Limits.{most_dimensions}
 use Rattle.xr_defs.specs.Meanings.{Value}
-use Rattle.xr_defs.specs.Results.{◌>>=◌, unless, all_of}
+use Rattle.xr_types.specs.Results.{◌>>=◌, unless, all_of}
 use Rattle.xr_defs.specs.Selecting.{check_array}
 use Rattle.xr_defs.specs.Values as of
-use Rattle.xr_defs.specs.Values.{shape_over}
+use Rattle.xr_types.specs.Names.{shape_over}
 use Rattle.xr_defs.specs.Building.{Frame, argument, bare_axes, check_elements, check_numbers, check_place, dims_given, element_cell, elements, entries_given, fits_kind, is_missing, is_nested, is_regular, is_truth_cell, is_whole_cell, kind_for, kind_given, name_given, nested_shape, option, given_value, plain_array, required, suits}
 use Rattle.xr_values.specs.declared.data_array.DataArray.{DataArray}
 use Rattle.xr_values.specs.declared.value.Value.{Value as Held}

@@ -12,9 +12,9 @@ use Rattle.xr_types.specs.declared.fault.Fault.{Fault}
 use Rattle.xr_types.specs.declared.fault.Fault.TheVariants.{BadArgument}
 use Rattle.xr_types.specs.declared.fault.CallFault.{CallFault}
 use Rattle.xr_types.specs.declared.fault.CallFault.TheVariants.{Refused, Declined, NoMemory}
-use Rattle.xr_defs.specs.declared.node.Node.{Node}
+use Rattle.xr_arrays.specs.declared.node.Node.{Node}
 use Rattle.xr_defs.specs.Meanings.{Value, Entries, NoEntry, Entry, Absent, Missing, Truth, Number, Text, Sequence, Table, Slice, Array, Set}
-use Rattle.xr_defs.specs.Results.{◌>>=◌, unless, all_of, Answers}
+use Rattle.xr_types.specs.Results.{◌>>=◌, unless, all_of, Answers}
 use Rattle.xr_defs.specs.Building.{argument, bound, check_entry, entries_given, entries_in, given_value, is_named_entry, keyword, parameters}
 use Rattle.xr_values.specs.declared.value.Value.{Value as Held}
 use Rattle.xr_values.specs.declared.value.Value.TheVariants as variants

@@ -5,9 +5,9 @@ use Rattle.std.proofs.lemmas.Bool.{and_parts}
 use Rattle.std.proofs.lemmas.List.{append-nil}
 use Rattle.std.specs.List.{AllByRecursion, list_all}
 use Rattle.xr_types.specs.declared.axis.Axis.{Axis}
-use Rattle.xr_defs.specs.Classic.{is_name}
-use Rattle.xr_defs.specs.Canonical.{are_distinct}
-use Rattle.xr_defs.specs.Values.{axis_names, shape_over}
+use Rattle.xr_files.specs.Classic.{is_name}
+use Rattle.xr_types.specs.Names.{are_distinct}
+use Rattle.xr_types.specs.Names.{axis_names, shape_over}
 use Rattle.xr_defs.specs.Building.{bare_axes}
 use Rattle.xr_building.specs.Frames.{IsOpenAxis, IsFrame}
 

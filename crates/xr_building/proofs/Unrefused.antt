@@ -6,10 +6,10 @@ use Rattle.xr_types.specs.declared.axis.Axis.{Axis}
 use Rattle.xr_types.specs.declared.fault.Fault.{Fault}
 use Rattle.xr_types.specs.declared.fault.Fault.TheVariants.{WrongKind, BadArgument, SizeConflict, DoesNotFit, TooLarge}
 use Rattle.xr_types.specs.declared.fault.CallFault.{CallFault}
-use Rattle.xr_defs.specs.declared.node.Node.{Node}
+use Rattle.xr_arrays.specs.declared.node.Node.{Node}
 use Rattle.xr_defs.specs.Limits.{most_dimensions}
 use Rattle.xr_defs.specs.Meanings.{Value}
-use Rattle.xr_defs.specs.Results.{◌>>=◌, unless, all_of}
+use Rattle.xr_types.specs.Results.{◌>>=◌, unless, all_of}
 use Rattle.xr_defs.specs.Selecting.{check_array}
 use Rattle.xr_defs.specs.Values.{DataArray}
 use Rattle.xr_defs.specs.Building.{Frame, argument, array_built, bare_axes, bound, check_elements, check_numbers, check_place, data_array, dims_given, element_cell, elements, entries_given, fits_kind, given_value, is_nested, is_regular, kind_for, kind_given, name_given, nested_shape, option, parameters, plain_array, required, suits, with_entries}

@@ -9,10 +9,10 @@ use Rattle.xr_types.specs.declared.axis.Labels.{Labels}
 use Rattle.xr_types.specs.declared.fault.Fault.{Fault}
 use Rattle.xr_types.specs.declared.fault.Fault.TheVariants.{BadArgument, DuplicateName}
 use Rattle.xr_types.specs.declared.fault.CallFault.{CallFault}
-use Rattle.xr_defs.specs.declared.node.Node.{Node}
+use Rattle.xr_arrays.specs.declared.node.Node.{Node}
 use Rattle.xr_defs.specs.declared.value.Coord.{Coord}
-use Rattle.xr_defs.specs.Results.{◌>>=◌, unless, all_of}
-use Rattle.xr_defs.specs.Classic.{among}
+use Rattle.xr_types.specs.Results.{◌>>=◌, unless, all_of}
+use Rattle.xr_types.specs.Names.{among}
 use Rattle.xr_defs.specs.Meanings.{Value}
 use Rattle.xr_defs.specs.Building.{Frame, check_coordinate, check_entry, check_labels, check_numbers, check_place, is_dimension}
 use Rattle.xr_values.specs.declared.value.Value.{Value as Held}

@@ -4,8 +4,8 @@ use Rattle.xr_types.specs.declared.axis.Axis.{Axis}
 use Rattle.xr_types.specs.declared.axis.Labels.{Labels}
 use Rattle.xr_types.specs.declared.fault.Fault.{Fault}
 use Rattle.xr_types.specs.declared.fault.Fault.TheVariants.{SizeConflict, NotAligned}
-use Rattle.xr_defs.specs.Labels.{labels_of}
-use Rattle.xr_defs.specs.Results.{◌>>=◌, unless}
+use Rattle.xr_arrays.specs.Labels.{labels_of}
+use Rattle.xr_types.specs.Results.{◌>>=◌, unless}
 use Rattle.xr_defs.specs.Building.{same_labels}
 
 abbrev pub are_aligned : Option Labels → Option Labels → Bool

@@ -5,9 +5,9 @@ use Rattle.std.specs.List.{AllByRecursion}
 use Rattle.xr_types.specs.declared.axis.Axis.{Axis}
 use Rattle.xr_types.specs.declared.axis.Labels.{Labels}
 use Rattle.xr_defs.specs.declared.value.Coord.{Coord}
-use Rattle.xr_defs.specs.Classic.{is_name}
-use Rattle.xr_defs.specs.Canonical.{are_distinct}
-use Rattle.xr_defs.specs.Values.{axis_names}
+use Rattle.xr_files.specs.Classic.{is_name}
+use Rattle.xr_types.specs.Names.{are_distinct}
+use Rattle.xr_types.specs.Names.{axis_names}
 use Rattle.xr_values.specs.WellFormed.{IsIndex, IsCoordinate, names_of}
 
 -- the axis of this name has these labels, or none

@@ -7,9 +7,9 @@ use Rattle.xr_types.specs.declared.fault.Fault.{Fault}
 use Rattle.xr_types.specs.declared.fault.Fault.TheVariants.{WrongKind, BadArgument, SizeConflict, DoesNotFit}
 use Rattle.xr_types.specs.declared.fault.CallFault.{CallFault}
 use Rattle.xr_types.specs.declared.kind.DType.{DType}
-use Rattle.xr_defs.specs.declared.node.Node.{Node}
+use Rattle.xr_arrays.specs.declared.node.Node.{Node}
 use Rattle.xr_defs.specs.Meanings.{Value}
-use Rattle.xr_defs.specs.Results.{◌>>=◌, unless, all_of}
+use Rattle.xr_types.specs.Results.{◌>>=◌, unless, all_of}
 use Rattle.xr_defs.specs.Values.{DataArray}
 use Rattle.xr_defs.specs.Building.{Frame, argument, bare_axes, check_entry, check_numbers, check_place, dims_given, elements, entries_given, fits_kind, given_value, is_named_entry, is_nested, is_regular, kind_given, name_given, nested_shape, option, required}
 use Rattle.xr_values.specs.declared.value.Value.{Value as Held}

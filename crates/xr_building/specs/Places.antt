@@ -3,7 +3,7 @@ use Rattle.std.specs.Prelude.{List, Result, Ok}
 use Rattle.xr_types.specs.declared.axis.Axis.{Axis}
 use Rattle.xr_types.specs.declared.fault.Fault.{Fault}
 use Rattle.xr_types.specs.declared.fault.Fault.TheVariants.{NoDimension}
-use Rattle.xr_defs.specs.Results.{◌>>=◌, unless}
+use Rattle.xr_types.specs.Results.{◌>>=◌, unless}
 use Rattle.xr_defs.specs.Meanings.{Values}
 use Rattle.xr_defs.specs.Building.{is_dimension, as_labels}
 

@@ -12,16 +12,16 @@ use Rattle.xr_types.specs.declared.fault.Fault.{Fault}
 use Rattle.xr_types.specs.declared.fault.Fault.TheVariants.{BadArgument, SizeConflict, DuplicateName}
 use Rattle.xr_types.specs.declared.fault.CallFault.{CallFault}
 use Rattle.xr_types.specs.declared.fault.CallFault.TheVariants.{Declined}
-use Rattle.xr_defs.specs.declared.node.Node.{Node}
+use Rattle.xr_arrays.specs.declared.node.Node.{Node}
 use Rattle.xr_defs.specs.declared.value.Content.TheVariants as contents
 use Rattle.xr_defs.specs.declared.value.Coord.{Coord}
-use Rattle.xr_defs.specs.Results.{◌>>=◌, unless, all_of}
-use Rattle.xr_defs.specs.Classic.{among}
+use Rattle.xr_types.specs.Results.{◌>>=◌, unless, all_of}
+use Rattle.xr_types.specs.Names.{among}
 use Rattle.xr_defs.specs.Encoding.{may_fill}
 use Rattle.xr_defs.specs.Arguments.{wrong}
 use Rattle.xr_defs.specs.Selecting.{axis_called}
-use Rattle.xr_defs.specs.Arrays.{Array as Cells}
-use Rattle.xr_defs.specs.Nodes.{value}
+use Rattle.xr_arrays.specs.Arrays.{Array as Cells}
+use Rattle.xr_arrays.specs.Nodes.{value}
 use Rattle.xr_defs.specs.Values.{array_of}
 use Rattle.xr_defs.specs.Meanings.{Value, Number, Text, Sequence, Array}
 use Rattle.xr_defs.specs.Building.{Frame, check_axis, check_entry, check_place, check_numbers, is_dimension, label_total, labels_given, numbers_in, with_coord}

@@ -1,8 +1,8 @@
 //! Whether an array's axis has the size and the labels of the one that it stands for.
 ghost use Rattle.std.specs.Prelude.{◌≡◌, ◌&&◌, ◌==◌, map};
 ghost use Rattle.xr_types.specs.declared.axis.Label.TheVariants as label;
-ghost use Rattle.xr_defs.specs.Labels.{labels_of};
-ghost use Rattle.xr_defs.specs.Results.{Answers};
+ghost use Rattle.xr_arrays.specs.Labels.{labels_of};
+ghost use Rattle.xr_types.specs.Results.{Answers};
 ghost use Rattle.xr_defs.specs.Building as of;
 ghost use Rattle.xr_building.specs.Aligned.{are_aligned, checked_axis};
 
@@ -116,7 +116,7 @@ fn are_aligned(given: &Option<Labels>, own: &Option<Labels>) -> bool
 ///
 /// # Errors
 /// `SizeConflict` for another size, then `NotAligned` for other labels.
-#[tactic(auto, unfolding(xr_defs::specs::Results::unless))]
+#[tactic(auto, unfolding(xr_types::specs::Results::unless))]
 pub fn check_aligned(given: &Axis, own: &Axis) -> Result<(), CallFault>
     ensures { Answers (λ u. u) result (checked_axis given.now own.now) }
 {

@@ -1,7 +1,7 @@
 //! `assign_coords(name=value)`: arrays with labels and coordinates of these names.
 ghost use Rattle.std.specs.Prelude.{◌≡◌, false, ℕ, List, IfOk};
 ghost use denote.Param.Send.{IsSync};
-ghost use Rattle.xr_defs.specs.declared.node.Node.{Node};
+ghost use Rattle.xr_arrays.specs.declared.node.Node.{Node};
 ghost use Rattle.xr_defs.specs.Building.{assigned_to_array};
 ghost use Rattle.xr_values.specs.Answers.{AnswersArray};
 ghost use Rattle.xr_values.specs.Meaning.{given, AreArgsIn};
@@ -22,7 +22,7 @@ use xr_types::{CallFault, DeepCopy, Fault};
 use xr_values::{Args, Cx, DataArray, Variable, copy_coords};
 
 // The entries of a call are checked and put in their places; last come numbers past 64 bits.
-#[tactic(auto, unfolding(crate::specs::Walk::frame_put, xr_defs::specs::Results::unless))]
+#[tactic(auto, unfolding(crate::specs::Walk::frame_put, xr_types::specs::Results::unless))]
 fn put_all<R: Threads + Sync, C: Compute>(
     rt: &R,
     alloc: Global,

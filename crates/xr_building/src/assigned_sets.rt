@@ -2,10 +2,10 @@
 ghost use Rattle.std.specs.Prelude.{◌≡◌, ◌+◌, false, ℕ, List, length, nat_le, IfOk};
 ghost use denote.Param.Send.{IsSync};
 ghost use Rattle.xr_types.specs.declared.fault.Fault.TheVariants.{TooLarge};
-ghost use Rattle.xr_defs.specs.declared.node.Node.{Node};
+ghost use Rattle.xr_arrays.specs.declared.node.Node.{Node};
 ghost use Rattle.xr_defs.specs.Building.{assigned_to_set};
 ghost use Rattle.xr_defs.specs.Limits.{most_variables};
-ghost use Rattle.xr_defs.specs.Results.{unless, Answers};
+ghost use Rattle.xr_types.specs.Results.{unless, Answers};
 ghost use Rattle.xr_values.specs.Answers.{AnswersSet};
 ghost use Rattle.xr_values.specs.Meaning.{given, AreArgsIn};
 ghost use Rattle.xr_values.specs.Stands.{dataset_in, IsDatasetIn};
@@ -30,7 +30,7 @@ fn draft_of(alloc: Global, set: &Dataset) -> Result<Draft, AllocError>
 }
 
 // Refuses more coordinates and variables together than a dataset may have.
-#[tactic(auto, unfolding(xr_defs::specs::Results::unless))]
+#[tactic(auto, unfolding(xr_types::specs::Results::unless))]
 fn check_few(draft: &Draft, set: &Dataset) -> Result<(), CallFault>
     ensures { Answers (λ u. u) result (unless (nat_le (length draft.now.coords + length set.now.vars) most_variables) TooLarge) }
 {

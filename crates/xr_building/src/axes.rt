@@ -1,7 +1,8 @@
 //! Axes by their names.
 ghost use Rattle.std.specs.Prelude.{◌≡◌, ◌<◌, length, is_some, map, IfSome};
-ghost use Rattle.xr_defs.specs.Classic.{among};
-ghost use Rattle.xr_defs.specs.Values.{axis_names, axis_position};
+ghost use Rattle.xr_types.specs.Names.{among};
+ghost use Rattle.xr_types.specs.Names.{axis_names};
+ghost use Rattle.xr_defs.specs.Values.{axis_position};
 ghost use Rattle.xr_defs.specs.Building.{is_dimension};
 
 use xr_types::{Axis, TextBytes};

@@ -3,16 +3,16 @@ ghost use Rattle.std.specs.Prelude.{◌≡◌, ◌≢◌, List, map, length, All
 ghost use Rattle.std.specs.List.{list_all};
 ghost use Rattle.xr_types.specs.Kinds.{wrap_to};
 ghost use Rattle.xr_types.specs.declared.kind.DType.TheVariants as kinds;
-ghost use Rattle.xr_defs.specs.Arrays.{IsCell, InKind, kind_of, wide};
+ghost use Rattle.xr_arrays.specs.Arrays.{IsCell, InKind, kind_of, wide};
 ghost use Rattle.xr_defs.specs.Building.{fits_kind};
 ghost use Rattle.xr_defs.specs.Encoding.{may_fill};
-ghost use Rattle.xr_defs.specs.Points.{size};
+ghost use Rattle.xr_types.specs.Points.{size};
 ghost use Rattle.xr_values.specs.WellFormed.{AreSeen};
 ghost use Rattle.xr_building.specs.Gathered.{number_or_zero, mask_byte, kind_of_all, suits_all};
 
 use crate::elements::Elements;
 use std::alloc::{AllocError, Global};
-use xr_defs::{ArrayValue, Cells};
+use xr_arrays::{ArrayValue, Cells};
 use xr_types::{DType, Elem, Items};
 
 /// Whether a number is one of the kind. Truth values are taken as bytes.

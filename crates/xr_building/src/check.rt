@@ -1,10 +1,10 @@
 //! What an entry has to be: labels for a dimension, or a coordinate that is none.
 ghost use Rattle.std.specs.Prelude.{◌≡◌, ◌&&◌, ◌==◌, List, map, length};
 ghost use Rattle.std.specs.List.{list_all};
-ghost use Rattle.xr_defs.specs.declared.node.Node.{Node};
-ghost use Rattle.xr_defs.specs.Classic.{among};
-ghost use Rattle.xr_defs.specs.Results.{Answers, all_of};
-ghost use Rattle.xr_defs.specs.Values.{axis_names};
+ghost use Rattle.xr_arrays.specs.declared.node.Node.{Node};
+ghost use Rattle.xr_types.specs.Names.{among};
+ghost use Rattle.xr_types.specs.Results.{Answers, all_of};
+ghost use Rattle.xr_types.specs.Names.{axis_names};
 ghost use Rattle.xr_defs.specs.Building as of;
 ghost use Rattle.xr_defs.specs.Meanings.{Array};
 ghost use Rattle.xr_values.specs.Meaning.{meaning, all_values, with_key};
@@ -103,7 +103,7 @@ fn check_list(list: &[Value]) -> Result<(), CallFault>
     }
 }
 
-#[tactic(auto, unfolding(xr_defs::specs::Building::check_labels, xr_defs::specs::Results::unless))]
+#[tactic(auto, unfolding(xr_defs::specs::Building::check_labels, xr_types::specs::Results::unless))]
 fn check_index(name: &TextBytes, array: &DataArray) -> Result<(), CallFault>
     ensures { (nodes : List Node) → Answers (λ u. u) result (of.check_labels name.now (Array (array_in nodes array.now))) }
 {
@@ -131,7 +131,7 @@ fn check_labels(name: &TextBytes, value: &Value) -> Result<(), CallFault>
     }
 }
 
-#[tactic(auto, using(xr_arguments::proofs::Variants::is_number, xr_arguments::proofs::Variants::is_text, xr_arguments::proofs::Variants::is_list, xr_arguments::proofs::Variants::is_array, xr_values::proofs::Meaning::meaning_out), unfolding(xr_defs::specs::Building::check_coordinate, xr_defs::specs::Results::unless))]
+#[tactic(auto, using(xr_arguments::proofs::Variants::is_number, xr_arguments::proofs::Variants::is_text, xr_arguments::proofs::Variants::is_list, xr_arguments::proofs::Variants::is_array, xr_values::proofs::Meaning::meaning_out), unfolding(xr_defs::specs::Building::check_coordinate, xr_types::specs::Results::unless))]
 fn check_coordinate(value: &Value) -> Result<(), CallFault>
     ensures { (nodes : List Node) → Answers (λ u. u) result (of.check_coordinate (meaning nodes value.now)) }
 {
@@ -174,7 +174,7 @@ pub fn check_entries(axes: &[Axis], entries: &[(TextBytes, Value)]) -> Result<()
 }
 
 // Refuses the first of an array's axes that isn't among these.
-#[tactic(auto, unfolding(xr_defs::specs::Results::unless))]
+#[tactic(auto, unfolding(xr_types::specs::Results::unless))]
 fn check_axes_there(alloc: Global, axes: &[Axis], own: &[Axis]) -> Result<(), CallFault>
     ensures { Answers (λ u. u) result (all_of (is_there axes.now) own.now) }
 {
@@ -186,7 +186,7 @@ fn check_axes_there(alloc: Global, axes: &[Axis], own: &[Axis]) -> Result<(), Ca
     Ok(())
 }
 
-#[tactic(auto, using(xr_arguments::proofs::Variants::is_list, xr_arguments::proofs::Variants::is_array, xr_values::proofs::Meaning::meaning_out), unfolding(xr_defs::specs::Building::check_place, xr_defs::specs::Results::unless))]
+#[tactic(auto, using(xr_arguments::proofs::Variants::is_list, xr_arguments::proofs::Variants::is_array, xr_values::proofs::Meaning::meaning_out), unfolding(xr_defs::specs::Building::check_place, xr_types::specs::Results::unless))]
 fn check_place(alloc: Global, axes: &[Axis], entry: &(TextBytes, Value)) -> Result<(), CallFault>
     ensures { (nodes : List Node) → Answers (λ u. u) result (of.check_place axes.now (with_key nodes entry.now)) }
 {

@@ -1,19 +1,19 @@
 //! The cells of arrays that become coordinates.
 ghost use Rattle.std.specs.Prelude.{◌≡◌, ◌<◌, ℕ, List, length};
 ghost use denote.Param.Send.{IsSync};
-ghost use Rattle.xr_defs.specs.declared.node.Node.{Node};
+ghost use Rattle.xr_arrays.specs.declared.node.Node.{Node};
 ghost use Rattle.xr_building.specs.Entries.{Follows};
 ghost use Rattle.xr_building.specs.Walk.{node_cells};
 
 use plan_core::Compute;
 use std::alloc::Global;
 use std::thread::Threads;
-use xr_defs::ArrayValue;
+use xr_arrays::ArrayValue;
 use xr_types::{CallFault, ComputeFault, NodeId};
 use xr_values::Cx;
 
 /// The cells of a node, or the node itself where it is declined.
-#[tactic(auto, unfolding(crate::specs::Walk::node_cells, xr_defs::specs::Results::unless))]
+#[tactic(auto, unfolding(crate::specs::Walk::node_cells, xr_types::specs::Results::unless))]
 pub fn node_cells<R: Threads + Sync, C: Compute>(
     rt: &R,
     alloc: Global,

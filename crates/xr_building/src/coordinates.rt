@@ -1,10 +1,10 @@
 //! What entries give: labels, and coordinates that are none.
 ghost use Rattle.std.specs.Prelude.{◌≡◌, ◌<◌, true, false, ℕ, List, Ok, Some, length, map, get_or, IfOk};
 ghost use denote.Param.Send.{IsSync};
-ghost use Rattle.xr_defs.specs.declared.node.Node.{Node};
+ghost use Rattle.xr_arrays.specs.declared.node.Node.{Node};
 ghost use Rattle.xr_defs.specs.Meanings.{Array, Number};
-ghost use Rattle.xr_defs.specs.Nodes.{value as value_of};
-ghost use Rattle.xr_defs.specs.Results.{all_of};
+ghost use Rattle.xr_arrays.specs.Nodes.{value as value_of};
+ghost use Rattle.xr_types.specs.Results.{all_of};
 ghost use Rattle.xr_defs.specs.Selecting.{axis_called};
 ghost use Rattle.xr_defs.specs.Values.{no_axis};
 ghost use Rattle.xr_defs.specs.Building as of;
@@ -23,7 +23,8 @@ use plan_core::Compute;
 use std::alloc::{AllocError, Global};
 use std::thread::Threads;
 use stored_cells::as_typed;
-use xr_defs::{ArrayValue, Content, Coord};
+use xr_arrays::ArrayValue;
+use xr_defs::{Content, Coord};
 use xr_types::{Axis, CallFault, DType, DeepCopy, Items, Labels, TextBytes};
 use xr_values::{Cx, DataArray, Value};
 

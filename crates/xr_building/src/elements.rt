@@ -1,6 +1,6 @@
 //! The elements of nested lists.
 ghost use Rattle.std.specs.Prelude.{◌≡◌, ◌&&◌, ◌||◌, ◌∷◌, [], ◌++◌, List, OnOk, IfOk};
-ghost use Rattle.xr_defs.specs.declared.node.Node.{Node};
+ghost use Rattle.xr_arrays.specs.declared.node.Node.{Node};
 ghost use Rattle.xr_defs.specs.Building.{elements, is_whole_cell, is_truth_cell, is_missing, element_cell};
 ghost use Rattle.xr_values.specs.Meaning.{meaning, all_values};
 ghost use Rattle.xr_building.specs.Gathered.{with_elements, gathered};

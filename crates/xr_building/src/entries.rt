@@ -1,8 +1,8 @@
 //! The entries of the argument `coords`.
 ghost use Rattle.std.specs.Prelude.{◌≡◌, List, Some, All, map, option_map, IfOk, MatchOption, ⊤};
 ghost use Rattle.std.specs.List.{list_all};
-ghost use Rattle.xr_defs.specs.declared.node.Node.{Node};
-ghost use Rattle.xr_defs.specs.Results.{Answers};
+ghost use Rattle.xr_arrays.specs.declared.node.Node.{Node};
+ghost use Rattle.xr_types.specs.Results.{Answers};
 ghost use Rattle.xr_defs.specs.Building as of;
 ghost use Rattle.xr_values.specs.Meaning.{meaning, with_key, IsEntryIn, IsValueIn};
 ghost use Rattle.xr_building.specs.Outlined.{table_entries};
@@ -47,7 +47,7 @@ fn are_named(entries: &[(TextBytes, Value)]) -> bool
 }
 
 // Refuses what no entry may be, and then entries without a name.
-#[tactic(auto, unfolding(crate::specs::Outlined::table_entries, xr_defs::specs::Results::unless))]
+#[tactic(auto, unfolding(crate::specs::Outlined::table_entries, xr_types::specs::Results::unless))]
 fn check_table(axes: &[Axis], entries: &[(TextBytes, Value)]) -> Result<(), CallFault>
     ensures answers { (nodes : List Node) → Answers (λ u. map (with_key nodes) entries.now) result (table_entries axes.now (map (with_key nodes) entries.now)) }
 {

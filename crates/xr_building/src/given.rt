@@ -2,10 +2,11 @@
 ghost use Rattle.std.specs.Prelude.{◌≡◌, ◌≢◌, ◌&&◌, ◌==◌, List, true, not, option_map, length, All, IfOk, MatchOption, Some, ⊤};
 ghost use Rattle.std.specs.List.{list_all};
 ghost use Rattle.xr_types.specs.declared.kind.DType.TheVariants as kinds;
-ghost use Rattle.xr_defs.specs.declared.node.Node.{Node};
-ghost use Rattle.xr_defs.specs.Results.{Answers};
-ghost use Rattle.xr_defs.specs.Classic.{among, is_name};
-ghost use Rattle.xr_defs.specs.Canonical.{are_distinct};
+ghost use Rattle.xr_arrays.specs.declared.node.Node.{Node};
+ghost use Rattle.xr_types.specs.Results.{Answers};
+ghost use Rattle.xr_types.specs.Names.{among};
+ghost use Rattle.xr_files.specs.Classic.{is_name};
+ghost use Rattle.xr_types.specs.Names.{are_distinct};
 ghost use Rattle.xr_defs.specs.Building as of;
 ghost use Rattle.xr_defs.specs.Parts as parts;
 ghost use Rattle.xr_values.specs.Meaning.{meaning};
@@ -63,7 +64,7 @@ fn are_distinct(names: &[TextBytes]) -> bool
 ///
 /// # Errors
 /// `WrongKind` unless it is a list of texts; `BadArgument` where one is empty or stands twice.
-#[tactic(auto, using(xr_arguments::proofs::Variants::is_list, xr_values::proofs::Meaning::meaning_out), unfolding(xr_defs::specs::Building::dims_given, xr_defs::specs::Results::unless))]
+#[tactic(auto, using(xr_arguments::proofs::Variants::is_list, xr_values::proofs::Meaning::meaning_out), unfolding(xr_defs::specs::Building::dims_given, xr_types::specs::Results::unless))]
 pub fn dims_given(alloc: Global, value: &Value) -> Result<Items<Name>, CallFault>
     ensures answers { (nodes : List Node) → Answers (λ ds. ds) result (of.dims_given (Some (meaning nodes value.now))) }
     ensures distinct { IfOk result (λ ds. are_distinct ds ≡ true) }
@@ -82,7 +83,7 @@ pub fn dims_given(alloc: Global, value: &Value) -> Result<Items<Name>, CallFault
     }
 }
 
-#[tactic(auto, unfolding(xr_defs::specs::Parts::new_name, xr_defs::specs::Results::unless))]
+#[tactic(auto, unfolding(xr_defs::specs::Parts::new_name, xr_types::specs::Results::unless))]
 fn new_name(alloc: Global, value: &Value) -> Result<Name, CallFault>
     ensures answers { (nodes : List Node) → Answers (λ t. t) result (parts.new_name (meaning nodes value.now)) }
     ensures name { IfOk result (λ t. is_name t ≡ true) }

@@ -1,9 +1,9 @@
 //! What an array is besides its cells and its axes.
 ghost use Rattle.std.specs.Prelude.{◌≡◌, ◌≢◌, List, true, option_map, IfOk, MatchOption, ⊤};
 ghost use Rattle.xr_types.specs.declared.kind.DType.TheVariants as kinds;
-ghost use Rattle.xr_defs.specs.declared.node.Node.{Node};
-ghost use Rattle.xr_defs.specs.Classic.{is_name};
-ghost use Rattle.xr_defs.specs.Results.{Answers};
+ghost use Rattle.xr_arrays.specs.declared.node.Node.{Node};
+ghost use Rattle.xr_files.specs.Classic.{is_name};
+ghost use Rattle.xr_types.specs.Results.{Answers};
 ghost use Rattle.xr_values.specs.Meaning.{meaning};
 ghost use Rattle.xr_building.specs.Gathered.{suits_all};
 ghost use Rattle.xr_building.specs.Outlined.{header_of};
@@ -26,7 +26,7 @@ pub struct Header {
 ///
 /// # Errors
 /// Those of the name and of the kind; then `WrongKind` for elements of another kind.
-#[tactic(auto, unfolding(crate::specs::Outlined::header_of, xr_defs::specs::Results::unless))]
+#[tactic(auto, unfolding(crate::specs::Outlined::header_of, xr_types::specs::Results::unless))]
 pub fn header_of(
     alloc: Global,
     elements: &Elements,

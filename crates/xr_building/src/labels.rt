@@ -1,15 +1,15 @@
 //! Labels that are given: lists of numbers or of texts, and the cells of arrays.
 ghost use Rattle.std.specs.Prelude.{◌≡◌, List, map, IfOk, MatchOption, Some};
 ghost use Rattle.xr_types.specs.declared.axis.LabelList.TheVariants as lists;
-ghost use Rattle.xr_defs.specs.declared.node.Node.{Node};
-ghost use Rattle.xr_defs.specs.Arrays.{wide};
+ghost use Rattle.xr_arrays.specs.declared.node.Node.{Node};
+ghost use Rattle.xr_arrays.specs.Arrays.{wide};
 ghost use Rattle.xr_defs.specs.Meanings.{Sequence};
 ghost use Rattle.xr_values.specs.Meaning.{meaning, all_values};
 ghost use Rattle.xr_building.specs.Listed.{in_64_bits, number_in, text_in, each_of, listed_in};
 ghost use Rattle.xr_building.specs.Walk.{fitting, labels_in};
 
 use std::alloc::{AllocError, Global};
-use xr_defs::Cells;
+use xr_arrays::Cells;
 use xr_types::{DType, DeepCopy, Elem, Items, LabelList, Labels, TextBytes};
 use xr_values::Value;
 

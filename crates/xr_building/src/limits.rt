@@ -1,9 +1,9 @@
 //! The limits of arrays.
 ghost use Rattle.std.specs.Prelude.{◌≡◌, ◌&&◌, ◌-◌, ◌^◌, min, nat_le};
 ghost use Rattle.std.specs.List.{list_all};
-ghost use Rattle.xr_defs.specs.Points.{size};
+ghost use Rattle.xr_types.specs.Points.{size};
 ghost use Rattle.xr_defs.specs.Limits.{most_cells};
-ghost use Rattle.xr_defs.specs.Values.{shape_over};
+ghost use Rattle.xr_types.specs.Names.{shape_over};
 ghost use Rattle.xr_defs.specs.Selecting as of;
 
 use xr_defs::Coord;

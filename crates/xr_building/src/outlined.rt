@@ -3,11 +3,11 @@ ghost use Rattle.std.specs.Prelude.{◌≡◌, ◌≢◌, ◌||◌, true, false,
 ghost use denote.Param.Send.{IsSync};
 ghost use Rattle.std.specs.List.{list_all};
 ghost use Rattle.xr_types.specs.declared.kind.DType.TheVariants as kinds;
-ghost use Rattle.xr_defs.specs.declared.node.Node.{Node};
-ghost use Rattle.xr_defs.specs.Classic.{is_name};
-ghost use Rattle.xr_defs.specs.Canonical.{are_distinct};
-ghost use Rattle.xr_defs.specs.Results.{Answers, all_of};
-ghost use Rattle.xr_defs.specs.Values.{shape_over};
+ghost use Rattle.xr_arrays.specs.declared.node.Node.{Node};
+ghost use Rattle.xr_files.specs.Classic.{is_name};
+ghost use Rattle.xr_types.specs.Names.{are_distinct};
+ghost use Rattle.xr_types.specs.Results.{Answers, all_of};
+ghost use Rattle.xr_types.specs.Names.{shape_over};
 ghost use Rattle.xr_defs.specs.Building as of;
 ghost use Rattle.xr_values.specs.Meaning.{meaning, with_key, IsEntryIn, IsValueIn};
 ghost use Rattle.xr_building.specs.Entries.{Follows};
@@ -44,7 +44,7 @@ pub struct Options<'a> {
 }
 
 // Refuses elements that are none of the kind, and then the numbers of entries that 64 bits don't hold.
-#[tactic(auto, unfolding(crate::specs::Outlined::check_fit, xr_defs::specs::Results::unless))]
+#[tactic(auto, unfolding(crate::specs::Outlined::check_fit, xr_types::specs::Results::unless))]
 fn check_fit(
     kind: DType,
     cells: &[Option<i128>],
@@ -116,7 +116,7 @@ fn with_entries<R: Threads + Sync, C: Compute>(
 }
 
 // The same over axes of these sizes.
-#[tactic(auto, unfolding(crate::specs::Outlined::outline_over, xr_defs::specs::Results::unless))]
+#[tactic(auto, unfolding(crate::specs::Outlined::outline_over, xr_types::specs::Results::unless))]
 fn over_axes<R: Threads + Sync, C: Compute>(
     rt: &R,
     alloc: Global,

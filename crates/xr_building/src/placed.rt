@@ -1,7 +1,7 @@
 //! Arrays whose cells are written out.
 ghost use Rattle.std.specs.Prelude.{◌≡◌, IfOk};
 ghost use Rattle.xr_defs.specs.Room.{AddsForAny};
-ghost use Rattle.xr_defs.specs.Values.{shape_over};
+ghost use Rattle.xr_types.specs.Names.{shape_over};
 ghost use Rattle.plan_core.specs.Plans.{Grows};
 ghost use Rattle.xr_values.specs.Answers.{AnswersArray};
 ghost use Rattle.xr_values.specs.Stands.{array_in};
@@ -11,7 +11,8 @@ use crate::cells::array_value;
 use crate::limits::is_frame_within;
 use plan_core::Plan;
 use std::alloc::{AllocError, Global};
-use xr_defs::{Coord, Node};
+use xr_arrays::Node;
+use xr_defs::Coord;
 use xr_types::{Axis, CallFault, DType, Fault, Items, MOST_DIMENSIONS, Name};
 use xr_values::DataArray;
 
@@ -40,7 +41,7 @@ fn shape_of(alloc: Global, axes: &[Axis]) -> Result<Items<u64>, AllocError>
 ///
 /// # Errors
 /// `TooLarge` for more dimensions, positions or cells than an array may have.
-#[tactic(auto, unfolding(xr_defs::specs::Selecting::check_array, xr_defs::specs::Results::unless))]
+#[tactic(auto, unfolding(xr_defs::specs::Selecting::check_array, xr_types::specs::Results::unless))]
 pub fn place(
     alloc: Global,
     plan: &mut Plan,

@@ -1,10 +1,10 @@
 //! Whether entries fit their places: the sizes of labels and of arrays, the labels of arrays, and names.
 ghost use Rattle.std.specs.Prelude.{◌≡◌, ℕ, true, List, Ok, map};
 ghost use Rattle.std.specs.List.{list_all};
-ghost use Rattle.xr_defs.specs.declared.node.Node.{Node};
-ghost use Rattle.xr_defs.specs.Classic.{among};
+ghost use Rattle.xr_arrays.specs.declared.node.Node.{Node};
+ghost use Rattle.xr_types.specs.Names.{among};
 ghost use Rattle.xr_defs.specs.Meanings.{Array};
-ghost use Rattle.xr_defs.specs.Results.{Answers, all_of};
+ghost use Rattle.xr_types.specs.Results.{Answers, all_of};
 ghost use Rattle.xr_defs.specs.Selecting.{axis_called};
 ghost use Rattle.xr_defs.specs.Building as of;
 ghost use Rattle.xr_values.specs.Meaning.{meaning, with_key, IsValueIn};
@@ -55,7 +55,7 @@ fn total_in(value: &Value) -> Option<u64>
 ///
 /// # Errors
 /// `SizeConflict`.
-#[tactic(auto, unfolding(crate::specs::Walk::sized, xr_defs::specs::Results::unless))]
+#[tactic(auto, unfolding(crate::specs::Walk::sized, xr_types::specs::Results::unless))]
 pub fn check_sized(axes: &[Axis], name: &TextBytes, value: &Value) -> Result<(), CallFault>
     ensures { (nodes : List Node) → IsValueIn nodes value.now → of.check_labels name.now (meaning nodes value.now) ≡ Ok tt → Answers (λ u. u) result (sized axes.now name.now (meaning nodes value.now)) }
 {
@@ -126,7 +126,7 @@ fn is_taken(variables: &[Variable], name: &TextBytes) -> bool
 ///
 /// # Errors
 /// `DuplicateName`.
-#[tactic(auto, unfolding(crate::specs::Walk::check_taken, xr_defs::specs::Results::unless))]
+#[tactic(auto, unfolding(crate::specs::Walk::check_taken, xr_types::specs::Results::unless))]
 pub fn check_taken(variables: &[Variable], name: &TextBytes) -> Result<(), CallFault>
     ensures { Answers (λ u. u) result (check_taken (names_of variables.now) name.now) }
 {
@@ -169,7 +169,7 @@ fn value_fits(value: &Value) -> bool
     }
 }
 
-#[tactic(auto, using(crate::proofs::Fits::numbers_checked), unfolding(xr_defs::specs::Results::unless))]
+#[tactic(auto, using(crate::proofs::Fits::numbers_checked), unfolding(xr_types::specs::Results::unless))]
 fn check_number(entry: &(TextBytes, Value)) -> Result<(), CallFault>
     ensures { (nodes : List Node) → Answers (λ u. u) result (of.check_numbers (with_key nodes entry.now)) }
 {

@@ -1,8 +1,8 @@
 //! Entries that are put in their places, one after the other.
 ghost use Rattle.std.specs.Prelude.{◌≡◌, true, false, ℕ, List, Ok, map, All, IfOk};
 ghost use denote.Param.Send.{IsSync};
-ghost use Rattle.xr_defs.specs.declared.node.Node.{Node};
-ghost use Rattle.xr_defs.specs.Results.{all_of};
+ghost use Rattle.xr_arrays.specs.declared.node.Node.{Node};
+ghost use Rattle.xr_types.specs.Results.{all_of};
 ghost use Rattle.xr_defs.specs.Building as of;
 ghost use Rattle.xr_values.specs.Meaning.{meaning, with_key, IsValueIn, IsEntryIn};
 ghost use Rattle.xr_values.specs.Variables.{names_of};

@@ -2,10 +2,10 @@
 ghost use Rattle.std.specs.Prelude.{◌≡◌, ◌||◌, ℕ, List, map, option_map, length, true, false, IfOk, MatchOption, ⊤};
 ghost use denote.Param.Send.{IsSync};
 ghost use Rattle.std.specs.List.{list_all};
-ghost use Rattle.xr_defs.specs.declared.node.Node.{Node};
-ghost use Rattle.xr_defs.specs.Results.{Answers};
-ghost use Rattle.xr_defs.specs.Classic.{is_name};
-ghost use Rattle.xr_defs.specs.Canonical.{are_distinct};
+ghost use Rattle.xr_arrays.specs.declared.node.Node.{Node};
+ghost use Rattle.xr_types.specs.Results.{Answers};
+ghost use Rattle.xr_files.specs.Classic.{is_name};
+ghost use Rattle.xr_types.specs.Names.{are_distinct};
 ghost use Rattle.xr_defs.specs.Room.{AddsForAny};
 ghost use Rattle.xr_defs.specs.Building as of;
 ghost use Rattle.xr_defs.specs.Building.{data_array};
@@ -39,7 +39,7 @@ fn required_at<'a>(values: &[Option<&'a Value>], place: usize) -> Result<&'a Val
 }
 
 // The elements of a nested list, which are whole numbers, or truth values, with missing cells among them.
-#[tactic(auto, unfolding(crate::specs::Outlined::alike, xr_defs::specs::Results::unless))]
+#[tactic(auto, unfolding(crate::specs::Outlined::alike, xr_types::specs::Results::unless))]
 fn alike(alloc: Global, content: &Value) -> Result<Elements, CallFault>
     ensures answers { (nodes : List Node) → Answers (λ e. e) result (alike (meaning nodes content.now)) }
     ensures are { (nodes : List Node) → IfOk result (λ e. e ≡ elements_of (of.elements (meaning nodes content.now))) }
@@ -81,7 +81,7 @@ fn placed<R: Threads + Sync, C: Compute>(
 }
 
 // The array that the values of the parameters say.
-#[tactic(auto, unfolding(crate::specs::Outlined::values_placed, xr_defs::specs::Results::unless))]
+#[tactic(auto, unfolding(crate::specs::Outlined::values_placed, xr_types::specs::Results::unless))]
 fn from_values<R: Threads + Sync, C: Compute>(
     rt: &R,
     alloc: Global,

@@ -2,8 +2,8 @@
 use Rattle.std.proofs.Common.{◌+◌, ◌*◌, ◌<◌, ℕ, Bool, true, false, cond, List, [], ◌∷◌, take, drop}
 use Rattle.std.specs.List.{flat_map, range_with_len}
 use Rattle.std.proofs.lemmas.List.Elements.{All-nil, All-append, All-take, All-drop}
-use Rattle.xr_defs.specs.declared.file.VarHead.{VarHead}
-use Rattle.xr_defs.specs.Files.{is_record_var, head_size, recsize}
+use Rattle.xr_files.specs.declared.file.VarHead.{VarHead}
+use Rattle.xr_files.specs.Files.{is_record_var, head_size, recsize}
 use Rattle.cdf_reader.specs.declared.heads.FileHead.{FileHead}
 use Rattle.cdf_reader.specs.Heads.{header_seen, var_seen}
 use Rattle.xr_decode.specs.Stored.{AreBytes}

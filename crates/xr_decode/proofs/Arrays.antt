@@ -4,14 +4,14 @@ use Rattle.xr_types.specs.declared.attr.NcType.{NcType}
 use Rattle.xr_types.specs.declared.attr.NcType.TheVariants.{Byte, Char, Short, Int, Float, Double}
 use Rattle.xr_types.specs.declared.kind.DType.{DType}
 use Rattle.xr_types.specs.declared.kind.DType.TheVariants as kinds
-use Rattle.xr_defs.specs.declared.file.CdfVar.{CdfVar}
-use Rattle.xr_defs.specs.declared.file.CdfFile.{CdfFile}
-use Rattle.xr_defs.specs.Points.{size}
-use Rattle.xr_defs.specs.Arrays.{Array, hidden}
-use Rattle.xr_defs.specs.Classic.{width}
-use Rattle.xr_defs.specs.Stored.{unless_fill, stored_array, IsStored}
+use Rattle.xr_files.specs.declared.file.CdfVar.{CdfVar}
+use Rattle.xr_files.specs.declared.file.CdfFile.{CdfFile}
+use Rattle.xr_types.specs.Points.{size}
+use Rattle.xr_arrays.specs.Arrays.{Array, hidden}
+use Rattle.xr_types.specs.Widths.{width}
+use Rattle.xr_arrays.specs.Stored.{unless_fill, stored_array, IsStored}
 use Rattle.xr_defs.specs.Decoding.{var_shape, variable_as_stored, as_truths, is_byte, is_bool, truth}
-use Rattle.xr_defs.specs.Numbers.{is_whole, cells_kind, numbers_of}
+use Rattle.xr_arrays.specs.Numbers.{is_whole, cells_kind, numbers_of}
 use Rattle.stored_cells.specs.Masks.{Hides}
 use Rattle.stored_cells.proofs.Lengths.{numbers-length}
 use Rattle.xr_decode.specs.Readable.{IsReadableVar}

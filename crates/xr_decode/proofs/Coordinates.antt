@@ -5,13 +5,14 @@ use Rattle.std.proofs.lemmas.List.{get_or-map}
 use Rattle.std.proofs.lemmas.List.Elements.{All-head, All-tail}
 use Rattle.xr_types.specs.declared.attr.Attr.{Attr}
 use Rattle.xr_types.specs.declared.axis.Axis.{Axis}
-use Rattle.xr_defs.specs.declared.file.CdfVar.{CdfVar}
-use Rattle.xr_defs.specs.declared.file.CdfFile.{CdfFile}
+use Rattle.xr_files.specs.declared.file.CdfVar.{CdfVar}
+use Rattle.xr_files.specs.declared.file.CdfFile.{CdfFile}
 use Rattle.xr_defs.specs.declared.value.Content.TheVariants as contents
 use Rattle.xr_defs.specs.declared.value.Coord.{Coord}
-use Rattle.xr_defs.specs.Arrays.{Array}
-use Rattle.xr_defs.specs.Classic.{dim_at, no_dim}
-use Rattle.xr_defs.specs.Values.{chosen, no_axis, shape_over}
+use Rattle.xr_arrays.specs.Arrays.{Array}
+use Rattle.xr_files.specs.Classic.{dim_at, no_dim}
+use Rattle.xr_types.specs.Names.{shape_over}
+use Rattle.xr_defs.specs.Values.{chosen, no_axis}
 use Rattle.xr_defs.specs.Decoding.{axis_in, var_axes, var_shape, variable_of, variable_as_stored, as_truths, is_bool, is_masked, unlisted, scalar_text, coordinate_over, coordinate_of}
 use Rattle.xr_decode.specs.Cells.{array_in, attrs_as}
 

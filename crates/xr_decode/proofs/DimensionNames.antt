@@ -4,12 +4,13 @@ use Rattle.std.specs.Prelude.{◌==◌, All}
 use Rattle.std.specs.List.{list_any, AllByRecursion}
 use Rattle.std.proofs.lemmas.Bool.{and_parts, and_from, not-true, not_from_false, true≢false, eq-eqb, false_from_ne_true, ltb-false}
 use Rattle.std.proofs.lemmas.List.Elements.{recursion_from_All}
-use Rattle.xr_defs.specs.declared.file.CdfDim.{CdfDim}
-use Rattle.xr_defs.specs.declared.file.CdfFile.{CdfFile}
-use Rattle.xr_defs.specs.Classic.{among, dim_at, dim_names, no_dim}
-use Rattle.xr_defs.specs.Canonical.{are_distinct}
+use Rattle.xr_files.specs.declared.file.CdfDim.{CdfDim}
+use Rattle.xr_files.specs.declared.file.CdfFile.{CdfFile}
+use Rattle.xr_types.specs.Names.{among}
+use Rattle.xr_files.specs.Classic.{dim_at, dim_names, no_dim}
+use Rattle.xr_types.specs.Names.{are_distinct}
 use Rattle.xr_defs.specs.Limits.{are_different, most_cells}
-use Rattle.xr_defs.specs.Values.{axis_names}
+use Rattle.xr_types.specs.Names.{axis_names}
 use Rattle.xr_defs.specs.Decoding.{axis_in}
 use Rattle.xr_decode.proofs.Members.{Has, has_map, has_mapped, has_at, has_any, at_member, absent, not_among}
 

@@ -9,13 +9,13 @@ use Rattle.xr_types.specs.declared.attr.NcType.{NcType}
 use Rattle.xr_types.specs.declared.attr.NcType.TheVariants.{Byte, Char, Short, Int, Float, Double}
 use Rattle.xr_types.specs.declared.axis.LabelList.{LabelList}
 use Rattle.xr_types.specs.declared.axis.LabelList.TheVariants.{Numbers, Texts}
-use Rattle.xr_defs.specs.declared.file.CdfVar.{CdfVar}
-use Rattle.xr_defs.specs.declared.file.CdfFile.{CdfFile}
+use Rattle.xr_files.specs.declared.file.CdfVar.{CdfVar}
+use Rattle.xr_files.specs.declared.file.CdfFile.{CdfFile}
 use Rattle.xr_defs.specs.Building.{is_integer_kind}
-use Rattle.xr_defs.specs.Classic.{dim_at}
-use Rattle.xr_defs.specs.Files.{positions}
-use Rattle.xr_defs.specs.Points.{size}
-use Rattle.xr_defs.specs.Numbers.{cells_kind, numbers_of, is_whole}
+use Rattle.xr_files.specs.Classic.{dim_at}
+use Rattle.xr_files.specs.Files.{positions}
+use Rattle.xr_types.specs.Points.{size}
+use Rattle.xr_arrays.specs.Numbers.{cells_kind, numbers_of, is_whole}
 use Rattle.xr_defs.specs.Values.{label_count}
 use Rattle.xr_defs.specs.Decoding.{is_integer, is_char, all_there, text_in, row, rows_of, var_shape, is_named_as_first, number_labels, text_labels, or_else, labels_in, unlisted}
 use Rattle.stored_cells.proofs.Lengths.{numbers-length}

@@ -4,14 +4,14 @@ use Rattle.std.specs.Prelude.{All}
 use Rattle.std.proofs.lemmas.List.{length-map}
 use Rattle.std.proofs.lemmas.List.Elements.{All-nil, All-cons, All-head, All-tail}
 use Rattle.xr_types.specs.declared.attr.Attr.{Attr}
-use Rattle.xr_defs.specs.declared.file.CdfVar.{CdfVar}
-use Rattle.xr_defs.specs.declared.file.CdfFile.{CdfFile}
-use Rattle.xr_defs.specs.Classic.{dim_at}
-use Rattle.xr_defs.specs.Files.{positions}
+use Rattle.xr_files.specs.declared.file.CdfVar.{CdfVar}
+use Rattle.xr_files.specs.declared.file.CdfFile.{CdfFile}
+use Rattle.xr_files.specs.Classic.{dim_at}
+use Rattle.xr_files.specs.Files.{positions}
 use Rattle.xr_defs.specs.Decoding.{is_char_attr, without_text_attr, unlisted, is_masked, fill_numbers, is_bool, truth, var_shape, variable_of, variable_as_stored, as_truths}
-use Rattle.xr_defs.specs.Numbers.{numbers_of}
-use Rattle.xr_defs.specs.Points.{size}
-use Rattle.xr_defs.specs.Stored.{unless_fill}
+use Rattle.xr_arrays.specs.Numbers.{numbers_of}
+use Rattle.xr_types.specs.Points.{size}
+use Rattle.xr_arrays.specs.Stored.{unless_fill}
 use Rattle.stored_cells.proofs.Lengths.{numbers-length}
 use Rattle.xr_values.specs.WellFormed.{IsAttribute, AreAttributes, AreCells, AreSeen}
 use Rattle.xr_decode.specs.Cells.{fills_used, attrs_as}

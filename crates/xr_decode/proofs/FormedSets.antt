@@ -8,16 +8,18 @@ use Rattle.std.proofs.lemmas.List.Elements.{recursion_from_All}
 use Rattle.xr_types.specs.declared.axis.Axis.{Axis}
 use Rattle.xr_types.specs.declared.axis.Labels.{Labels}
 use Rattle.xr_types.specs.declared.axis.LabelList.{LabelList}
-use Rattle.xr_defs.specs.declared.file.CdfDim.{CdfDim}
-use Rattle.xr_defs.specs.declared.file.CdfVar.{CdfVar}
-use Rattle.xr_defs.specs.declared.file.CdfFile.{CdfFile}
+use Rattle.xr_files.specs.declared.file.CdfDim.{CdfDim}
+use Rattle.xr_files.specs.declared.file.CdfVar.{CdfVar}
+use Rattle.xr_files.specs.declared.file.CdfFile.{CdfFile}
 use Rattle.xr_defs.specs.declared.value.Coord.{Coord}
-use Rattle.xr_defs.specs.Classic.{among, dim_at, dim_names, no_dim, is_name}
-use Rattle.xr_defs.specs.Canonical.{are_distinct}
-use Rattle.xr_defs.specs.Files.{positions, shape_of}
+use Rattle.xr_types.specs.Names.{among}
+use Rattle.xr_files.specs.Classic.{dim_at, dim_names, no_dim, is_name}
+use Rattle.xr_types.specs.Names.{are_distinct}
+use Rattle.xr_files.specs.Files.{positions, shape_of}
 use Rattle.xr_defs.specs.Limits.{most_cells, most_variables}
 use Rattle.xr_defs.specs.Selecting.{axis_called}
-use Rattle.xr_defs.specs.Values.{Variable, axis_names}
+use Rattle.xr_types.specs.Names.{axis_names}
+use Rattle.xr_defs.specs.Values.{Variable}
 use Rattle.xr_defs.specs.Decoding.{is_skipped, is_index, is_coordinate, coordinate_names, labels_in, index_in, index_among, loaded_in, others_in, axis_in, var_axes, var_dims, var_shape, variable_of, coordinate_of, coordinate_over, scalar_text, coordinates_in, variables_in, is_kept, unlisted, dataset_in}
 use Rattle.xr_values.specs.WellFormed.{IsDimension, AreDimensions, IsIndex, AreCells, IsCoordinate, IsVariable, IsDataset, names_of, variable_names, labelled}
 use Rattle.xr_decode.specs.Held.{data_in}

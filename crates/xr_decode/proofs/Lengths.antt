@@ -5,11 +5,12 @@ use Rattle.std.specs.List.{flat_map, range_with_len}
 use Rattle.std.proofs.lemmas.Bool.{eqb-true, leb-true}
 use Rattle.std.proofs.lemmas.List.{length-take-le}
 use Rattle.std.proofs.lemmas.List.Elements.{All-head, All-tail}
-use Rattle.xr_defs.specs.declared.file.CdfDim.{CdfDim}
-use Rattle.xr_defs.specs.declared.file.VarHead.{VarHead}
-use Rattle.xr_defs.specs.Points.{size}
-use Rattle.xr_defs.specs.Classic.{Header, dim_at, width, is_record_dim}
-use Rattle.xr_defs.specs.Files.{positions, shape_of, is_record_var, head_size, recsize, raw_of, end_of, is_inside}
+use Rattle.xr_files.specs.declared.file.CdfDim.{CdfDim}
+use Rattle.xr_files.specs.declared.file.VarHead.{VarHead}
+use Rattle.xr_types.specs.Points.{size}
+use Rattle.xr_types.specs.Widths.{width}
+use Rattle.xr_files.specs.Classic.{Header, dim_at, is_record_dim}
+use Rattle.xr_files.specs.Files.{positions, shape_of, is_record_var, head_size, recsize, raw_of, end_of, is_inside}
 
 -- each number is that of a dimension, and the record dimension stands first only
 pub record AreIds (dims : List CdfDim) (ids : List ℕ) : Type 0 where

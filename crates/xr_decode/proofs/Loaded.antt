@@ -4,14 +4,14 @@ use Rattle.std.specs.List.{list_any}
 use Rattle.std.proofs.lemmas.Bool.{or_parts, not-false, ltb-false}
 use Rattle.xr_types.specs.declared.attr.Attr.{Attr}
 use Rattle.xr_types.specs.declared.kind.DType.{DType}
-use Rattle.xr_defs.specs.declared.file.CdfVar.{CdfVar}
-use Rattle.xr_defs.specs.declared.file.CdfFile.{CdfFile}
-use Rattle.xr_defs.specs.declared.node.Node.TheVariants.{Source}
-use Rattle.xr_defs.specs.Points.{size}
-use Rattle.xr_defs.specs.Arrays.{Array, IsArray}
-use Rattle.xr_defs.specs.Nodes.{IsNode, node_value, most_node_cells}
+use Rattle.xr_files.specs.declared.file.CdfVar.{CdfVar}
+use Rattle.xr_files.specs.declared.file.CdfFile.{CdfFile}
+use Rattle.xr_arrays.specs.declared.node.Node.TheVariants.{Source}
+use Rattle.xr_types.specs.Points.{size}
+use Rattle.xr_arrays.specs.Arrays.{Array, IsArray}
+use Rattle.xr_arrays.specs.Nodes.{IsNode, node_value, most_node_cells}
 use Rattle.xr_defs.specs.Limits.{are_different, most_cells, most_dimensions}
-use Rattle.xr_defs.specs.Numbers.{is_whole}
+use Rattle.xr_arrays.specs.Numbers.{is_whole}
 use Rattle.xr_defs.specs.Decoding.{is_skipped, var_shape, var_dims, variable_of, variable_as_stored, as_truths, is_bool, is_masked}
 use Rattle.xr_decode.specs.Cells.{array_in, attrs_as}
 use Rattle.xr_decode.specs.Readable.{IsReadableVar}

@@ -3,8 +3,8 @@ use Rattle.std.proofs.Common.{◌≡◌, ◌+◌, ◌<◌, ◌||◌, ℕ, zero, 
 use Rattle.xr_types.specs.declared.axis.Axis.{Axis}
 use Rattle.xr_types.specs.declared.fault.Fault.TheVariants.{TooLarge}
 use Rattle.xr_defs.specs.Limits.{most_variables}
-use Rattle.xr_defs.specs.Results.{◌>>=◌, unless}
-use Rattle.xr_defs.specs.Values.{axis_names}
+use Rattle.xr_types.specs.Results.{◌>>=◌, unless}
+use Rattle.xr_types.specs.Names.{axis_names}
 use Rattle.std.specs.Str.{bytes_eq}
 use Rattle.std.proofs.lemmas.Bool.{and_parts, and_from, or_parts, or_from, not-true, not_from_false}
 use Rattle.std.specs.List.{list_any}
@@ -12,12 +12,12 @@ use Rattle.std.proofs.lemmas.Bool.{le-leb, lt-leb}
 use Rattle.std.proofs.lemmas.List.{map-append, take_more, length-map}
 use Rattle.std.proofs.lemmas.List.Filters.{length-filter_both}
 use Rattle.std.proofs.lemmas.List.Elements.{filter-append}
-use Rattle.xr_defs.specs.declared.file.CdfVar.{CdfVar}
-use Rattle.xr_defs.specs.declared.file.CdfFile.{CdfFile}
-use Rattle.xr_defs.specs.declared.node.Node.{Node}
+use Rattle.xr_files.specs.declared.file.CdfVar.{CdfVar}
+use Rattle.xr_files.specs.declared.file.CdfFile.{CdfFile}
+use Rattle.xr_arrays.specs.declared.node.Node.{Node}
 use Rattle.xr_defs.specs.declared.value.Coord.{Coord}
-use Rattle.xr_defs.specs.Classic.{among}
-use Rattle.xr_defs.specs.Canonical.{are_distinct}
+use Rattle.xr_types.specs.Names.{among}
+use Rattle.xr_types.specs.Names.{are_distinct}
 use Rattle.xr_defs.specs.Values as of
 use Rattle.xr_defs.specs.Decoding.{is_skipped, is_index, is_coordinate, loaded_in, others_in, coordinates_in, variables_in, coordinate_of, variable_of, variable_as_stored, as_truths, is_bool, var_dims, is_kept, dataset_in, check_count, set_of}
 use Rattle.plan_core.specs.Plans.{Grows}

@@ -13,14 +13,14 @@ use Rattle.xr_types.specs.declared.attr.NcType.{NcType}
 use Rattle.xr_types.specs.declared.attr.NcType.TheVariants.{Byte, Char, Short, Int, Float, Double}
 use Rattle.xr_types.specs.declared.kind.DType.{DType}
 use Rattle.xr_types.specs.declared.kind.DType.TheVariants as kinds
-use Rattle.xr_defs.specs.declared.file.CdfVar.{CdfVar}
-use Rattle.xr_defs.specs.declared.file.CdfFile.{CdfFile}
-use Rattle.xr_defs.specs.Arrays.{IsArray, IsCell}
-use Rattle.xr_defs.specs.Classic.{width}
-use Rattle.xr_defs.specs.Points.{size}
+use Rattle.xr_files.specs.declared.file.CdfVar.{CdfVar}
+use Rattle.xr_files.specs.declared.file.CdfFile.{CdfFile}
+use Rattle.xr_arrays.specs.Arrays.{IsArray, IsCell}
+use Rattle.xr_types.specs.Widths.{width}
+use Rattle.xr_types.specs.Points.{size}
 use Rattle.xr_defs.specs.Decoding.{var_shape, variable_of, variable_as_stored, as_truths, is_bool, truth}
-use Rattle.xr_defs.specs.Numbers.{is_whole, cells_kind, number_in, value_at, numbers_of}
-use Rattle.xr_defs.specs.Stored.{is_fill, unless_fill}
+use Rattle.xr_arrays.specs.Numbers.{is_whole, cells_kind, number_in, value_at, numbers_of}
+use Rattle.xr_arrays.specs.Stored.{is_fill, unless_fill}
 use Rattle.stored_cells.proofs.Lengths.{numbers-length}
 use Rattle.stored_cells.proofs.NumbersInBytes.{one_byte, two_bytes, four_bytes}
 use Rattle.xr_decode.specs.Cells.{array_in, fills_used}

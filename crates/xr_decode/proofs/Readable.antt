@@ -5,12 +5,12 @@ use Rattle.std.specs.List.{Contains}
 use Rattle.std.proofs.lemmas.List.Elements.{All-contains}
 use Rattle.xr_types.specs.declared.attr.NcType.{NcType}
 use Rattle.xr_types.specs.declared.attr.NcType.TheVariants.{Byte, Char, Short, Int, Float, Double}
-use Rattle.xr_defs.specs.declared.file.CdfVar.{CdfVar}
-use Rattle.xr_defs.specs.declared.file.CdfFile.{CdfFile}
-use Rattle.xr_defs.specs.Points.{size}
-use Rattle.xr_defs.specs.Classic.{width}
+use Rattle.xr_files.specs.declared.file.CdfVar.{CdfVar}
+use Rattle.xr_files.specs.declared.file.CdfFile.{CdfFile}
+use Rattle.xr_types.specs.Points.{size}
+use Rattle.xr_types.specs.Widths.{width}
 use Rattle.xr_defs.specs.Decoding.{is_char, is_integer, var_shape}
-use Rattle.xr_defs.specs.Numbers.{is_whole}
+use Rattle.xr_arrays.specs.Numbers.{is_whole}
 use Rattle.xr_decode.specs.Readable.{IsReadableVar}
 
 -- whole numbers that are no texts

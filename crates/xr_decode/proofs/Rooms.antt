@@ -5,11 +5,12 @@ use Rattle.std.proofs.lemmas.List.{append-nil, length-map}
 use Rattle.std.proofs.lemmas.List.Elements.{recursion_from_All}
 use Rattle.std.proofs.lemmas.List.Sums.{sum_by-append, sum_by-cons}
 use Rattle.std.proofs.lemmas.Nat.{mul-le}
-use Rattle.xr_defs.specs.declared.file.CdfVar.{CdfVar}
-use Rattle.xr_defs.specs.declared.file.CdfFile.{CdfFile}
-use Rattle.xr_defs.specs.declared.node.Node.{Node}
-use Rattle.xr_defs.specs.Points.{size}
-use Rattle.xr_defs.specs.Room.{count, of_set, room, span, AddsAtMost, Portion}
+use Rattle.xr_files.specs.declared.file.CdfVar.{CdfVar}
+use Rattle.xr_files.specs.declared.file.CdfFile.{CdfFile}
+use Rattle.xr_arrays.specs.declared.node.Node.{Node}
+use Rattle.xr_types.specs.Points.{size}
+use Rattle.xr_arrays.specs.Added.{AddsAtMost}
+use Rattle.xr_defs.specs.Room.{count, of_set, room, span, Portion}
 use Rattle.xr_defs.specs.Decoding.{var_shape}
 use Rattle.plan_core.proofs.Added.{adds_both, adds_up}
 use Rattle.xr_values.specs.declared.variable.Variable.{Variable}

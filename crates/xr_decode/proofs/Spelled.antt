@@ -12,17 +12,19 @@ use Rattle.std.proofs.lemmas.Bool.Decides.{same_from_decides}
 use Rattle.xr_types.specs.declared.attr.Attr.{Attr}
 use Rattle.xr_types.specs.declared.attr.NcType.{NcType}
 use Rattle.xr_types.specs.declared.attr.NcType.TheVariants.{Byte, Char, Short, Int, Float, Double}
-use Rattle.xr_defs.specs.declared.file.CdfDim.{CdfDim}
-use Rattle.xr_defs.specs.declared.file.CdfFile.{CdfFile}
-use Rattle.xr_defs.specs.declared.file.VarHead.{VarHead}
-use Rattle.xr_defs.specs.Format.{Format, each}
-use Rattle.xr_defs.specs.Classic.{Header, header, list, name, new_name, dimension, attribute, values, dim_number, var_head, variable, is_record_dim, dim_at, dim_names, attr_names, var_names, among, is_name, width}
-use Rattle.xr_defs.specs.Canonical.{are_distinct}
-use Rattle.xr_defs.specs.Canonical as canonical
-use Rattle.xr_defs.specs.Points.{size}
-use Rattle.xr_defs.specs.Files.{shape_of, file_in, file_of, var_of, is_inside, all_inside, records_of, Spells}
-use Rattle.xr_defs.proofs.FileLaws.{given_is_spelled}
-use Rattle.xr_defs.proofs.FormatLaws.{IsBytes}
+use Rattle.xr_files.specs.declared.file.CdfDim.{CdfDim}
+use Rattle.xr_files.specs.declared.file.CdfFile.{CdfFile}
+use Rattle.xr_files.specs.declared.file.VarHead.{VarHead}
+use Rattle.xr_files.specs.Format.{Format, each}
+use Rattle.xr_types.specs.Names.{among}
+use Rattle.xr_types.specs.Widths.{width}
+use Rattle.xr_files.specs.Classic.{Header, header, list, name, new_name, dimension, attribute, values, dim_number, var_head, variable, is_record_dim, dim_at, dim_names, attr_names, var_names, is_name}
+use Rattle.xr_types.specs.Names.{are_distinct}
+use Rattle.xr_files.specs.Canonical as canonical
+use Rattle.xr_types.specs.Points.{size}
+use Rattle.xr_files.specs.Files.{shape_of, file_in, file_of, var_of, is_inside, all_inside, records_of, Spells}
+use Rattle.xr_files.proofs.FileLaws.{given_is_spelled}
+use Rattle.xr_files.proofs.FormatLaws.{IsBytes}
 use Rattle.xr_values.specs.WellFormed.{IsAttribute, AreAttributes}
 use Rattle.xr_decode.specs.Readable.{IsReadable, IsReadableVar}
 use Rattle.xr_decode.specs.Readable as readable

@@ -1,6 +1,6 @@
 -- Truth values of hidden cells.
 use Rattle.std.proofs.Common.{◌≡◌, ◌<◌, ℕ, ℤ, pos, suc, Bool, true, false, cond, List, [], ◌∷◌, length, map, zip, get_or, Option, Some, None, option_map, refl, ap, ◌∙◌, arith}
-use Rattle.xr_defs.specs.Arrays.{cell, hidden}
+use Rattle.xr_arrays.specs.Arrays.{cell, hidden}
 use Rattle.xr_defs.specs.Decoding.{truth}
 
 -- truth values that are right at each place are right

@@ -1,9 +1,9 @@
 -- The cells of a variable as they are decoded.
 use Rattle.std.specs.Prelude.{◌≡◌, ℤ, Bool, List, [], if◌then◌else◌, codes}
 use Rattle.xr_types.specs.declared.attr.Attr.{Attr}
-use Rattle.xr_defs.specs.declared.file.CdfVar.{CdfVar}
-use Rattle.xr_defs.specs.declared.file.CdfFile.{CdfFile}
-use Rattle.xr_defs.specs.Arrays.{Array}
+use Rattle.xr_files.specs.declared.file.CdfVar.{CdfVar}
+use Rattle.xr_files.specs.declared.file.CdfFile.{CdfFile}
+use Rattle.xr_arrays.specs.Arrays.{Array}
 use Rattle.xr_defs.specs.Decoding.{is_masked, fill_numbers, var_shape, variable_of, is_bool, unlisted, without_text_attr}
 use Rattle.xr_decode.specs.declared.decoded.Decoded.{Decoded}
 

@@ -4,7 +4,7 @@ use denote.Ref.{Bor}
 use Rattle.std.specs.BTreeMap.{BTreeMap, get_by}
 use Rattle.std.specs.Cmp.Lexicographic.{slice_cmp}
 use Rattle.std.specs.Ordering.{nat_cmp}
-use Rattle.xr_defs.specs.Classic.{among}
+use Rattle.xr_types.specs.Names.{among}
 
 -- the map has these names and no others
 abbrev pub Lists : BTreeMap (Bor (List ℕ)) (Unit {0}) → List (List ℕ) → Type 0

@@ -1,13 +1,14 @@
 -- Which files are decoded: their parts fit together. Of variables that aren't loaded, as floats, the values aren't looked at.
 use Rattle.std.specs.Prelude.{◌≡◌, ◌<◌, ◌*◌, true, length, map, List, All, ℕ}
-use Rattle.xr_defs.specs.declared.file.CdfDim.{CdfDim}
-use Rattle.xr_defs.specs.declared.file.CdfVar.{CdfVar}
-use Rattle.xr_defs.specs.declared.file.CdfFile.{CdfFile}
-use Rattle.xr_defs.specs.Points.{size}
-use Rattle.xr_defs.specs.Classic.{is_name, width, dim_names}
-use Rattle.xr_defs.specs.Canonical.{are_distinct}
-use Rattle.xr_defs.specs.Files.{shape_of}
-use Rattle.xr_defs.specs.Numbers.{is_whole}
+use Rattle.xr_files.specs.declared.file.CdfDim.{CdfDim}
+use Rattle.xr_files.specs.declared.file.CdfVar.{CdfVar}
+use Rattle.xr_files.specs.declared.file.CdfFile.{CdfFile}
+use Rattle.xr_types.specs.Points.{size}
+use Rattle.xr_types.specs.Widths.{width}
+use Rattle.xr_files.specs.Classic.{is_name, dim_names}
+use Rattle.xr_types.specs.Names.{are_distinct}
+use Rattle.xr_files.specs.Files.{shape_of}
+use Rattle.xr_arrays.specs.Numbers.{is_whole}
 use Rattle.xr_values.specs.WellFormed.{AreAttributes}
 
 -- its dimensions are there, and whole numbers are as many bytes as its shape and its type say

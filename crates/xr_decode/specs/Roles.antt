@@ -1,7 +1,7 @@
 -- What the variables of a file become.
 use Rattle.std.specs.Prelude.{◌≡◌, true, false, Bool}
-use Rattle.xr_defs.specs.declared.file.CdfVar.{CdfVar}
-use Rattle.xr_defs.specs.declared.file.CdfFile.{CdfFile}
+use Rattle.xr_files.specs.declared.file.CdfVar.{CdfVar}
+use Rattle.xr_files.specs.declared.file.CdfFile.{CdfFile}
 use Rattle.xr_defs.specs.Decoding.{is_skipped, is_index, is_coordinate}
 use Rattle.xr_decode.specs.declared.role.Role.{Role}
 use Rattle.xr_decode.specs.declared.role.Role.TheVariants.{Skipped, Index, Coordinate, Data}

@@ -1,10 +1,10 @@
 -- Values of variables, where they lie.
 use Rattle.std.specs.Prelude.{◌<◌, ◌≤◌, ℕ, List, length, All, ⊤}
 use Rattle.xr_types.specs.declared.attr.Attr.{Attr}
-use Rattle.xr_defs.specs.declared.file.CdfDim.{CdfDim}
-use Rattle.xr_defs.specs.declared.file.CdfVar.{CdfVar}
-use Rattle.xr_defs.specs.declared.file.CdfFile.{CdfFile}
-use Rattle.xr_defs.specs.Files.{most_bytes}
+use Rattle.xr_files.specs.declared.file.CdfDim.{CdfDim}
+use Rattle.xr_files.specs.declared.file.CdfVar.{CdfVar}
+use Rattle.xr_files.specs.declared.file.CdfFile.{CdfFile}
+use Rattle.xr_files.specs.Files.{most_bytes}
 use Rattle.cdf_reader.specs.Heads.{var_seen}
 use Rattle.xr_decode.specs.Readable.{IsReadable}
 use Rattle.xr_decode.specs.declared.place.Place.{Place}

@@ -2,8 +2,8 @@
 ghost use Rattle.std.specs.Prelude.{◌≡◌, ◌<◌, ◌++◌, All, List, map, take, drop, find, length, option_map, IfOk, IfSome};
 ghost use Rattle.std.specs.List.{Contains};
 ghost use Rattle.std.specs.Str.{bytes_eq};
-ghost use Rattle.xr_defs.specs.declared.file.CdfVar.{CdfVar};
-ghost use Rattle.xr_defs.specs.Classic.{dim_at};
+ghost use Rattle.xr_files.specs.declared.file.CdfVar.{CdfVar};
+ghost use Rattle.xr_files.specs.Classic.{dim_at};
 ghost use Rattle.xr_defs.specs.Decoding.{loaded_in, index_among, axis_in, var_axes};
 ghost use Rattle.xr_defs.specs.Values.{chosen, no_axis};
 ghost use Rattle.xr_decode.specs.Readable.{IsReadableVar};
@@ -13,7 +13,7 @@ use crate::shapes::positions;
 use crate::skip::is_skipped;
 use crate::stored::{Source, StoredVar};
 use std::alloc::{AllocError, Global};
-use xr_defs::CdfDim;
+use xr_files::CdfDim;
 use xr_types::{Axis, DeepCopy, Items, Labels, Name, NoMemory};
 
 // The loaded variable of a name.

@@ -2,7 +2,7 @@
 ghost use Rattle.std.specs.Prelude.{◌≡◌, ◌++◌, map, codes, false, true, IfOk};
 ghost use Rattle.std.specs.Str.{bytes_eq};
 ghost use Rattle.xr_defs.specs.Decoding.{is_skipped, axis_in, var_axes, var_dims, var_shape, string_name, is_over_string, scalar_text, variable_of, coordinate_over, coordinate_of};
-ghost use Rattle.xr_defs.specs.Numbers.{is_whole};
+ghost use Rattle.xr_arrays.specs.Numbers.{is_whole};
 ghost use Rattle.xr_decode.specs.Readable.{IsReadableVar};
 
 use crate::attributes::copy_without;

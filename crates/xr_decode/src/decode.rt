@@ -2,7 +2,8 @@
 ghost use Rattle.std.specs.Prelude.{◌≡◌, ◌∷◌, [], IfOk};
 ghost use Rattle.xr_defs.specs.Decoding.{set_of};
 ghost use Rattle.xr_defs.specs.Calls.{set_in};
-ghost use Rattle.xr_defs.specs.Room.{of_set, room, AddsAtMost};
+ghost use Rattle.xr_arrays.specs.Added.{AddsAtMost};
+ghost use Rattle.xr_defs.specs.Room.{of_set, room};
 ghost use Rattle.plan_core.specs.Plans.{Grows};
 ghost use Rattle.xr_values.specs.Answers.{AnswersSet};
 ghost use Rattle.xr_values.specs.Stands.{dataset_in};
@@ -15,7 +16,7 @@ use bytes::Bytes;
 use cdf_reader::{CdfFault, read_head};
 use plan_core::{Compute, Plan};
 use std::alloc::Global;
-use xr_defs::CdfFile;
+use xr_files::CdfFile;
 use xr_types::{CallFault, Fault};
 use xr_values::{Cx, Dataset};
 

@@ -1,7 +1,7 @@
 //! The cells and attributes of a variable.
 ghost use Rattle.std.specs.Prelude.{◌≡◌, ◌==◌, not, length, true, false, Bool, IfOk};
 ghost use Rattle.xr_defs.specs.Decoding.{is_bool, is_masked};
-ghost use Rattle.xr_defs.specs.Numbers.{is_whole};
+ghost use Rattle.xr_arrays.specs.Numbers.{is_whole};
 ghost use Rattle.xr_decode.specs.Cells.{fills_used, attrs_as, array_in, IsDecoded};
 ghost use Rattle.xr_decode.specs.Readable.{IsReadableVar};
 
@@ -13,7 +13,7 @@ use crate::stored::{Source, StoredVar};
 use crate::truths::as_truths;
 use std::alloc::{AllocError, Global};
 use stored_cells::{decoded_cells, mask_for};
-use xr_defs::{ArrayValue, StoredArray};
+use xr_arrays::{ArrayValue, StoredArray};
 use xr_types::{Attr, Items, NoMemory};
 
 /// The cells of a variable, whether missing ones may stand among them, and the attributes that are kept.

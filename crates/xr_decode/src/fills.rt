@@ -2,15 +2,15 @@
 ghost use Rattle.std.specs.Prelude.{◌≡◌, ◌++◌, ◌≤ℤ◌, [], map, IfOk, OnOk, if◌then◌else◌};
 ghost use Rattle.xr_types.specs.Kinds.{low, high};
 ghost use Rattle.xr_types.specs.declared.kind.DType.TheVariants as kinds;
-ghost use Rattle.xr_defs.specs.Arrays.{wide};
+ghost use Rattle.xr_arrays.specs.Arrays.{wide};
 ghost use Rattle.xr_defs.specs.Decoding.{is_integer, attr_numbers, the_one, fill_numbers};
-ghost use Rattle.xr_defs.specs.Numbers.{numbers_of};
+ghost use Rattle.xr_arrays.specs.Numbers.{numbers_of};
 
 use crate::attributes::find_attr;
 use crate::kinds::is_integer;
 use std::alloc::Global;
 use stored_cells::decoded_cells;
-use xr_defs::Cells;
+use xr_arrays::Cells;
 use xr_types::{Attr, Elem, Items, NoMemory};
 
 fn push_row<T: Elem>(out: &mut Items<i64>, numbers: &[T]) -> Result<(), NoMemory>

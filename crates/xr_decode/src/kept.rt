@@ -2,8 +2,8 @@
 ghost use Rattle.std.specs.Prelude.{◌≡◌, drop, filter};
 ghost use Rattle.std.specs.List.{list_any};
 ghost use Rattle.xr_defs.specs.declared.value.Coord.{Coord as ACoord};
-ghost use Rattle.xr_defs.specs.Classic.{among};
-ghost use Rattle.xr_defs.specs.Values.{axis_names};
+ghost use Rattle.xr_types.specs.Names.{among};
+ghost use Rattle.xr_types.specs.Names.{axis_names};
 ghost use Rattle.xr_values.specs.declared.variable.Variable.{Variable as AVariable};
 ghost use Rattle.xr_decode.specs.Held.{stays};
 

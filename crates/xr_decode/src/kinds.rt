@@ -1,7 +1,7 @@
 //! Kinds of types of values.
 ghost use Rattle.std.specs.Prelude.{◌≡◌};
 ghost use Rattle.xr_defs.specs.Decoding.{is_byte, is_char, is_integer};
-ghost use Rattle.xr_defs.specs.Numbers.{cells_kind, is_whole};
+ghost use Rattle.xr_arrays.specs.Numbers.{cells_kind, is_whole};
 
 use xr_types::{DType, NcType};
 

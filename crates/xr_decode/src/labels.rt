@@ -1,9 +1,9 @@
 //! Indexes: a variable that is named as its first dimension holds labels.
 ghost use Rattle.std.specs.Prelude.{◌≡◌, ◌==◌, ◌&&◌, ◌*◌, length, is_some, option_map, true, IfOk};
 ghost use Rattle.xr_types.specs.declared.axis.LabelList.TheVariants as lists;
-ghost use Rattle.xr_defs.specs.Points.{size};
+ghost use Rattle.xr_types.specs.Points.{size};
 ghost use Rattle.xr_defs.specs.Decoding.{is_char, is_integer, is_named_as_first, number_labels, text_labels, rows_of, labels_in, is_index, index_in};
-ghost use Rattle.xr_defs.specs.Numbers.{cells_kind, numbers_of};
+ghost use Rattle.xr_arrays.specs.Numbers.{cells_kind, numbers_of};
 ghost use Rattle.xr_decode.specs.Readable.{IsReadableVar};
 
 use crate::attributes::copy_without;

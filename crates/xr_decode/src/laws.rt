@@ -1,8 +1,8 @@
 //! Which files are readable.
 ghost use Rattle.std.specs.Prelude.{ℕ, List};
-ghost use Rattle.xr_defs.specs.Canonical.{IsFile};
-ghost use Rattle.xr_defs.specs.Files.{Spells};
-ghost use Rattle.xr_defs.specs.declared.file.CdfFile.{CdfFile};
+ghost use Rattle.xr_files.specs.Canonical.{IsFile};
+ghost use Rattle.xr_files.specs.Files.{Spells};
+ghost use Rattle.xr_files.specs.declared.file.CdfFile.{CdfFile};
 ghost use Rattle.xr_decode.specs.Readable.{IsReadable};
 
 /// A file whose parts fit together is readable, and so is each file that bytes spell.

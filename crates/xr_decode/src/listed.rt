@@ -1,7 +1,7 @@
 //! The names that attributes list as coordinates.
 ghost use Rattle.std.specs.Prelude.{◌≡◌, ◌++◌, ◌∷◌, [], ℕ, List, map, filter, length, not, ◌==◌, IfOk, OnOk, OnErr, true};
 ghost use Rattle.std.specs.List.{slice_split};
-ghost use Rattle.xr_defs.specs.Classic.{among};
+ghost use Rattle.xr_types.specs.Names.{among};
 ghost use Rattle.xr_defs.specs.Decoding.{is_blank, words, listed_in};
 ghost use Rattle.xr_decode.specs.Listed.{Lists};
 

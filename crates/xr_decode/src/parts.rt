@@ -1,8 +1,8 @@
 //! The coordinates and data variables of a file.
 ghost use Rattle.std.specs.Prelude.{◌≡◌, ◌++◌, ◌∷◌, [], All, length, map, true, IfOk, OnOk};
-ghost use Rattle.xr_defs.specs.Canonical.{are_distinct};
+ghost use Rattle.xr_types.specs.Names.{are_distinct};
 ghost use Rattle.xr_defs.specs.Decoding.{axis_in, coordinate_names, others_in, coordinates_in};
-ghost use Rattle.xr_defs.specs.Room.{AddsAtMost};
+ghost use Rattle.xr_arrays.specs.Added.{AddsAtMost};
 ghost use Rattle.plan_core.specs.Plans.{Grows};
 ghost use Rattle.xr_decode.specs.Held.{data_cells, data_in, AreHeld, Adds};
 ghost use Rattle.xr_decode.specs.Listed.{Lists};

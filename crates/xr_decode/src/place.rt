@@ -1,8 +1,7 @@
 //! Where values lie.
 use bytes::Bytes;
 use cdf_reader::FileHead;
-use xr_defs::VarHead;
-
+use xr_files::VarHead;
 /// Where the values of a variable lie.
 #[derive(Drop)]
 pub enum Place<'a> {

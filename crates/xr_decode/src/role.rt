@@ -1,8 +1,8 @@
 //! What a variable of a file becomes.
 ghost use Rattle.std.specs.Prelude.{◌≡◌, ◌++◌, List, ℕ, flat_map, map, IfOk, OnOk};
-ghost use Rattle.xr_defs.specs.declared.file.CdfVar.{CdfVar};
-ghost use Rattle.xr_defs.specs.declared.file.CdfDim.{CdfDim as Dim};
-ghost use Rattle.xr_defs.specs.Classic.{among};
+ghost use Rattle.xr_files.specs.declared.file.CdfVar.{CdfVar};
+ghost use Rattle.xr_files.specs.declared.file.CdfDim.{CdfDim as Dim};
+ghost use Rattle.xr_types.specs.Names.{among};
 ghost use Rattle.xr_defs.specs.Decoding.{is_skipped, is_index, is_coordinate, coordinate_names, listed_in};
 ghost use Rattle.xr_decode.specs.Listed.{Lists};
 ghost use Rattle.xr_decode.specs.Readable.{IsReadableVar};
@@ -13,7 +13,7 @@ use crate::listed::{Listed, add_listed, is_listed, none_listed};
 use crate::skip::is_skipped;
 use crate::stored::{Source, StoredVar};
 use std::alloc::Global;
-use xr_defs::CdfDim;
+use xr_files::CdfDim;
 use xr_types::{Name, NoMemory};
 
 /// What a variable becomes.

@@ -1,13 +1,13 @@
 //! Dimensions of a file by their numbers.
 ghost use Rattle.std.specs.Prelude.{◌≡◌, ◌==◌, ◌-◌, ◌^◌, ◌++◌, map, min, drop, nat_lt, IfOk};
 ghost use Rattle.std.specs.List.{list_any};
-ghost use Rattle.xr_defs.specs.Points.{size};
-ghost use Rattle.xr_defs.specs.Classic.{dim_at};
-ghost use Rattle.xr_defs.specs.Files.{positions, shape_of};
+ghost use Rattle.xr_types.specs.Points.{size};
+ghost use Rattle.xr_files.specs.Classic.{dim_at};
+ghost use Rattle.xr_files.specs.Files.{positions, shape_of};
 ghost use Rattle.xr_defs.specs.Limits.{are_different, most_cells};
 
 use std::alloc::{AllocError, Global};
-use xr_defs::CdfDim;
+use xr_files::CdfDim;
 use xr_types::{DeepCopy, Items, MOST_CELLS, Name};
 
 /// The name of the dimension of a number. There is none of the number of no dimension.

@@ -1,6 +1,6 @@
 //! A file as it is decoded, with the values of its variables where they lie.
 ghost use Rattle.std.specs.Prelude.{◌≡◌, ◌≤◌, ◌++◌, length, map, take, All, IfOk};
-ghost use Rattle.xr_defs.specs.Files.{most_bytes};
+ghost use Rattle.xr_files.specs.Files.{most_bytes};
 ghost use Rattle.cdf_reader.specs.Heads.{file_seen, var_seen};
 ghost use Rattle.xr_decode.specs.Readable.{IsReadable};
 ghost use Rattle.xr_decode.specs.Stored.{AreBytes, HoldsBytes};
@@ -10,7 +10,7 @@ use bytes::Bytes;
 use cdf_reader::{FileHead, is_record, shared_values};
 use std::alloc::{AllocError, Global};
 use std::marker::Model;
-use xr_defs::{CdfDim, CdfFile, CdfVar, VarHead};
+use xr_files::{CdfDim, CdfFile, CdfVar, VarHead};
 use xr_types::{Attr, Name, NcType};
 
 /// A variable of a file.
@@ -25,7 +25,7 @@ pub(crate) struct StoredVar<'a> {
 
 impl<'a> Model for StoredVar<'a> {
     ghost use Rattle.std.specs.Prelude.{All};
-    ghost use Rattle.xr_defs.specs.declared.file.CdfVar.{CdfVar};
+    ghost use Rattle.xr_files.specs.declared.file.CdfVar.{CdfVar};
     ghost use Rattle.xr_decode.specs.Stored.{AreBytes};
 
     ghost Value = { CdfVar };
@@ -107,7 +107,7 @@ pub(crate) struct Source<'a> {
 
 impl<'a> Model for Source<'a> {
     ghost use Rattle.std.specs.Prelude.{All};
-    ghost use Rattle.xr_defs.specs.declared.file.CdfFile.{CdfFile};
+    ghost use Rattle.xr_files.specs.declared.file.CdfFile.{CdfFile};
     ghost use Rattle.xr_decode.specs.Readable.{IsReadable};
     ghost use Rattle.xr_decode.specs.Stored.{HoldsBytes, file_of, IsSource};
 

@@ -1,11 +1,11 @@
 //! Truth values: what isn't 0 is true.
 ghost use Rattle.std.specs.Prelude.{◌≡◌, ◌<◌, map, pos, All, IfOk};
 ghost use Rattle.xr_types.specs.declared.kind.DType.TheVariants as kinds;
-ghost use Rattle.xr_defs.specs.Arrays.{kind_of, wide, InKind};
+ghost use Rattle.xr_arrays.specs.Arrays.{kind_of, wide, InKind};
 ghost use Rattle.xr_defs.specs.Decoding.{truth};
 
 use std::alloc::{AllocError, Global};
-use xr_defs::Cells;
+use xr_arrays::Cells;
 use xr_types::Items;
 
 fn truths_of(alloc: Global, numbers: &[i8]) -> Result<Items<u8>, AllocError>

@@ -1,6 +1,6 @@
 //! The values of a variable.
 ghost use Rattle.std.specs.Prelude.{◌≡◌, ◌≤◌, length, IfOk};
-ghost use Rattle.xr_defs.specs.Files.{most_bytes};
+ghost use Rattle.xr_files.specs.Files.{most_bytes};
 ghost use Rattle.cdf_reader.specs.Heads.{var_seen};
 ghost use Rattle.xr_decode.specs.Stored.{AreBytes};
 
@@ -9,8 +9,7 @@ use bytes::Bytes;
 use cdf_reader::{FileHead, copied_values};
 use std::alloc::{AllocError, Global};
 use std::marker::Model;
-use xr_defs::VarHead;
-
+use xr_files::VarHead;
 /// The values of a variable, where they lie.
 #[derive(Drop)]
 pub(crate) struct Values<'a> {

@@ -1,8 +1,8 @@
 //! Data variables.
 ghost use Rattle.std.specs.Prelude.{◌≡◌, false, true, IfOk};
 ghost use Rattle.xr_defs.specs.Decoding.{is_skipped, var_shape, variable_of};
-ghost use Rattle.xr_defs.specs.Points.{size};
-ghost use Rattle.xr_defs.specs.Room.{AddsAtMost};
+ghost use Rattle.xr_types.specs.Points.{size};
+ghost use Rattle.xr_arrays.specs.Added.{AddsAtMost};
 ghost use Rattle.plan_core.specs.Plans.{Grows};
 ghost use Rattle.xr_values.specs.Stands.{variable_in, IsNodeOf};
 ghost use Rattle.xr_decode.specs.Readable.{IsReadableVar};
@@ -12,7 +12,7 @@ use crate::dims::var_dims;
 use crate::stored::{Source, StoredVar};
 use plan_core::Plan;
 use std::alloc::Global;
-use xr_defs::Node;
+use xr_arrays::Node;
 use xr_types::{DeepCopy, NoMemory};
 use xr_values::Variable;
 

@@ -3,7 +3,8 @@ ghost use Rattle.std.specs.Prelude.{◌≡◌, ◌≤◌, ◌∷◌, [], length,
 ghost use Rattle.xr_defs.specs.Limits.{most_variables};
 ghost use Rattle.xr_defs.specs.Decoding.{coordinate_names, others_in, set_of};
 ghost use Rattle.xr_defs.specs.Decoding as decoding;
-ghost use Rattle.xr_defs.specs.Room.{of_set, room, AddsAtMost};
+ghost use Rattle.xr_arrays.specs.Added.{AddsAtMost};
+ghost use Rattle.xr_defs.specs.Room.{of_set, room};
 ghost use Rattle.plan_core.specs.Plans.{Grows};
 ghost use Rattle.xr_values.specs.Answers.{AnswersSet};
 ghost use Rattle.xr_values.specs.Stands.{dataset_in, IsDatasetIn};

@@ -6,7 +6,7 @@ use Rattle.xr_types.specs.declared.fault.Fault.TheVariants.{NoDimension, WrongKi
 use Rattle.xr_types.specs.declared.axis.Axis.{Axis}
 use Rattle.xr_defs.specs.declared.slice.Part.{Part}
 use Rattle.xr_defs.specs.declared.slice.Part.TheVariants as part
-use Rattle.xr_defs.specs.Results.{◌>>=◌, unless}
+use Rattle.xr_types.specs.Results.{◌>>=◌, unless}
 use Rattle.xr_defs.specs.Values.{axis_position}
 use Rattle.xr_defs.specs.Meanings.{Value, Absent, Number, Text, Slice, Given}
 

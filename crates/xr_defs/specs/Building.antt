@@ -13,12 +13,13 @@ use Rattle.xr_types.specs.declared.kind.DType.{DType}
 use Rattle.xr_types.specs.declared.kind.DType.TheVariants as kinds
 use Rattle.xr_defs.specs.declared.value.Content.TheVariants as contents
 use Rattle.xr_defs.specs.declared.value.Coord.{Coord}
-use Rattle.xr_defs.specs.Results.{◌>>=◌, unless, all_of}
-use Rattle.xr_defs.specs.Classic.{among}
-use Rattle.xr_defs.specs.Canonical.{are_distinct}
-use Rattle.xr_defs.specs.Labels as labels
-use Rattle.xr_defs.specs.Labels.{labels_of}
-use Rattle.xr_defs.specs.Values.{DataArray, Dataset, Variable, array_of, axis_names, axis_position, present}
+use Rattle.xr_types.specs.Results.{◌>>=◌, unless, all_of}
+use Rattle.xr_types.specs.Names.{among}
+use Rattle.xr_types.specs.Names.{are_distinct}
+use Rattle.xr_arrays.specs.Labels as labels
+use Rattle.xr_arrays.specs.Labels.{labels_of}
+use Rattle.xr_types.specs.Names.{axis_names}
+use Rattle.xr_defs.specs.Values.{DataArray, Dataset, Variable, array_of, axis_position, present}
 use Rattle.xr_defs.specs.Limits.{most_dimensions}
 use Rattle.xr_defs.specs.Encoding.{may_fill}
 use Rattle.xr_defs.specs.Selecting.{axis_called, check_array, check_set}

@@ -8,10 +8,10 @@ use Rattle.xr_types.specs.declared.fault.Fault.TheVariants.{UnknownName, WrongKi
 use Rattle.xr_types.specs.declared.kind.DType.{DType}
 use Rattle.xr_types.specs.declared.kind.DType.TheVariants as kinds
 use Rattle.xr_defs.specs.declared.write_options.WriteOptions.{WriteOptions}
-use Rattle.xr_defs.specs.Results.{◌>>=◌, unless}
-use Rattle.xr_defs.specs.Classic.{among}
-use Rattle.xr_defs.specs.Files.{file_in}
-use Rattle.xr_defs.specs.Canonical.{canonical}
+use Rattle.xr_types.specs.Results.{◌>>=◌, unless}
+use Rattle.xr_types.specs.Names.{among}
+use Rattle.xr_files.specs.Files.{file_in}
+use Rattle.xr_files.specs.Canonical.{canonical}
 use Rattle.xr_defs.specs.Stores.{Files}
 use Rattle.xr_defs.specs.Values.{DataArray, Dataset, total}
 use Rattle.xr_defs.specs.Decoding.{set_of}

@@ -14,19 +14,21 @@ use Rattle.xr_types.specs.declared.axis.Labels.{Labels}
 use Rattle.xr_types.specs.declared.axis.LabelList.{LabelList}
 use Rattle.xr_types.specs.declared.axis.LabelList.TheVariants.{Numbers, Texts}
 use Rattle.xr_types.specs.declared.kind.DType.TheVariants as kinds
-use Rattle.xr_defs.specs.declared.file.CdfDim.{CdfDim}
-use Rattle.xr_defs.specs.declared.file.CdfVar.{CdfVar}
-use Rattle.xr_defs.specs.declared.file.CdfFile.{CdfFile}
+use Rattle.xr_files.specs.declared.file.CdfDim.{CdfDim}
+use Rattle.xr_files.specs.declared.file.CdfVar.{CdfVar}
+use Rattle.xr_files.specs.declared.file.CdfFile.{CdfFile}
 use Rattle.xr_defs.specs.declared.value.Content.TheVariants as contents
 use Rattle.xr_defs.specs.declared.value.Coord.{Coord}
-use Rattle.xr_defs.specs.Results.{◌>>=◌, unless}
-use Rattle.xr_defs.specs.Points.{size}
-use Rattle.xr_defs.specs.Classic.{among, dim_at}
-use Rattle.xr_defs.specs.Files.{positions, shape_of}
-use Rattle.xr_defs.specs.Numbers.{is_whole, cells_kind, numbers_of}
-use Rattle.xr_defs.specs.Stored.{stored_cells}
+use Rattle.xr_types.specs.Results.{◌>>=◌, unless}
+use Rattle.xr_types.specs.Points.{size}
+use Rattle.xr_types.specs.Names.{among}
+use Rattle.xr_files.specs.Classic.{dim_at}
+use Rattle.xr_files.specs.Files.{positions, shape_of}
+use Rattle.xr_arrays.specs.Numbers.{is_whole, cells_kind, numbers_of}
+use Rattle.xr_arrays.specs.Stored.{stored_cells}
 use Rattle.xr_defs.specs.Limits.{are_different, most_cells, most_dimensions, most_variables}
-use Rattle.xr_defs.specs.Values.{Dataset, Variable, shape_over, axis_names}
+use Rattle.xr_types.specs.Names.{shape_over, axis_names}
+use Rattle.xr_defs.specs.Values.{Dataset, Variable}
 
 -- ---- types and attributes
 

@@ -3,12 +3,12 @@
 use Rattle.std.specs.Prelude.{ℕ, true, false, List, [], ◌∷◌, ◌++◌, Option, Some, None, Result, Ok, Err}
 use Rattle.xr_types.specs.declared.fault.Fault.{Fault}
 use Rattle.xr_types.specs.declared.fault.Fault.TheVariants.{UnknownName}
-use Rattle.xr_defs.specs.declared.syntax.Constant.{Constant}
-use Rattle.xr_defs.specs.declared.syntax.Constant.TheVariants as constant
-use Rattle.xr_defs.specs.Results.{◌>>=◌}
+use Rattle.xr_syntax.specs.declared.syntax.Constant.{Constant}
+use Rattle.xr_syntax.specs.declared.syntax.Constant.TheVariants as constant
+use Rattle.xr_types.specs.Results.{◌>>=◌}
 use Rattle.xr_defs.specs.Stores.{Files}
-use Rattle.xr_defs.specs.Syntax as tree
-use Rattle.xr_defs.specs.Syntax.{Tree, Trees, Args}
+use Rattle.xr_syntax.specs.Syntax as tree
+use Rattle.xr_syntax.specs.Syntax.{Tree, Trees, Args}
 use Rattle.xr_defs.specs.Meanings.{Value, Values, Entries, Absent, Missing, Truth, Number, Text, Sequence, Table, NoValue, With, NoEntry, Entry, Given}
 use Rattle.xr_defs.specs.Arguments.{wrong}
 use Rattle.xr_defs.specs.Calls.{function_called, method_called, part_picked}

@@ -14,12 +14,13 @@ use Rattle.xr_types.specs.declared.axis.LabelList.TheVariants.{Numbers}
 use Rattle.xr_defs.specs.declared.value.Content.{Content}
 use Rattle.xr_defs.specs.declared.value.Content.TheVariants as contents
 use Rattle.xr_defs.specs.declared.value.Coord.{Coord}
-use Rattle.xr_defs.specs.Results.{◌>>=◌, unless, all_of}
-use Rattle.xr_defs.specs.Classic.{among}
-use Rattle.xr_defs.specs.Values.{DataArray, Dataset, Variable, array_of, axis_names, axis_position, no_axis}
+use Rattle.xr_types.specs.Results.{◌>>=◌, unless, all_of}
+use Rattle.xr_types.specs.Names.{among}
+use Rattle.xr_types.specs.Names.{axis_names}
+use Rattle.xr_defs.specs.Values.{DataArray, Dataset, Variable, array_of, axis_position, no_axis}
 use Rattle.xr_defs.specs.Decoding.{is_kept}
 use Rattle.xr_defs.specs.Encoding.{coords_over, holds, value_bytes}
-use Rattle.xr_defs.specs.Nodes.{reordered}
+use Rattle.xr_arrays.specs.Nodes.{reordered}
 use Rattle.xr_defs.specs.Selecting.{axis_called, check_set}
 use Rattle.xr_defs.specs.Meanings.{Value, Values, Absent, Text, Number, Sequence, NoValue, With, Given}
 use Rattle.xr_defs.specs.Arguments.{wrong, unfit, only, as_text}

@@ -12,10 +12,11 @@ use Rattle.xr_types.specs.declared.axis.Axis.{Axis}
 use Rattle.xr_defs.specs.declared.value.Content.{Content}
 use Rattle.xr_defs.specs.declared.value.Content.TheVariants.{Cells, Text, Time}
 use Rattle.xr_defs.specs.declared.value.Coord.{Coord}
-use Rattle.xr_defs.specs.Classic.{width}
-use Rattle.xr_defs.specs.Numbers.{is_whole, numbers_of}
-use Rattle.xr_defs.specs.Times.{time_text}
-use Rattle.xr_defs.specs.Values.{DataArray, Dataset, Variable, axis_names}
+use Rattle.xr_types.specs.Widths.{width}
+use Rattle.xr_arrays.specs.Numbers.{is_whole, numbers_of}
+use Rattle.xr_arrays.specs.Times.{time_text}
+use Rattle.xr_types.specs.Names.{axis_names}
+use Rattle.xr_defs.specs.Values.{DataArray, Dataset, Variable}
 use Rattle.xr_defs.specs.Text.{escape, printed_name, quoted, quoted_byte, joined, cell_text, after_blanks, masked_text, axis_text, head_line, cells_text, index_text}
 
 -- ---- names ascending by their bytes

@@ -3,24 +3,16 @@ use Rattle.std.specs.Prelude.{◌≤◌, ◌+◌, ◌*◌, ℕ, List, [], ◌∷
 use Rattle.std.specs.List.{sum_by}
 use Rattle.std.specs.Str.{bytes_eq}
 use Rattle.xr_types.specs.declared.axis.Axis.{Axis}
-use Rattle.xr_defs.specs.declared.node.Node.{Node}
+use Rattle.xr_arrays.specs.declared.node.Node.{Node}
 use Rattle.xr_defs.specs.declared.value.Coord.{Coord}
-use Rattle.xr_defs.specs.Points.{size}
-use Rattle.xr_defs.specs.Arrays.{Array}
-use Rattle.xr_defs.specs.Classic.{among}
+use Rattle.xr_types.specs.Points.{size}
+use Rattle.xr_arrays.specs.Added.{AddsAtMost}
+use Rattle.xr_arrays.specs.Arrays.{Array}
+use Rattle.xr_types.specs.Names.{among}
 use Rattle.xr_defs.specs.Meanings as of
-use Rattle.xr_defs.specs.Nodes.{values}
-use Rattle.xr_defs.specs.Values.{DataArray, Dataset, axis_names}
-
--- ---- cells that are added
-
--- the cells of all nodes together
-unfoldable pub cells_of : List Node → ℕ
-cells_of nodes = sum_by (λ (a : Array). size a.shape) (values nodes)
-
--- the nodes that are added have no more cells together
-pub record AddsAtMost (old new : List Node) (bound : ℕ) : Type 0 where
-  pub cells : cells_of new ≤ cells_of old + bound
+use Rattle.xr_arrays.specs.Nodes.{values}
+use Rattle.xr_types.specs.Names.{axis_names}
+use Rattle.xr_defs.specs.Values.{DataArray, Dataset}
 
 -- ---- operands and results
 

@@ -6,10 +6,10 @@ use Rattle.xr_types.specs.declared.fault.Fault.TheVariants.{UnknownName, WrongKi
 use Rattle.xr_types.specs.declared.status.ScriptFault.{ScriptFault}
 use Rattle.xr_types.specs.declared.status.Status.{Status}
 use Rattle.xr_types.specs.declared.status.Status.TheVariants.{Done, Refused, BadWords, NoScript, BadScript}
-use Rattle.xr_defs.specs.Results.{◌>>=◌}
-use Rattle.xr_defs.specs.Syntax as tree
-use Rattle.xr_defs.specs.Syntax.{Line, Tree}
-use Rattle.xr_defs.specs.Scripts.{IsScriptText, IsFirstFault}
+use Rattle.xr_types.specs.Results.{◌>>=◌}
+use Rattle.xr_syntax.specs.Syntax as tree
+use Rattle.xr_syntax.specs.Syntax.{Line, Tree}
+use Rattle.xr_syntax.specs.Scripts.{IsScriptText, IsFirstFault}
 use Rattle.xr_defs.specs.Stores.{Files}
 use Rattle.xr_defs.specs.Meanings.{Value}
 use Rattle.xr_defs.specs.Calls.{text_printed, set_written}

@@ -11,13 +11,14 @@ use Rattle.xr_types.specs.declared.axis.LabelList.TheVariants.{Numbers, Times, T
 use Rattle.xr_defs.specs.declared.value.Content.{Content}
 use Rattle.xr_defs.specs.declared.value.Content.TheVariants as contents
 use Rattle.xr_defs.specs.declared.value.Coord.{Coord}
-use Rattle.xr_defs.specs.Results.{◌>>=◌, unless, all_of}
-use Rattle.xr_defs.specs.Points.{size}
-use Rattle.xr_defs.specs.Arrays.{Array}
+use Rattle.xr_types.specs.Results.{◌>>=◌, unless, all_of}
+use Rattle.xr_types.specs.Points.{size}
+use Rattle.xr_arrays.specs.Arrays.{Array}
 use Rattle.xr_defs.specs.Slices.{slice_positions}
-use Rattle.xr_defs.specs.Values.{DataArray, Dataset, Variable, array_of, axis_position, no_axis, shape_over, chosen_axes, chosen_cells, chosen_coord}
+use Rattle.xr_types.specs.Names.{shape_over}
+use Rattle.xr_defs.specs.Values.{DataArray, Dataset, Variable, array_of, axis_position, no_axis, chosen_axes, chosen_cells, chosen_coord}
 use Rattle.xr_defs.specs.Limits.{most_cells, most_variables}
-use Rattle.xr_defs.specs.Nodes.{without, picked_from}
+use Rattle.xr_arrays.specs.Nodes.{without, picked_from}
 use Rattle.xr_defs.specs.Meanings.{Value, Values, Number, Sequence, Slice, NoValue, With, Given}
 use Rattle.xr_defs.specs.Arguments.{wrong, Positions, as_positions, check_dimension}
 

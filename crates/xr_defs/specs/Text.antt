@@ -7,8 +7,9 @@ use Rattle.xr_types.specs.declared.axis.LabelList.{LabelList}
 use Rattle.xr_types.specs.declared.axis.LabelList.TheVariants.{Numbers, Times, Texts}
 use Rattle.xr_types.specs.declared.kind.DType.{DType}
 use Rattle.xr_types.specs.declared.kind.DType.TheVariants as kinds
-use Rattle.xr_defs.specs.Times.{time_text}
-use Rattle.xr_defs.specs.Values.{DataArray, shape_over}
+use Rattle.xr_arrays.specs.Times.{time_text}
+use Rattle.xr_types.specs.Names.{shape_over}
+use Rattle.xr_defs.specs.Values.{DataArray}
 
 -- ---- names and texts
 

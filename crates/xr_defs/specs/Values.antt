@@ -9,11 +9,12 @@ use Rattle.xr_types.specs.declared.axis.LabelList.TheVariants.{Numbers, Times, T
 use Rattle.xr_types.specs.declared.kind.DType.{DType}
 use Rattle.xr_types.specs.declared.kind.DType.TheVariants.{Int64}
 use Rattle.xr_types.specs.Kinds.{wrap_to}
+use Rattle.xr_types.specs.Names.{shape_over}
 use Rattle.xr_defs.specs.declared.value.Content.{Content}
 use Rattle.xr_defs.specs.declared.value.Content.TheVariants.{Cells}
 use Rattle.xr_defs.specs.declared.value.Coord.{Coord}
-use Rattle.xr_defs.specs.Arrays.{Array, at, made}
-use Rattle.xr_defs.specs.Numbers.{sum_of}
+use Rattle.xr_arrays.specs.Arrays.{Array, at, made}
+use Rattle.xr_arrays.specs.Numbers.{sum_of}
 
 -- an array with an optional name, axes in order, cells in row order, attributes and non-index coordinates in order
 pub record DataArray : Type 0 where
@@ -40,12 +41,6 @@ pub record Dataset : Type 0 where
   pub vars : List Variable
   pub attrs : List Attr
   pub skipped : List (List ℕ)
-
-abbrev pub axis_names : List Axis → List (List ℕ)
-axis_names axes = map (λ (x : Axis). x.name) axes
-
-abbrev pub shape_over : List Axis → List ℕ
-shape_over axes = map (λ (x : Axis). x.size) axes
 
 -- the cells with their kind and shape
 abbrev pub array_of : DataArray → Array

@@ -1,5 +1,5 @@
 //! Parts of arrays and datasets.
-use crate::array::ArrayValue;
+use xr_arrays::ArrayValue;
 use xr_types::{Attr, Axis, Items, Name, TextBytes, TimeCoding};
 
 /// What a coordinate that is no index holds, always computed.

@@ -6,7 +6,7 @@ use Rattle.std.proofs.lemmas.List.{at_drop_more}
 use Rattle.xr_types.specs.declared.attr.Attr.{Attr}
 use Rattle.xr_types.specs.declared.kind.DType.{DType}
 use Rattle.xr_defs.specs.declared.write_options.WriteOptions.{WriteOptions}
-use Rattle.xr_defs.specs.Results.{◌>>=◌, unless}
+use Rattle.xr_types.specs.Results.{◌>>=◌, unless}
 use Rattle.xr_defs.specs.Decoding.{is_attr, own_fill, fill_numbers, attr_numbers, the_one}
 use Rattle.xr_defs.specs.Encoding.{Stored, type_of, holds, first_of, fill_for, own_attr, fill_added, check_fit, text_attr, dtype_added, coordinates_added, attrs_of}
 use Rattle.xr_encode.specs.declared.outline.Outline.{Outline}

@@ -1,13 +1,13 @@
 -- A file is as large without the values of its variables.
 use Rattle.std.proofs.Common.{◌≡◌, ◌+◌, ◌*◌, ℕ, suc, Bool, true, false, cond, List, [], ◌∷◌, ◌++◌, length, map, sum, refl, ap, ◌∙◌}
 use Rattle.std.specs.Prelude.{not, filter, flat_map, ◌&&◌, ◌==◌, nat_le, if◌then◌else◌}
-use Rattle.xr_defs.specs.declared.file.CdfDim.{CdfDim}
-use Rattle.xr_defs.specs.declared.file.CdfVar.{CdfVar}
-use Rattle.xr_defs.specs.declared.file.CdfFile.{CdfFile}
-use Rattle.xr_defs.specs.declared.node.Node.{Node}
+use Rattle.xr_files.specs.declared.file.CdfDim.{CdfDim}
+use Rattle.xr_files.specs.declared.file.CdfVar.{CdfVar}
+use Rattle.xr_files.specs.declared.file.CdfFile.{CdfFile}
+use Rattle.xr_arrays.specs.declared.node.Node.{Node}
 use Rattle.xr_defs.specs.declared.write_options.WriteOptions.{WriteOptions}
-use Rattle.xr_defs.specs.Files.{magic, most_bytes, padded}
-use Rattle.xr_defs.specs.Canonical.{number_text, list_text, dim_text, attr_text, var_text, header_size, is_record, fixed_vars, record_vars, room, slab, fixed_size, recsize, is_small}
+use Rattle.xr_files.specs.Files.{magic, most_bytes, padded}
+use Rattle.xr_files.specs.Canonical.{number_text, list_text, dim_text, attr_text, var_text, header_size, is_record, fixed_vars, record_vars, room, slab, fixed_size, recsize, is_small}
 use Rattle.xr_defs.specs.Encoding.{Stored, stored, encoded, var_of, dims_of, coordinates_added, listed_by_none}
 use Rattle.xr_values.specs.declared.dataset.Dataset.{Dataset}
 use Rattle.xr_values.specs.Stands.{dataset_in}

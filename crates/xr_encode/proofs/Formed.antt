@@ -20,19 +20,23 @@ use Rattle.xr_types.specs.declared.axis.LabelList.TheVariants.{Numbers, Times, T
 use Rattle.xr_types.specs.declared.fault.Fault.TheVariants.{DuplicateName, CannotHold}
 use Rattle.xr_types.specs.declared.kind.DType.{DType}
 use Rattle.xr_types.specs.declared.kind.DType.TheVariants as kinds
-use Rattle.xr_defs.specs.declared.file.CdfDim.{CdfDim}
-use Rattle.xr_defs.specs.declared.file.CdfVar.{CdfVar}
-use Rattle.xr_defs.specs.declared.file.CdfFile.{CdfFile}
+use Rattle.xr_files.specs.declared.file.CdfDim.{CdfDim}
+use Rattle.xr_files.specs.declared.file.CdfVar.{CdfVar}
+use Rattle.xr_files.specs.declared.file.CdfFile.{CdfFile}
 use Rattle.xr_defs.specs.declared.value.Content.{Content}
 use Rattle.xr_defs.specs.declared.value.Content.TheVariants as contents
 use Rattle.xr_defs.specs.declared.value.Coord.{Coord}
 use Rattle.xr_defs.specs.declared.write_options.WriteOptions.{WriteOptions}
-use Rattle.xr_defs.specs.Results.{◌>>=◌, unless, all_of}
-use Rattle.xr_defs.specs.Points.{size}
-use Rattle.xr_defs.specs.Classic.{among, attr_names, dim_names, width, is_name}
-use Rattle.xr_defs.specs.Files.{is_version, positions, shape_of, streaming}
-use Rattle.xr_defs.specs.Canonical.{are_distinct, can_hold, in_place, count_record_dims, is_small, slab, dim_text, var_text, IsDim, IsVar, IsFile}
-use Rattle.xr_defs.specs.Values.{Dataset, Variable, axis_names, shape_over, label_count}
+use Rattle.xr_types.specs.Results.{◌>>=◌, unless, all_of}
+use Rattle.xr_types.specs.Points.{size}
+use Rattle.xr_types.specs.Names.{among}
+use Rattle.xr_types.specs.Widths.{width}
+use Rattle.xr_files.specs.Classic.{attr_names, dim_names, is_name}
+use Rattle.xr_files.specs.Files.{is_version, positions, shape_of, streaming}
+use Rattle.xr_types.specs.Names.{are_distinct}
+use Rattle.xr_files.specs.Canonical.{can_hold, in_place, count_record_dims, is_small, slab, dim_text, var_text, IsDim, IsVar, IsFile}
+use Rattle.xr_types.specs.Names.{axis_names, shape_over}
+use Rattle.xr_defs.specs.Values.{Dataset, Variable, label_count}
 use Rattle.xr_defs.specs.Selecting.{axis_called}
 use Rattle.xr_defs.specs.Printing.{by_name}
 use Rattle.xr_defs.specs.Decoding.{is_attr, is_blank, string_name}

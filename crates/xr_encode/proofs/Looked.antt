@@ -10,12 +10,15 @@ use Rattle.std.proofs.lemmas.List.Elements.{filter-append}
 use Rattle.std.proofs.lemmas.Fmt.{decimal_injective}
 use Rattle.std.proofs.Math.Dec.{eqb-suc-zero}
 use Rattle.xr_types.specs.declared.axis.Axis.{Axis}
-use Rattle.xr_defs.specs.declared.file.CdfDim.{CdfDim}
+use Rattle.xr_files.specs.declared.file.CdfDim.{CdfDim}
 use Rattle.xr_defs.specs.declared.write_options.WriteOptions.{WriteOptions}
-use Rattle.xr_defs.specs.Classic.{among, dim_at, dim_names, is_record_dim}
-use Rattle.xr_defs.specs.Canonical.{are_distinct, in_place, count_record_dims}
-use Rattle.xr_defs.specs.Files.{positions, shape_of}
-use Rattle.xr_defs.specs.Values.{Dataset, axis_names, axis_position, no_axis}
+use Rattle.xr_types.specs.Names.{among}
+use Rattle.xr_files.specs.Classic.{dim_at, dim_names, is_record_dim}
+use Rattle.xr_types.specs.Names.{are_distinct}
+use Rattle.xr_files.specs.Canonical.{in_place, count_record_dims}
+use Rattle.xr_files.specs.Files.{positions, shape_of}
+use Rattle.xr_types.specs.Names.{axis_names}
+use Rattle.xr_defs.specs.Values.{Dataset, axis_position, no_axis}
 use Rattle.xr_defs.specs.Selecting.{axis_called}
 use Rattle.xr_defs.specs.Decoding.{string_name}
 use Rattle.xr_defs.specs.Encoding.{axis_named, is_that, dim_of_axis, string_dim, number_of_dim, dims_of, record_dim, records_of, empty_axes, text_widths, has_width}

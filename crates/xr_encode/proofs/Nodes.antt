@@ -6,14 +6,14 @@ use Rattle.std.proofs.lemmas.List.{at_drop_more, drop_more}
 use Rattle.xr_types.specs.declared.fault.Fault.{Fault}
 use Rattle.xr_types.specs.declared.fault.CallFault.{CallFault}
 use Rattle.xr_types.specs.declared.fault.CallFault.TheVariants.{Refused, Declined, NoMemory}
-use Rattle.xr_defs.specs.declared.file.CdfDim.{CdfDim}
-use Rattle.xr_defs.specs.declared.file.CdfVar.{CdfVar}
-use Rattle.xr_defs.specs.declared.node.Node.{Node}
+use Rattle.xr_files.specs.declared.file.CdfDim.{CdfDim}
+use Rattle.xr_files.specs.declared.file.CdfVar.{CdfVar}
+use Rattle.xr_arrays.specs.declared.node.Node.{Node}
 use Rattle.xr_defs.specs.declared.value.Coord.{Coord}
 use Rattle.xr_defs.specs.declared.write_options.WriteOptions.{WriteOptions}
-use Rattle.xr_defs.specs.Results.{◌>>=◌, unless, all_of, Answers}
-use Rattle.xr_defs.specs.Arrays.{Array, IsCell}
-use Rattle.xr_defs.specs.Nodes.{value}
+use Rattle.xr_types.specs.Results.{◌>>=◌, unless, all_of, Answers}
+use Rattle.xr_arrays.specs.Arrays.{Array, IsCell}
+use Rattle.xr_arrays.specs.Nodes.{value}
 use Rattle.xr_defs.specs.Encoding.{Stored, check_fit}
 use Rattle.xr_values.specs.declared.variable.Variable.{Variable}
 use Rattle.xr_values.specs.WellFormed.{AreSeen}

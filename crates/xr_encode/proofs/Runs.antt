@@ -4,7 +4,7 @@ use Rattle.std.proofs.Math.Dec.{eqb-suc-zero}
 use Rattle.std.proofs.lemmas.Bool.{and_parts}
 use Rattle.std.proofs.lemmas.List.{append-nil, at_drop_more, at_drop_all, get_or-map, length-map}
 use Rattle.xr_types.specs.declared.attr.NcType.{NcType}
-use Rattle.xr_defs.specs.Arrays.{hidden, cell}
+use Rattle.xr_arrays.specs.Arrays.{hidden, cell}
 use Rattle.xr_defs.specs.Encoding.{holds, value_bytes}
 use Rattle.xr_encode.specs.Rows.{number_or, cells_bytes, are_held}
 

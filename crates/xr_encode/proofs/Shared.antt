@@ -14,12 +14,12 @@ use Rattle.xr_types.specs.declared.attr.NcType.{NcType}
 use Rattle.xr_types.specs.declared.attr.NcType.TheVariants.{Byte, Char, Short, Int, Float, Double}
 use Rattle.xr_types.specs.declared.kind.DType.{DType}
 use Rattle.xr_types.specs.declared.kind.DType.TheVariants as kinds
-use Rattle.xr_defs.specs.Arrays.{IsCell}
-use Rattle.xr_defs.proofs.FormatLaws.{IsBytes, IsBytes-drop, IsBytes-take}
-use Rattle.xr_defs.specs.Points.{size}
-use Rattle.xr_defs.specs.Classic.{width}
-use Rattle.xr_defs.specs.Numbers.{is_whole, cells_kind, number_in, value_at, numbers_of}
-use Rattle.xr_defs.specs.Stored.{is_fill, unless_fill, stored_cells, IsStored}
+use Rattle.xr_arrays.specs.Arrays.{IsCell}
+use Rattle.xr_files.proofs.FormatLaws.{IsBytes, IsBytes-drop, IsBytes-take}
+use Rattle.xr_types.specs.Points.{size}
+use Rattle.xr_types.specs.Widths.{width}
+use Rattle.xr_arrays.specs.Numbers.{is_whole, cells_kind, number_in, value_at, numbers_of}
+use Rattle.xr_arrays.specs.Stored.{is_fill, unless_fill, stored_cells, IsStored}
 use Rattle.xr_defs.specs.Encoding.{holds_cell, type_of, value_bytes}
 use Rattle.cdf_writer.proofs.Standing.{pieces}
 use Rattle.xr_encode.proofs.Ranges.{cells_hold}

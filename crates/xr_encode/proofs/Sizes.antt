@@ -5,12 +5,12 @@ use lib.Dec.{leb}
 use Rattle.std.proofs.lemmas.Bool.{cases_lt, lt-leb}
 use Rattle.std.proofs.lemmas.List.{at_drop_more}
 use Rattle.std.proofs.Math.Nat.{mul_assoc, mul_comm}
-use Rattle.xr_defs.specs.declared.file.CdfDim.{CdfDim}
-use Rattle.xr_defs.specs.declared.file.CdfFile.{CdfFile}
-use Rattle.xr_defs.specs.Canonical.{canonical_size, fixed_size, header_size, is_small, recsize}
-use Rattle.xr_defs.specs.Points.{size}
-use Rattle.xr_defs.specs.Classic.{dim_at}
-use Rattle.xr_defs.specs.Files.{positions, shape_of}
+use Rattle.xr_files.specs.declared.file.CdfDim.{CdfDim}
+use Rattle.xr_files.specs.declared.file.CdfFile.{CdfFile}
+use Rattle.xr_files.specs.Canonical.{canonical_size, fixed_size, header_size, is_small, recsize}
+use Rattle.xr_types.specs.Points.{size}
+use Rattle.xr_files.specs.Classic.{dim_at}
+use Rattle.xr_files.specs.Files.{positions, shape_of}
 use Rattle.cdf_writer.specs.Sizes.{capped}
 use Rattle.cdf_writer.proofs.Rooms.{capped_product}
 

@@ -5,7 +5,7 @@ use Rattle.std.proofs.lemmas.List.{drop_more, drop_all}
 use Rattle.xr_defs.specs.declared.value.Coord.{Coord}
 use Rattle.xr_defs.specs.Printing.{is_below, by_name, put_coord}
 use Rattle.xr_defs.specs.Encoding.{all_among, coords_over}
-use Rattle.xr_defs.specs.Values.{axis_names}
+use Rattle.xr_types.specs.Names.{axis_names}
 
 put_here : {R : Type 0} (see : R → Coord) (r d : R) (ds : List R) (b : Bool) → map see (insert ds (prefix_len (λ e. is_below (see e).name (see r).name) ds) r) ≡ put_coord (see r) (map see ds)
     → map see (insert (d ∷ ds) (cond b (1 + prefix_len (λ e. is_below (see e).name (see r).name) ds) 0) r) ≡ cond b (see d ∷ put_coord (see r) (map see ds)) (see r ∷ see d ∷ map see ds)

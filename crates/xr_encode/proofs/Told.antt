@@ -14,12 +14,12 @@ use Rattle.xr_types.specs.declared.axis.LabelList.{LabelList}
 use Rattle.xr_types.specs.declared.axis.LabelList.TheVariants.{Numbers, Times, Texts}
 use Rattle.xr_defs.specs.declared.value.Content.{Content}
 use Rattle.xr_defs.specs.declared.value.Content.TheVariants as contents
-use Rattle.xr_defs.specs.declared.node.Node.{Node}
+use Rattle.xr_arrays.specs.declared.node.Node.{Node}
 use Rattle.xr_defs.specs.declared.value.Coord.{Coord}
 use Rattle.xr_defs.specs.declared.write_options.WriteOptions.{WriteOptions}
-use Rattle.xr_defs.specs.Results.{◌>>=◌, unless, all_of}
+use Rattle.xr_types.specs.Results.{◌>>=◌, unless, all_of}
 use Rattle.xr_defs.specs.Printing.{by_name, put_coord, is_below}
-use Rattle.xr_defs.specs.Classic.{among}
+use Rattle.xr_types.specs.Names.{among}
 use Rattle.xr_defs.specs.Values as of
 use Rattle.xr_defs.specs.Encoding.{Stored, stored, stored_index, stored_labels, stored_content, stored_coord, stored_variable, coord_names, has_width, text_widths, are_new, added, coordinates_added, listed_by_none, is_listed, listed_by, is_that, record_dim, empty_axes, stands_first, check_unlimited, check_names, check_records, check_fill, check_fit}
 use Rattle.xr_values.specs.declared.variable.Variable.{Variable}

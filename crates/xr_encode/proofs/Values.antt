@@ -4,7 +4,7 @@ use Rattle.std.specs.Int.{w8, w16, w32, from_be_bytes}
 use Rattle.std.proofs.lemmas.List.{get_or-take, get_or-drop}
 use Rattle.std.proofs.lemmas.List.FromFn.{map-range_with_len_more}
 use Rattle.xr_types.specs.declared.attr.NcType.{NcType}
-use Rattle.xr_defs.specs.Numbers.{number_in, value_at}
+use Rattle.xr_arrays.specs.Numbers.{number_in, value_at}
 use Rattle.xr_encode.specs.Numbers.{numbers_to}
 
 byte_of : (raw : List ℕ) (a k n : ℕ) → k < n → slice_index (take n (drop a raw)) k ≡ get_or raw (a + k) 0

@@ -3,11 +3,11 @@ use Rattle.std.proofs.Common.{◌≡◌, ◌<◌, ◌^◌, ℕ, Bool, true, List
 use Rattle.std.specs.Prelude.{IfOk}
 use Rattle.std.specs.List.{AllByRecursion}
 use Rattle.xr_types.specs.declared.fault.CallFault.{CallFault}
-use Rattle.xr_defs.specs.declared.file.CdfFile.{CdfFile}
-use Rattle.xr_defs.specs.declared.node.Node.{Node}
+use Rattle.xr_files.specs.declared.file.CdfFile.{CdfFile}
+use Rattle.xr_arrays.specs.declared.node.Node.{Node}
 use Rattle.xr_defs.specs.declared.write_options.WriteOptions.{WriteOptions}
-use Rattle.xr_defs.specs.Files.{is_version}
-use Rattle.xr_defs.specs.Canonical.{IsFile, can_hold, is_small}
+use Rattle.xr_files.specs.Files.{is_version}
+use Rattle.xr_files.specs.Canonical.{IsFile, can_hold, is_small}
 use Rattle.xr_values.specs.declared.dataset.Dataset.{Dataset}
 use Rattle.xr_values.specs.Stands.{dataset_in, IsDatasetIn}
 use Rattle.xr_encode.specs.Encoded.{file_in, Follows}

@@ -6,7 +6,7 @@ use Rattle.xr_types.specs.declared.fault.Fault.TheVariants.{DuplicateName, Canno
 use Rattle.xr_types.specs.declared.attr.Attr.{Attr}
 use Rattle.xr_types.specs.declared.axis.Axis.{Axis}
 use Rattle.xr_defs.specs.declared.write_options.WriteOptions.{WriteOptions}
-use Rattle.xr_defs.specs.Results.{◌>>=◌, unless}
+use Rattle.xr_types.specs.Results.{◌>>=◌, unless}
 use Rattle.xr_defs.specs.Values.{Dataset}
 use Rattle.xr_defs.specs.Decoding.{is_attr, is_blank}
 use Rattle.xr_defs.specs.Encoding.{has_width, are_new, added, coordinates_added, is_that, record_dim, empty_axes, stands_first}

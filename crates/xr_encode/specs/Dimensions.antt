@@ -1,7 +1,7 @@
 -- The dimensions of the file of some axes and of texts of some widths.
 use Rattle.std.specs.Prelude.{ℕ, Bool, List, ◌++◌, map, filter, is_none}
 use Rattle.xr_types.specs.declared.axis.Axis.{Axis}
-use Rattle.xr_defs.specs.declared.file.CdfDim.{CdfDim}
+use Rattle.xr_files.specs.declared.file.CdfDim.{CdfDim}
 use Rattle.xr_defs.specs.declared.write_options.WriteOptions.{WriteOptions}
 use Rattle.xr_defs.specs.Decoding.{string_name}
 use Rattle.xr_defs.specs.Encoding.{axis_named, record_dim, dim_of_axis, string_dim}

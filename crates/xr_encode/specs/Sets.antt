@@ -2,7 +2,7 @@
 use Rattle.std.specs.Prelude.{ℕ, Bool, not, List, ◌++◌, map, filter}
 use Rattle.std.specs.List.{list_any}
 use Rattle.xr_defs.specs.declared.value.Coord.{Coord}
-use Rattle.xr_defs.specs.Classic.{among}
+use Rattle.xr_types.specs.Names.{among}
 use Rattle.xr_defs.specs.Printing.{by_name}
 use Rattle.xr_defs.specs.Encoding.{coords_over, coord_names}
 use Rattle.xr_values.specs.declared.variable.Variable.{Variable}

@@ -3,13 +3,13 @@ use Rattle.std.specs.Prelude.{◌≡◌, ◌++◌, ℕ, Bool, true, false, List,
 use Rattle.xr_types.specs.declared.fault.Fault.{Fault}
 use Rattle.xr_types.specs.declared.fault.CallFault.{CallFault}
 use Rattle.xr_types.specs.declared.fault.CallFault.TheVariants.{Refused, Declined, NoMemory}
-use Rattle.xr_defs.specs.declared.file.CdfDim.{CdfDim}
-use Rattle.xr_defs.specs.declared.file.CdfVar.{CdfVar}
+use Rattle.xr_files.specs.declared.file.CdfDim.{CdfDim}
+use Rattle.xr_files.specs.declared.file.CdfVar.{CdfVar}
 use Rattle.xr_defs.specs.declared.write_options.WriteOptions.{WriteOptions}
-use Rattle.xr_defs.specs.Results.{◌>>=◌}
+use Rattle.xr_types.specs.Results.{◌>>=◌}
 use Rattle.xr_defs.specs.Encoding.{Stored, check_cells, var_of, type_of, value_bytes, number_for}
 use Rattle.xr_defs.specs.declared.value.Coord.{Coord}
-use Rattle.xr_defs.specs.Values.{shape_over}
+use Rattle.xr_types.specs.Names.{shape_over}
 use Rattle.xr_values.specs.WellFormed.{IsContent}
 use Rattle.xr_encode.specs.declared.outline.Outline.{Outline}
 use Rattle.xr_encode.specs.Outlines.{without_cells}

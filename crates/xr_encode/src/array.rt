@@ -2,7 +2,7 @@
 ghost use Rattle.std.specs.Prelude.{◌≡◌, true, map, option_copied, All, IfOk};
 ghost use Rattle.std.specs.List.{list_all, list_any};
 ghost use Rattle.xr_types.specs.declared.attr.NcType.TheVariants as types;
-ghost use Rattle.xr_defs.specs.Arrays.{hidden, wide, kind_of, IsCell};
+ghost use Rattle.xr_arrays.specs.Arrays.{hidden, wide, kind_of, IsCell};
 ghost use Rattle.xr_defs.specs.Encoding.{holds_cell, type_of};
 ghost use Rattle.xr_encode.specs.Rows.{cells_bytes, are_held, is_number};
 
@@ -12,7 +12,7 @@ use crate::stored::{shared_bytes, stored_has, stored_holds};
 use bytes::Bytes;
 use std::alloc::{AllocError, Global};
 use stored_cells::as_typed;
-use xr_defs::{ArrayValue, Cells, Form};
+use xr_arrays::{ArrayValue, Cells, Form};
 use xr_types::{Elem, Items};
 
 fn are_typed_ints(cells: &[i64], mask: Option<&Items<u8>>) -> bool

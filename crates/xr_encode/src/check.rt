@@ -1,7 +1,7 @@
 //! The checks that look at no cells.
 ghost use Rattle.std.specs.Prelude.{◌≡◌, map, option_copied, IfOk};
 ghost use Rattle.std.specs.List.{list_any, list_all};
-ghost use Rattle.xr_defs.specs.Results.{Answers, unless, all_of};
+ghost use Rattle.xr_types.specs.Results.{Answers, unless, all_of};
 ghost use Rattle.xr_defs.specs.Decoding.{is_attr};
 ghost use Rattle.xr_defs.specs.Encoding.{has_width, are_new, coord_names, dtype_added, coordinates_added, is_that, empty_axes, stands_first, check_unlimited, check_fill, check_fit};
 ghost use Rattle.xr_encode.specs.Outlines.{without_cells};
@@ -17,7 +17,7 @@ use xr_defs::{Coord, WriteOptions};
 use xr_types::{Attr, Axis, CallFault, DType, DeepCopy, Fault, Name};
 
 /// A fault unless the test holds.
-#[tactic(auto, unfolding(xr_defs::specs::Results::unless))]
+#[tactic(auto, unfolding(xr_types::specs::Results::unless))]
 pub fn refuse_unless(holds: bool, fault: Fault) -> Result<(), CallFault>
     ensures { Answers (λ u. u) result (unless holds fault) }
 {
@@ -29,7 +29,7 @@ pub fn refuse_unless(holds: bool, fault: Fault) -> Result<(), CallFault>
 }
 
 /// The dimension that is asked for is there.
-#[tactic(auto, unfolding(xr_defs::specs::Encoding::check_unlimited, xr_defs::specs::Results::unless))]
+#[tactic(auto, unfolding(xr_defs::specs::Encoding::check_unlimited, xr_types::specs::Results::unless))]
 pub fn check_unlimited(
     alloc: Global,
     axes: &[Axis],

@@ -2,9 +2,9 @@
 ghost use Rattle.std.specs.Prelude.{◌≡◌, ◌<◌, ℕ, List, length, map, Ok};
 ghost use Rattle.std.specs.List.{AllByRecursion};
 ghost use denote.Param.Send.{IsSync};
-ghost use Rattle.xr_defs.specs.Results.{all_of};
+ghost use Rattle.xr_types.specs.Results.{all_of};
 ghost use Rattle.xr_defs.specs.Encoding.{check_fit};
-ghost use Rattle.xr_defs.specs.declared.node.Node.{Node};
+ghost use Rattle.xr_arrays.specs.declared.node.Node.{Node};
 ghost use Rattle.xr_encode.specs.Outlines.{without_cells};
 ghost use Rattle.xr_encode.specs.Sets.{variable_outline};
 ghost use Rattle.xr_encode.specs.Encoded.{node_cells, computed_var, computed_from, IsReady, Follows, Adds};
@@ -14,11 +14,13 @@ use crate::set::variable_outline;
 use plan_core::Compute;
 use std::alloc::Global;
 use std::thread::Threads;
-use xr_defs::{ArrayValue, CdfDim, CdfVar, Coord, WriteOptions};
+use xr_files::{CdfDim, CdfVar};
+use xr_arrays::ArrayValue;
+use xr_defs::{Coord, WriteOptions};
 use xr_types::{CallFault, ComputeFault, Items, NodeId};
 use xr_values::{Cx, Variable};
 
-#[tactic(auto, unfolding(crate::specs::Encoded::node_cells, xr_defs::specs::Results::unless))]
+#[tactic(auto, unfolding(crate::specs::Encoded::node_cells, xr_types::specs::Results::unless))]
 fn node_cells<R: Threads + Sync, C: Compute>(
     rt: &R,
     alloc: Global,

@@ -2,8 +2,8 @@
 ghost use Rattle.std.specs.Prelude.{◌≡◌, ◌≤◌, length, map, IfOk, OnOk};
 ghost use Rattle.std.specs.List.{prefix_len};
 ghost use Rattle.xr_defs.specs.Printing.{is_below, by_name, put_coord};
-ghost use Rattle.xr_defs.specs.Classic.{among};
-ghost use Rattle.xr_defs.specs.Values.{axis_names};
+ghost use Rattle.xr_types.specs.Names.{among};
+ghost use Rattle.xr_types.specs.Names.{axis_names};
 ghost use Rattle.xr_defs.specs.Encoding.{all_among, coords_over, coord_names};
 
 use std::alloc::{AllocError, Global};

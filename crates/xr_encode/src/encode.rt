@@ -1,12 +1,12 @@
 //! From a dataset to its file.
 ghost use Rattle.std.specs.Prelude.{◌≡◌, ℕ, List, true, false, map, Ok, IfOk};
 ghost use denote.Param.Send.{IsSync};
-ghost use Rattle.xr_defs.specs.Results.{Answers, all_of};
-ghost use Rattle.xr_defs.specs.Canonical.{IsFile, can_hold, is_small};
-ghost use Rattle.xr_defs.specs.Files.{is_version};
+ghost use Rattle.xr_types.specs.Results.{Answers, all_of};
+ghost use Rattle.xr_files.specs.Canonical.{IsFile, can_hold, is_small};
+ghost use Rattle.xr_files.specs.Files.{is_version};
 ghost use Rattle.xr_defs.specs.Printing.{by_name};
 ghost use Rattle.xr_defs.specs.Encoding.{check_fit, file_of};
-ghost use Rattle.xr_defs.specs.declared.node.Node.{Node};
+ghost use Rattle.xr_arrays.specs.declared.node.Node.{Node};
 ghost use Rattle.xr_values.specs.Stands.{dataset_in, IsDatasetIn};
 ghost use Rattle.xr_encode.specs.Outlines.{without_cells};
 ghost use Rattle.xr_encode.specs.Sets.{outlines_of};
@@ -24,7 +24,8 @@ use crate::widths::read_widths;
 use plan_core::Compute;
 use std::alloc::Global;
 use std::thread::Threads;
-use xr_defs::{CdfDim, CdfFile, CdfVar, Coord, WriteOptions};
+use xr_files::{CdfDim, CdfFile, CdfVar};
+use xr_defs::{Coord, WriteOptions};
 use xr_types::{CallFault, Fault, Items};
 use xr_values::{Cx, Dataset};
 
@@ -93,7 +94,7 @@ fn vars_of<R: Threads + Sync, C: Compute>(
 }
 
 // The file of these parts.
-#[tactic(auto, unfolding(crate::specs::Frames::file_walked, xr_defs::specs::Results::unless))]
+#[tactic(auto, unfolding(crate::specs::Frames::file_walked, xr_types::specs::Results::unless))]
 fn encode_parts<R: Threads + Sync, C: Compute>(
     rt: &R,
     alloc: Global,

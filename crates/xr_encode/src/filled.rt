@@ -1,8 +1,8 @@
 //! Variables of arrays: their cells are checked and then written.
 ghost use Rattle.std.specs.Prelude.{◌≡◌, Ok, All, IfOk};
 ghost use Rattle.std.specs.List.{list_any};
-ghost use Rattle.xr_defs.specs.Results.{Answers};
-ghost use Rattle.xr_defs.specs.Arrays.{IsCell};
+ghost use Rattle.xr_types.specs.Results.{Answers};
+ghost use Rattle.xr_arrays.specs.Arrays.{IsCell};
 ghost use Rattle.xr_defs.specs.Encoding.{check_cells, check_fit, fills_in_use, is_fill_cell};
 ghost use Rattle.xr_values.specs.WellFormed.{AreSeen};
 ghost use Rattle.xr_encode.specs.Outlines.{filled_with, without_cells};
@@ -16,7 +16,9 @@ use crate::frame::var_with;
 use crate::outline::Outline;
 use bytes::Bytes;
 use std::alloc::{AllocError, Global};
-use xr_defs::{ArrayValue, CdfDim, CdfVar, WriteOptions};
+use xr_files::{CdfDim, CdfVar};
+use xr_arrays::ArrayValue;
+use xr_defs::WriteOptions;
 use xr_types::{CallFault, Fault};
 
 fn has_any(array: &ArrayValue, numbers: &[i64]) -> bool
@@ -49,7 +51,7 @@ fn collides(
 }
 
 // The type holds each number, and no number that is there reads as missing.
-#[tactic(auto, unfolding(xr_defs::specs::Encoding::check_cells, xr_defs::specs::Results::unless))]
+#[tactic(auto, unfolding(xr_defs::specs::Encoding::check_cells, xr_types::specs::Results::unless))]
 fn check_array(
     alloc: Global,
     options: &WriteOptions,

@@ -1,6 +1,6 @@
 //! The file of a dataset, but for the values of its variables.
 ghost use Rattle.std.specs.Prelude.{◌≡◌, map, Ok, IfOk};
-ghost use Rattle.xr_defs.specs.Results.{all_of};
+ghost use Rattle.xr_types.specs.Results.{all_of};
 ghost use Rattle.xr_defs.specs.Encoding.{check_fit, var_of};
 ghost use Rattle.xr_encode.specs.Outlines.{without_cells};
 ghost use Rattle.xr_encode.specs.Walk.{var_with};
@@ -13,7 +13,8 @@ use crate::outline::Outline;
 use crate::parts::Parts;
 use bytes::Bytes;
 use std::alloc::{AllocError, Global};
-use xr_defs::{CdfDim, CdfFile, CdfVar, WriteOptions};
+use xr_files::{CdfDim, CdfFile, CdfVar};
+use xr_defs::WriteOptions;
 use xr_types::{DeepCopy, Items};
 use xr_values::Dataset;
 

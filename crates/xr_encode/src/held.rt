@@ -1,7 +1,7 @@
 //! The variables whose cells a dataset holds itself: indexes and other coordinates.
 ghost use Rattle.std.specs.Prelude.{◌≡◌, Ok, map};
 ghost use Rattle.std.specs.List.{filter_map, AllByRecursion};
-ghost use Rattle.xr_defs.specs.Results.{Answers, all_of};
+ghost use Rattle.xr_types.specs.Results.{Answers, all_of};
 ghost use Rattle.xr_defs.specs.Encoding.{stored_index, stored_labels, stored_coord, check_fit};
 ghost use Rattle.xr_values.specs.WellFormed.{AreLabels, IsDimension};
 ghost use Rattle.xr_encode.specs.Walk.{var_checked, vars_from, Puts, HasContent};
@@ -11,7 +11,8 @@ use crate::outline::{coord_outline, labels_outline};
 use crate::plain::{labels_var, texts_var};
 use std::alloc::Global;
 use std::slice::from_ref;
-use xr_defs::{CdfDim, CdfVar, Content, Coord, WriteOptions};
+use xr_files::{CdfDim, CdfVar};
+use xr_defs::{Content, Coord, WriteOptions};
 use xr_types::{Axis, CallFault, Items, LabelList, Labels, Name};
 
 // The variable of the labels of an axis.

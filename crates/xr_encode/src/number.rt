@@ -2,8 +2,8 @@
 ghost use Rattle.std.specs.Prelude.{◌≡◌, ◌<◌, ◌/◌, ◌++◌, true, length, pos, ℤ, OnOk};
 ghost use Rattle.xr_types.specs.declared.attr.NcType.{NcType as FileType};
 ghost use Rattle.xr_types.specs.declared.attr.NcType.TheVariants as types;
-ghost use Rattle.xr_defs.specs.Classic.{width};
-ghost use Rattle.xr_defs.specs.Numbers.{number_in, value_at, numbers_of};
+ghost use Rattle.xr_types.specs.Widths.{width};
+ghost use Rattle.xr_arrays.specs.Numbers.{number_in, value_at, numbers_of};
 ghost use Rattle.xr_defs.specs.Decoding.{is_integer};
 ghost use Rattle.xr_defs.specs.Encoding.{holds, may_fill, type_of, value_bytes};
 

@@ -2,7 +2,7 @@
 //! variables in order.
 ghost use Rattle.std.specs.Prelude.{◌≡◌, ◌∷◌, ◌++◌, [], false, map, IfOk, OnOk};
 ghost use Rattle.xr_defs.specs.Encoding.{stored_labels, stored_content, stored_coord, stored_cells, stored_texts};
-ghost use Rattle.xr_defs.specs.Values.{axis_names};
+ghost use Rattle.xr_types.specs.Names.{axis_names};
 ghost use Rattle.xr_defs.specs.Decoding.{string_name};
 ghost use Rattle.xr_types.specs.declared.kind.DType.TheVariants as kinds;
 ghost use Rattle.xr_encode.specs.Outlines.{outline_of, index_outlines, coord_outlines};

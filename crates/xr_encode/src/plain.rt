@@ -1,7 +1,7 @@
 //! Variables without missing cells: labels and texts.
 ghost use Rattle.std.specs.Prelude.{◌≡◌, false, map, Some};
 ghost use Rattle.xr_types.specs.declared.kind.DType.TheVariants as kinds;
-ghost use Rattle.xr_defs.specs.Results.{Answers};
+ghost use Rattle.xr_types.specs.Results.{Answers};
 ghost use Rattle.xr_defs.specs.Encoding.{text_cells};
 ghost use Rattle.xr_encode.specs.Outlines.{filled_with};
 ghost use Rattle.xr_encode.specs.Rows.{MayHold};
@@ -13,7 +13,8 @@ use crate::outline::Outline;
 use crate::text::{read_texts, texts_bytes};
 use bytes::Bytes;
 use std::alloc::Global;
-use xr_defs::{CdfDim, CdfVar, WriteOptions};
+use xr_files::{CdfDim, CdfVar};
+use xr_defs::WriteOptions;
 use xr_types::{CallFault, Fault, TextBytes};
 
 /// A variable of labels, which are written where the file is small.

@@ -2,7 +2,7 @@
 ghost use Rattle.std.specs.Prelude.{◌≡◌, ◌<◌, true, ℤ, List, Option, map, length, get_or, ◌++◌, IfOk, OnOk, Some, None};
 ghost use Rattle.std.specs.List.{list_all, list_any};
 ghost use Rattle.xr_types.specs.declared.attr.NcType.TheVariants as types;
-ghost use Rattle.xr_defs.specs.Arrays.{hidden};
+ghost use Rattle.xr_arrays.specs.Arrays.{hidden};
 ghost use Rattle.xr_defs.specs.Encoding.{holds, holds_cell, value_bytes};
 ghost use Rattle.xr_encode.specs.Rows.{number_or, cells_bytes, are_held, is_number};
 

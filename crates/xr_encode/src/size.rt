@@ -1,12 +1,13 @@
 //! How large a file is, whatever its values are. The greatest number of 64 bits stands for all sizes that are larger.
 ghost use Rattle.std.specs.Prelude.{◌≡◌, ◌==◌, length, map};
-ghost use Rattle.xr_defs.specs.Classic.{dim_at, padding, width};
-ghost use Rattle.xr_defs.specs.Files.{padded, positions};
-ghost use Rattle.xr_defs.specs.Canonical.{attr_text, dim_text, fixed_size, header_size, is_record, is_small, list_text, name_text, record_vars, recsize, room, slab, var_text};
+ghost use Rattle.xr_types.specs.Widths.{width};
+ghost use Rattle.xr_files.specs.Classic.{dim_at, padding};
+ghost use Rattle.xr_files.specs.Files.{padded, positions};
+ghost use Rattle.xr_files.specs.Canonical.{attr_text, dim_text, fixed_size, header_size, is_record, is_small, list_text, name_text, record_vars, recsize, room, slab, var_text};
 ghost use Rattle.cdf_writer.specs.Sizes.{capped, place_bytes};
 
 use crate::number::width;
-use xr_defs::{CdfDim, CdfFile, CdfVar};
+use xr_files::{CdfDim, CdfFile, CdfVar};
 use xr_types::{Attr, MOST_FILE_BYTES, Name};
 
 // With the bytes that fill it up to a multiple of four.

@@ -2,16 +2,16 @@
 ghost use Rattle.std.specs.Prelude.{◌≡◌, ◌<◌, ℕ, true, length, get_or, All, ⊤, MatchOption, IfOk};
 ghost use Rattle.std.specs.List.{list_all, list_any};
 ghost use Rattle.std.specs.Ordering.{int_eq};
-ghost use Rattle.xr_defs.specs.Arrays.{IsCell};
+ghost use Rattle.xr_arrays.specs.Arrays.{IsCell};
 ghost use Rattle.xr_defs.specs.Encoding.{holds_cell, type_of};
-ghost use Rattle.xr_defs.specs.Numbers.{is_whole, numbers_of};
-ghost use Rattle.xr_defs.specs.Stored.{is_fill};
+ghost use Rattle.xr_arrays.specs.Numbers.{is_whole, numbers_of};
+ghost use Rattle.xr_arrays.specs.Stored.{is_fill};
 ghost use Rattle.xr_encode.specs.Rows.{cells_bytes, is_number, stands};
 
 use crate::number::Written;
 use bytes::Bytes;
 use std::alloc::AllocError;
-use xr_defs::StoredArray;
+use xr_arrays::StoredArray;
 use xr_types::NcType;
 
 /// Whether the type of a stored array's kind holds each of its numbers, which it always does.

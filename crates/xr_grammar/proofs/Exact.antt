@@ -1,13 +1,13 @@
 -- The machine takes exactly the viable lists, and ends at exactly the scripts.
 use Rattle.std.proofs.Common.{◌++◌, append_assoc, append-nil, ◌≡◌, List, [], ◌∷◌, Bool, true, false, cond, Option, Some, None, refl, sym, subst, ap, ◌∙◌}
-use Rattle.xr_defs.specs.Syntax.{Tree, Variable, Index}
-use Rattle.xr_defs.specs.Syntax.{plain_only, Line}
-use Rattle.xr_defs.specs.Grammar.{Terminal, End}
-use Rattle.xr_defs.specs.Grammar.{AnAtom, Reads, Statement, Lines, IsScript, Viable}
+use Rattle.xr_syntax.specs.Syntax.{Tree, Variable, Index}
+use Rattle.xr_syntax.specs.Syntax.{plain_only, Line}
+use Rattle.xr_syntax.specs.Grammar.{Terminal, End}
+use Rattle.xr_syntax.specs.Grammar.{AnAtom, Reads, Statement, Lines, IsScript, Viable}
 use Rattle.xr_grammar.specs.Machine.{Pend, In, Alone, Bare, InRound, InItems, InEntry, InPlain, InKeyed, Writing, Around, On, Printing, Inside}
 use Rattle.xr_grammar.specs.Machine.{Place, Have, Dotted, Asked, Indexed, Indexing, AtItem, AtEntry, AtKey, AtArg, AtName, State, Named, NamedOpen, NamedText, NamedIndex, Several, Target, Joint, Aligns, Prints, Closed, Need, Signed, Fresh, At}
 use Rattle.xr_grammar.specs.Machine.{Next, Go, Done, fresh, whole, begin, close, after_operand, after, step_at, step, Point, Between, Within, Spot, settled, move, runs_from, runs}
-use Rattle.xr_defs.specs.Grammar.{write, no_more, blank, line}
+use Rattle.xr_syntax.specs.Grammar.{write, no_more, blank, line}
 use Rattle.xr_grammar.proofs.Meaning.{statement_then, means, stepped}
 use Rattle.xr_grammar.proofs.Follows.{step_to, begin_to}
 use Rattle.xr_grammar.proofs.Leads.{step_from, begin_from, fine}

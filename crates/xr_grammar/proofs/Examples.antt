@@ -1,8 +1,8 @@
 -- Worked scripts and faults, computed by the machine, which is exact.
 use Rattle.std.proofs.Common.{ℕ, pos, negsuc, List, [], ◌∷◌, codes, refl}
-use Rattle.xr_defs.specs.declared.operation.OpKind.TheVariants as op
-use Rattle.xr_defs.specs.Syntax.{Variable, Whole, Words, Unary, Binary, Call, Method, Index, Items, Table, NoItem, Item, NoEntry, Entry, NoArg, Plain, Keyed, Line, Assigned, Aligned, Placed, Printed, Written}
-use Rattle.xr_defs.specs.Grammar.{term, unary, Terminal, Name, Number, Text, Print, Oper, Compare, Minus, Dot, Open, Close, Left, Right, LeftBrace, RightBrace, Comma, Colon, Is, End, IsScript, Viable}
+use Rattle.xr_types.specs.declared.operation.OpKind.TheVariants as op
+use Rattle.xr_syntax.specs.Syntax.{Variable, Whole, Words, Unary, Binary, Call, Method, Index, Items, Table, NoItem, Item, NoEntry, Entry, NoArg, Plain, Keyed, Line, Assigned, Aligned, Placed, Printed, Written}
+use Rattle.xr_syntax.specs.Grammar.{term, unary, Terminal, Name, Number, Text, Print, Oper, Compare, Minus, Dot, Open, Close, Left, Right, LeftBrace, RightBrace, Comma, Colon, Is, End, IsScript, Viable}
 use Rattle.xr_grammar.specs.Machine.{whole, join, compare}
 use Rattle.xr_grammar.proofs.Exact.{runs_script, first_fault}
 

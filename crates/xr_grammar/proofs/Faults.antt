@@ -5,13 +5,13 @@ use Rattle.std.proofs.lemmas.Bool.{cases_order}
 use Rattle.xr_types.specs.declared.status.ScriptFault.{ScriptFault}
 use Rattle.xr_types.specs.declared.status.ScriptKind.{ScriptKind}
 use Rattle.xr_types.specs.declared.status.ScriptKind.TheVariants as kind
-use Rattle.xr_defs.specs.declared.token.Placed.{Placed}
-use Rattle.xr_defs.specs.declared.scan.Scan.{Scan}
-use Rattle.xr_defs.specs.declared.scan.ScanEnd.TheVariants as end
-use Rattle.xr_defs.specs.Syntax.{Line}
-use Rattle.xr_defs.specs.Tokens.{tokens_of, text_fault}
-use Rattle.xr_defs.specs.Grammar.{Terminal, IsScript, Viable}
-use Rattle.xr_defs.specs.Scripts.{terminals, limit_at, IsGood, IsParsed, FirstFault, no_script, a_limit, no_token, no_end, IsScriptText, IsFirstFault}
+use Rattle.xr_syntax.specs.declared.token.Placed.{Placed}
+use Rattle.xr_syntax.specs.declared.scan.Scan.{Scan}
+use Rattle.xr_syntax.specs.declared.scan.ScanEnd.TheVariants as end
+use Rattle.xr_syntax.specs.Syntax.{Line}
+use Rattle.xr_syntax.specs.Tokens.{tokens_of, text_fault}
+use Rattle.xr_syntax.specs.Grammar.{Terminal, IsScript, Viable}
+use Rattle.xr_syntax.specs.Scripts.{terminals, limit_at, IsGood, IsParsed, FirstFault, no_script, a_limit, no_token, no_end, IsScriptText, IsFirstFault}
 use Rattle.xr_grammar.proofs.Exact.{one_script, script_viable}
 use Rattle.xr_grammar.specs.Reading.{faulty}
 

@@ -1,18 +1,18 @@
 -- What the machine takes, the grammar goes on with.
 use Rattle.std.proofs.Common.{◌++◌, ◌≡◌, ℕ, List, [], ◌∷◌, Bool, true, false, cond, Option, Some, None, ◌⊎◌, inl, inr, refl, sym, subst}
-use Rattle.xr_defs.specs.declared.operation.OpKind.{OpKind}
-use Rattle.xr_defs.specs.declared.operation.OpKind.TheVariants as op
-use Rattle.xr_defs.specs.Syntax.{Tree, Variable, Unary, Binary, Index}
-use Rattle.xr_defs.specs.Syntax.{Trees, Entries, Args, NoArg, plain_only, uses, has_entry}
-use Rattle.xr_defs.specs.Grammar.{Rank, Tight, Over, term, bitor, Terminal, Name, Number, Text, Literal, Print, Oper, Compare, Minus, Tilde, Dot, Open, Close, Left, Right, LeftBrace, RightBrace, Comma, Colon, Is, End}
-use Rattle.xr_defs.specs.Grammar.{Head, Func, Of, is_align, is_write, starts_number, Joins, by_operator, by_minus, InWrite}
-use Rattle.xr_defs.specs.Grammar.{AnExpr, Phrase, Tail, AUnary, Parts, AnAtom, ItemsTail, EntriesTail, ArgsTail, Reads}
+use Rattle.xr_types.specs.declared.operation.OpKind.{OpKind}
+use Rattle.xr_types.specs.declared.operation.OpKind.TheVariants as op
+use Rattle.xr_syntax.specs.Syntax.{Tree, Variable, Unary, Binary, Index}
+use Rattle.xr_syntax.specs.Syntax.{Trees, Entries, Args, NoArg, plain_only, uses, has_entry}
+use Rattle.xr_syntax.specs.Grammar.{Rank, Tight, Over, term, bitor, Terminal, Name, Number, Text, Literal, Print, Oper, Compare, Minus, Tilde, Dot, Open, Close, Left, Right, LeftBrace, RightBrace, Comma, Colon, Is, End}
+use Rattle.xr_syntax.specs.Grammar.{Head, Func, Of, is_align, is_write, starts_number, Joins, by_operator, by_minus, InWrite}
+use Rattle.xr_syntax.specs.Grammar.{AnExpr, Phrase, Tail, AUnary, Parts, AnAtom, ItemsTail, EntriesTail, ArgsTail, Reads}
 use Rattle.xr_grammar.specs.Machine.{Slot, Slots, Free, Waiting, Wait, Waits, Pend, In, Alone, Bare, InRound, InItems, InEntry, InPlain, InKeyed, Assigning, Placing, Aligning, Writing, Around, On, Printing, Inside}
 use Rattle.xr_grammar.specs.Machine.{Place, Have, Dotted, Asked, Indexed, Indexing, AtItem, AtEntry, AtKey, AtArg, AtName, State, Named, NamedOpen, NamedText, NamedIndex, Several, Target, Joint, Aligns, Prints, Closed, Need, Signed, Fresh, At}
 use Rattle.xr_grammar.specs.Machine.{Next, go, empty, fresh, joined, signed, folded, whole, with_sign, same_rank, above, put, atom, operand, begin, close, compare, placed, join, after_operand, after, step_at, step}
-use Rattle.xr_defs.specs.Grammar.{expr_one, expr_compare, phrase_unary, phrase_of, tail_end, tail_more, unary_minus, unary_tilde, unary_below, unary_post, postfix, parts_end, part_method, part_index, part_write}
-use Rattle.xr_defs.specs.Grammar.{atom_name, atom_call, atom_number, atom_text, atom_literal, atom_round, atom_list, atom_table, items_end, items_last, items_more, entries_end, entries_last, entries_more, args_end, args_last, args_more, keys_last, keys_more}
-use Rattle.xr_defs.specs.Grammar.{target_more, target_last, assign, align, place, print, write}
+use Rattle.xr_syntax.specs.Grammar.{expr_one, expr_compare, phrase_unary, phrase_of, tail_end, tail_more, unary_minus, unary_tilde, unary_below, unary_post, postfix, parts_end, part_method, part_index, part_write}
+use Rattle.xr_syntax.specs.Grammar.{atom_name, atom_call, atom_number, atom_text, atom_literal, atom_round, atom_list, atom_table, items_end, items_last, items_more, entries_end, entries_last, entries_more, args_end, args_last, args_more, keys_last, keys_more}
+use Rattle.xr_syntax.specs.Grammar.{target_more, target_last, assign, align, place, print, write}
 use Rattle.xr_grammar.proofs.Meaning.{Cont, Rest, piece_then, compare_then, compares, within, after_unary, parts_then, or_ends, after_atom, closes, ends, statement_then, targets_then, means, stepped}
 use Rattle.xr_grammar.proofs.Ranks.{same_equal, some_equal, above_some}
 

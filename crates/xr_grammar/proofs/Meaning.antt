@@ -1,10 +1,10 @@
 -- What each state of the machine still takes: the rest of the statement that the grammar gives it, and then what may follow the statement.
 use Rattle.std.proofs.Common.{ℕ, List, ◌∷◌, Bool, true, false, Option, Some, None, ◌⊎◌}
-use Rattle.xr_defs.specs.Syntax.{Tree, Binary, Items, Table}
-use Rattle.xr_defs.specs.Syntax.{Item, Entry, Plain, Keyed, Line, Printed}
-use Rattle.xr_defs.specs.Grammar.{Rank, bitor, Terminal, Name, Text, Print, Compare, Minus, Dot, Close, Left, Right, RightBrace, Comma, Is, End}
-use Rattle.xr_defs.specs.Grammar.{called, Anywhere, InWrite}
-use Rattle.xr_defs.specs.Grammar.{Sort, Phrase, Tail, AUnary, Parts, ItemsTail, EntriesTail, ArgsTail, Reads, Targets, Statement}
+use Rattle.xr_syntax.specs.Syntax.{Tree, Binary, Items, Table}
+use Rattle.xr_syntax.specs.Syntax.{Item, Entry, Plain, Keyed, Line, Printed}
+use Rattle.xr_syntax.specs.Grammar.{Rank, bitor, Terminal, Name, Text, Print, Compare, Minus, Dot, Close, Left, Right, RightBrace, Comma, Is, End}
+use Rattle.xr_syntax.specs.Grammar.{called, Anywhere, InWrite}
+use Rattle.xr_syntax.specs.Grammar.{Sort, Phrase, Tail, AUnary, Parts, ItemsTail, EntriesTail, ArgsTail, Reads, Targets, Statement}
 use Rattle.xr_grammar.specs.Machine.{Slot, Slots, Free, Waiting, Wait, Waits, Pend, In, Alone, Bare, Bracket, InRound, InItems, InEntry, InPlain, InKeyed, Around, On, Printing, Inside}
 use Rattle.xr_grammar.specs.Machine.{Have, Dotted, Asked, Indexed, Indexing, AtItem, AtEntry, AtKey, AtArg, AtName, State, Named, NamedOpen, NamedText, NamedIndex, Several, Target, Joint, Aligns, Prints, Closed, Need, Signed, Fresh, At}
 use Rattle.xr_grammar.specs.Machine.{Next, Go, Done, joined, signed, line_on}

@@ -1,8 +1,8 @@
 -- Operators in the slots of their ranks.
 use Rattle.std.proofs.Common.{◌≡◌, ◌<◌, ℕ, ◌+◌, Bool, true, false, cond, Option, Some, None, refl, sym, ap, ◌∙◌, arith}
-use Rattle.xr_defs.specs.declared.operation.OpKind.{OpKind}
-use Rattle.xr_defs.specs.Syntax.{Tree}
-use Rattle.xr_defs.specs.Grammar.{Rank, Tight, Over}
+use Rattle.xr_types.specs.declared.operation.OpKind.{OpKind}
+use Rattle.xr_syntax.specs.Syntax.{Tree}
+use Rattle.xr_syntax.specs.Grammar.{Rank, Tight, Over}
 use Rattle.xr_grammar.specs.Machine.{Slot, Slots, Free, Waiting}
 use Rattle.xr_grammar.specs.Machine.{empty, joined, folded, same_rank, above, put}
 

@@ -4,13 +4,13 @@ use Rattle.std.proofs.lemmas.List.{take_more, take_all, get_or-map, length-map}
 use Rattle.xr_types.specs.declared.status.ScriptFault.{ScriptFault}
 use Rattle.xr_types.specs.declared.status.ScriptKind.{ScriptKind}
 use Rattle.xr_types.specs.declared.status.ScriptKind.TheVariants as kind
-use Rattle.xr_defs.specs.declared.token.Placed.{Placed}
-use Rattle.xr_defs.specs.declared.scan.Scan.{Scan}
-use Rattle.xr_defs.specs.declared.scan.ScanEnd.TheVariants as end
-use Rattle.xr_defs.specs.declared.tally.Tally.{Tally}
-use Rattle.xr_defs.specs.Syntax.{Line}
-use Rattle.xr_defs.specs.Grammar.{Terminal, End, starts_number, Viable}
-use Rattle.xr_defs.specs.Scripts.{terminals, terminal_at, limit_from, limit_at, no_tally, tallied, passes, IsGood, IsParsed, FirstFault, no_script, a_limit, no_token, no_end}
+use Rattle.xr_syntax.specs.declared.token.Placed.{Placed}
+use Rattle.xr_syntax.specs.declared.scan.Scan.{Scan}
+use Rattle.xr_syntax.specs.declared.scan.ScanEnd.TheVariants as end
+use Rattle.xr_syntax.specs.declared.tally.Tally.{Tally}
+use Rattle.xr_syntax.specs.Syntax.{Line}
+use Rattle.xr_syntax.specs.Grammar.{Terminal, End, starts_number, Viable}
+use Rattle.xr_syntax.specs.Scripts.{terminals, terminal_at, limit_from, limit_at, no_tally, tallied, passes, IsGood, IsParsed, FirstFault, no_script, a_limit, no_token, no_end}
 use Rattle.xr_grammar.specs.Machine.{Spot, Between, move, runs}
 use Rattle.xr_grammar.specs.Reading.{faulty, fault_here}
 use Rattle.xr_grammar.proofs.Exact.{runs_more, runs_viable, first_fault, script_moves, moves_script}

@@ -1,18 +1,18 @@
 -- The machine takes exactly the viable lists, and ends at exactly the scripts.
 use Rattle.std.proofs.Common.{◌++◌, ◌≡◌, ℕ, pos, ◌-ℤ◌, List, [], ◌∷◌, Bool, true, false, cond, Option, Some, None, ◌⊎◌, inl, inr, refl, sym, subst, ap, codes}
-use Rattle.xr_defs.specs.declared.operation.OpKind.{OpKind}
-use Rattle.xr_defs.specs.declared.operation.OpKind.TheVariants as op
-use Rattle.xr_defs.specs.Syntax.{Tree, Variable, Whole, Method, Index, Items, Table}
-use Rattle.xr_defs.specs.Syntax.{Item, Entries, Entry, Args, NoArg, Plain, Keyed, plain_only, uses, has_entry, Line, Printed}
-use Rattle.xr_defs.specs.Grammar.{Rank, term, bitor, Terminal, Name, Number, Text, Literal, Print, Oper, Compare, Minus, Tilde, Dot, Open, Close, Left, Right, LeftBrace, RightBrace, Comma, Colon, Is, End}
-use Rattle.xr_defs.specs.Grammar.{Head, Func, Of, called, is_align}
-use Rattle.xr_defs.specs.Grammar.{Lines}
+use Rattle.xr_types.specs.declared.operation.OpKind.{OpKind}
+use Rattle.xr_types.specs.declared.operation.OpKind.TheVariants as op
+use Rattle.xr_syntax.specs.Syntax.{Tree, Variable, Whole, Method, Index, Items, Table}
+use Rattle.xr_syntax.specs.Syntax.{Item, Entries, Entry, Args, NoArg, Plain, Keyed, plain_only, uses, has_entry, Line, Printed}
+use Rattle.xr_syntax.specs.Grammar.{Rank, term, bitor, Terminal, Name, Number, Text, Literal, Print, Oper, Compare, Minus, Tilde, Dot, Open, Close, Left, Right, LeftBrace, RightBrace, Comma, Colon, Is, End}
+use Rattle.xr_syntax.specs.Grammar.{Head, Func, Of, called, is_align}
+use Rattle.xr_syntax.specs.Grammar.{Lines}
 use Rattle.xr_grammar.specs.Machine.{Slot, Slots, Wait, Waits, Pend, In, Alone, Bare, InRound, InItems, InEntry, InPlain, InKeyed, Assigning, Placing, Aligning, Writing, Around, On, Printing, Inside}
 use Rattle.xr_grammar.specs.Machine.{Place, Have, Dotted, Asked, Indexed, Indexing, AtItem, AtEntry, AtKey, AtArg, AtName, State, Named, NamedOpen, NamedText, NamedIndex, Several, Target, Joint, Aligns, Prints, Closed, Need, Signed, Fresh, At}
 use Rattle.xr_grammar.specs.Machine.{Next, Go, go, fresh, signed, whole, with_sign, put, atom, operand, begin, line_on, close, compare, placed, join, after_operand, after, asks, indexes, step_at, step}
-use Rattle.xr_defs.specs.Grammar.{part_write}
-use Rattle.xr_defs.specs.Grammar.{args_end}
-use Rattle.xr_defs.specs.Grammar.{no_more}
+use Rattle.xr_syntax.specs.Grammar.{part_write}
+use Rattle.xr_syntax.specs.Grammar.{args_end}
+use Rattle.xr_syntax.specs.Grammar.{no_more}
 use Rattle.xr_grammar.proofs.Meaning.{Rest, after_atom, ends, means, stepped}
 use Rattle.xr_grammar.proofs.Leads.{step_from, operand_ends, has_parts, fine_place, fine}
 

@@ -1,11 +1,11 @@
 -- The machine: where it is in a statement, what waits for the operand, and the brackets around it.
 use Rattle.std.specs.Prelude.{ℕ, pos, ◌-ℤ◌, List, [], ◌∷◌, ◌++◌, Bool, true, false, cond, Option, Some, None}
-use Rattle.xr_defs.specs.declared.operation.OpKind.{OpKind}
-use Rattle.xr_defs.specs.declared.operation.OpKind.TheVariants as op
-use Rattle.xr_defs.specs.Syntax.{Tree, Variable, Whole, Words, Constantly, Unary, Binary, Index, Items, Table}
-use Rattle.xr_defs.specs.Syntax.{Trees, NoItem, Item, Entries, NoEntry, Entry, Args, NoArg, Plain, Keyed, plain_only, uses, has_entry, Line, Assigned, Aligned, Placed, Printed, Written}
-use Rattle.xr_defs.specs.Grammar.{Rank, Tight, Over, term, bitor, Terminal, Name, Number, Text, Literal, Print, Oper, Compare, Minus, Tilde, Dot, Open, Close, Left, Right, LeftBrace, RightBrace, Comma, Colon, Is, End}
-use Rattle.xr_defs.specs.Grammar.{Head, Func, Of, called, is_align, is_write}
+use Rattle.xr_types.specs.declared.operation.OpKind.{OpKind}
+use Rattle.xr_types.specs.declared.operation.OpKind.TheVariants as op
+use Rattle.xr_syntax.specs.Syntax.{Tree, Variable, Whole, Words, Constantly, Unary, Binary, Index, Items, Table}
+use Rattle.xr_syntax.specs.Syntax.{Trees, NoItem, Item, Entries, NoEntry, Entry, Args, NoArg, Plain, Keyed, plain_only, uses, has_entry, Line, Assigned, Aligned, Placed, Printed, Written}
+use Rattle.xr_syntax.specs.Grammar.{Rank, Tight, Over, term, bitor, Terminal, Name, Number, Text, Literal, Print, Oper, Compare, Minus, Tilde, Dot, Open, Close, Left, Right, LeftBrace, RightBrace, Comma, Colon, Is, End}
+use Rattle.xr_syntax.specs.Grammar.{Head, Func, Of, called, is_align, is_write}
 
 -- an operator with its left side
 abbrev pub Slot : Type 0

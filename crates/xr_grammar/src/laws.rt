@@ -1,8 +1,8 @@
 //! What holds of every text.
 ghost use Rattle.std.specs.Prelude.{◌≡◌, ℕ, List};
 ghost use Rattle.xr_types.specs.declared.status.ScriptFault.{ScriptFault};
-ghost use Rattle.xr_defs.specs.Syntax.{Line};
-ghost use Rattle.xr_defs.specs.Scripts.{IsScriptText, IsFirstFault};
+ghost use Rattle.xr_syntax.specs.Syntax.{Line};
+ghost use Rattle.xr_syntax.specs.Scripts.{IsScriptText, IsFirstFault};
 
 /// A text is a script with one tree, or has one first fault.
 pub fn one_answer_fits()

@@ -4,9 +4,9 @@ use Rattle.std.proofs.Math.ListN.{length-set}
 use Rattle.std.proofs.lemmas.List.Elements.{All-map}
 use Rattle.std.specs.Prelude.{is_some}
 use Rattle.xr_types.specs.declared.kind.DType.{DType}
-use Rattle.xr_defs.specs.Points.{size, tab, place, IsPoint}
-use Rattle.xr_defs.specs.Arrays.{Array, at, made, IsCell}
-use Rattle.xr_defs.specs.Nodes.{along, with_axis, without, picked_from, taken_from, from_source, IsBelow, most_node_cells}
+use Rattle.xr_types.specs.Points.{size, tab, place, IsPoint}
+use Rattle.xr_arrays.specs.Arrays.{Array, at, made, IsCell}
+use Rattle.xr_arrays.specs.Nodes.{along, with_axis, without, picked_from, taken_from, from_source, IsBelow, most_node_cells}
 use Rattle.xr_defs.specs.Values.{chosen_cells}
 use Rattle.xr_defs.specs.Limits.{most_dimensions}
 use Rattle.plan_core.proofs.Tabs.{tab-length, tab_same, place_below, All-tab}

@@ -12,11 +12,12 @@ use Rattle.xr_types.specs.declared.axis.LabelList.TheVariants.{Numbers, Times, T
 use Rattle.xr_defs.specs.declared.value.Content.{Content}
 use Rattle.xr_defs.specs.declared.value.Content.TheVariants as contents
 use Rattle.xr_defs.specs.declared.value.Coord.{Coord}
-use Rattle.xr_defs.specs.Arrays.{IsCell}
-use Rattle.xr_defs.specs.Classic.{among}
-use Rattle.xr_defs.specs.Canonical.{are_distinct}
-use Rattle.xr_defs.specs.Nodes.{without, picked_from}
-use Rattle.xr_defs.specs.Values.{axis_names, axis_position, no_axis, shape_over, label_count, chosen_cells, chosen_content}
+use Rattle.xr_arrays.specs.Arrays.{IsCell}
+use Rattle.xr_types.specs.Names.{among}
+use Rattle.xr_types.specs.Names.{are_distinct}
+use Rattle.xr_arrays.specs.Nodes.{without, picked_from}
+use Rattle.xr_types.specs.Names.{axis_names, shape_over}
+use Rattle.xr_defs.specs.Values.{axis_position, no_axis, label_count, chosen_cells, chosen_content}
 use Rattle.xr_defs.specs.Selecting.{axis_called, label_content, label_coord, content_at, coord_at, coords_at}
 use Rattle.xr_values.specs.WellFormed.{IsIndex, AreLabels, names_of}
 use Rattle.xr_indexing.specs.Unbounded.{IsLongAxis, AreManyCells, IsLongContent, IsThere, IsLongCoordinate, IsLongFrame}

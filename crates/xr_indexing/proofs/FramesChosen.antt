@@ -12,10 +12,11 @@ use Rattle.xr_types.specs.declared.axis.Labels.{Labels}
 use Rattle.xr_types.specs.declared.axis.LabelList.{LabelList}
 use Rattle.xr_types.specs.declared.axis.LabelList.TheVariants.{Numbers, Times, Texts}
 use Rattle.xr_defs.specs.declared.value.Coord.{Coord}
-use Rattle.xr_defs.specs.Classic.{among}
-use Rattle.xr_defs.specs.Canonical.{are_distinct}
-use Rattle.xr_defs.specs.Times.{IsTime}
-use Rattle.xr_defs.specs.Values.{axis_names, axis_position, no_axis, label_count, chosen, chosen_list, chosen_axis, chosen_axes, chosen_content, chosen_coord}
+use Rattle.xr_types.specs.Names.{among}
+use Rattle.xr_types.specs.Names.{are_distinct}
+use Rattle.xr_arrays.specs.Times.{IsTime}
+use Rattle.xr_types.specs.Names.{axis_names}
+use Rattle.xr_defs.specs.Values.{axis_position, no_axis, label_count, chosen, chosen_list, chosen_axis, chosen_axes, chosen_content, chosen_coord}
 use Rattle.xr_defs.specs.Selecting.{axis_called}
 use Rattle.xr_values.specs.WellFormed.{IsIndex, AreLabels, names_of}
 use Rattle.xr_indexing.specs.Unbounded.{IsLongAxis, IsThere, IsLongCoordinate, IsLongFrame}

@@ -1,7 +1,7 @@
 -- What holds of each item of a list, with one of them taken away or changed.
 use Rattle.std.proofs.Common.{◌≡◌, ◌<◌, ℕ, zero, suc, List, [], ◌∷◌, ◌++◌, length, map, take, drop, set, get_or, refl, ap, arith}
 use Rattle.std.specs.List.{AllByRecursion}
-use Rattle.xr_defs.specs.Nodes.{without}
+use Rattle.xr_arrays.specs.Nodes.{without}
 
 pub each_map : {X Y : Type 0} (P : X → Type 0) (Q : Y → Type 0) (f : X → Y) (xs : List X) → ((x : X) → P x → Q (f x)) → AllByRecursion P xs → AllByRecursion Q (map f xs)
 each_map P Q f [] h all = tt

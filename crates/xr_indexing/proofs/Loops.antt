@@ -1,7 +1,7 @@
 -- Loops that stop at the first fault.
 use Rattle.std.proofs.Common.{◌≡◌, List, [], ◌∷◌, ◌++◌, Result, Ok, Err, refl, sym, ap, append_assoc}
 use Rattle.xr_types.specs.declared.fault.Fault.{Fault}
-use Rattle.xr_defs.specs.Results.{◌>>=◌}
+use Rattle.xr_types.specs.Results.{◌>>=◌}
 use Rattle.xr_indexing.specs.Choices.{behind}
 
 pub behind_both : {A : Type 0} (out : List A) (p : A) (r : Result (List A) Fault) → behind out (r >>= λ ps. Ok (p ∷ ps)) ≡ behind (out ++ p ∷ []) r

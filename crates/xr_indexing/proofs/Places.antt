@@ -4,10 +4,11 @@ use Rattle.std.proofs.lemmas.Bool.{cases_Bool, or_parts}
 use Rattle.std.specs.Option.{option_map}
 use Rattle.std.specs.Str.{bytes_eq}
 use Rattle.xr_types.specs.declared.axis.Axis.{Axis}
-use Rattle.xr_defs.specs.Classic.{among}
-use Rattle.xr_defs.specs.Canonical.{are_distinct}
-use Rattle.xr_defs.specs.Nodes.{without}
-use Rattle.xr_defs.specs.Values.{axis_names, axis_position, no_axis, shape_over}
+use Rattle.xr_types.specs.Names.{among}
+use Rattle.xr_types.specs.Names.{are_distinct}
+use Rattle.xr_arrays.specs.Nodes.{without}
+use Rattle.xr_types.specs.Names.{axis_names, shape_over}
+use Rattle.xr_defs.specs.Values.{axis_position, no_axis}
 use Rattle.xr_defs.specs.Selecting.{axis_called}
 use Rattle.xr_values.proofs.Named.{bytes_eq_swap}
 use Rattle.xr_indexing.proofs.Names.{same_text, itself, distinct_parts}

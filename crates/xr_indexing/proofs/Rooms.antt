@@ -8,15 +8,17 @@ use Rattle.xr_types.specs.declared.axis.Axis.{Axis}
 use Rattle.xr_types.specs.declared.text.TextBytes.{TextBytes}
 use Rattle.xr_types.specs.declared.fault.Fault.{Fault}
 use Rattle.xr_types.specs.declared.fault.Fault.TheVariants.{NoDimension}
-use Rattle.xr_defs.specs.declared.node.Node.{Node}
+use Rattle.xr_arrays.specs.declared.node.Node.{Node}
 use Rattle.xr_defs.specs.Arguments.{check_dimension}
-use Rattle.xr_defs.specs.Classic.{among}
-use Rattle.xr_defs.specs.Canonical.{are_distinct}
+use Rattle.xr_types.specs.Names.{among}
+use Rattle.xr_types.specs.Names.{are_distinct}
 use Rattle.xr_defs.specs.Meanings as given
-use Rattle.xr_defs.specs.Results.{all_of}
-use Rattle.xr_defs.specs.Room.{of_array, of_set, room, span, AddsAtMost}
+use Rattle.xr_types.specs.Results.{all_of}
+use Rattle.xr_arrays.specs.Added.{AddsAtMost}
+use Rattle.xr_defs.specs.Room.{of_array, of_set, room, span}
 use Rattle.xr_defs.specs.Values as of
-use Rattle.xr_defs.specs.Values.{Variable, axis_names, axis_position}
+use Rattle.xr_types.specs.Names.{axis_names}
+use Rattle.xr_defs.specs.Values.{Variable, axis_position}
 use Rattle.xr_defs.specs.Selecting.{array_each_selected, axis_called, set_each_selected}
 use Rattle.xr_defs.proofs.Spans.{AreAmong, no_more_names}
 use Rattle.plan_core.proofs.Added.{adds_up, in_room}

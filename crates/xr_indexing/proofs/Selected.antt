@@ -1,8 +1,9 @@
 -- Arrays with positions of one dimension selected are as they have to be, but for the limits.
 use Rattle.std.proofs.Common.{◌≡◌, ◌<◌, ◌^◌, ℕ, List, length, Some, None, get_or, set, All, sym, subst, arith}
-use Rattle.xr_defs.specs.Nodes.{without, picked_from}
+use Rattle.xr_arrays.specs.Nodes.{without, picked_from}
 use Rattle.xr_defs.specs.Values as of
-use Rattle.xr_defs.specs.Values.{array_of, no_axis, shape_over, chosen_axis, chosen_axes, chosen_cells}
+use Rattle.xr_types.specs.Names.{shape_over}
+use Rattle.xr_defs.specs.Values.{array_of, no_axis, chosen_axis, chosen_axes, chosen_cells}
 use Rattle.xr_defs.specs.Selecting.{One, Several, array_at}
 use Rattle.xr_indexing.specs.Unbounded.{AreManyCells, IsLongArray}
 use Rattle.xr_indexing.proofs.Places.{shape_without, size_at, shape-length, shape_set}

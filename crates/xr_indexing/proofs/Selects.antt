@@ -6,13 +6,14 @@ use Rattle.std.specs.List.{list_all}
 use Rattle.xr_types.specs.declared.axis.Axis.{Axis}
 use Rattle.xr_types.specs.declared.fault.Fault.TheVariants.{TooLarge}
 use Rattle.xr_types.specs.declared.text.TextBytes.{TextBytes}
-use Rattle.xr_defs.specs.declared.node.Node.{Node}
-use Rattle.xr_defs.specs.Results.{◌>>=◌, unless, all_of}
+use Rattle.xr_arrays.specs.declared.node.Node.{Node}
+use Rattle.xr_types.specs.Results.{◌>>=◌, unless, all_of}
 use Rattle.xr_defs.specs.Meanings.{Given}
 use Rattle.xr_defs.specs.Arguments.{check_dimension}
 use Rattle.xr_defs.specs.Limits.{most_cells, most_variables}
 use Rattle.xr_defs.specs.Values as of
-use Rattle.xr_defs.specs.Values.{DataArray, Dataset, shape_over}
+use Rattle.xr_types.specs.Names.{shape_over}
+use Rattle.xr_defs.specs.Values.{DataArray, Dataset}
 use Rattle.xr_defs.specs.Selecting.{check_selector, array_each_selected, isel_array, check_array, set_each_selected, isel_set, check_set, variable_array, is_within, are_within}
 use Rattle.xr_values.specs.declared.args.Args.{Args}
 use Rattle.xr_values.specs.declared.data_array.DataArray as code

@@ -8,11 +8,12 @@ use Rattle.std.specs.Str.{bytes_eq}
 use Rattle.xr_types.specs.declared.axis.Axis.{Axis}
 use Rattle.xr_types.specs.declared.axis.Labels.{Labels}
 use Rattle.xr_defs.specs.declared.value.Coord.{Coord}
-use Rattle.xr_defs.specs.Classic.{among}
-use Rattle.xr_defs.specs.Canonical.{are_distinct}
-use Rattle.xr_defs.specs.Nodes.{without}
+use Rattle.xr_types.specs.Names.{among}
+use Rattle.xr_types.specs.Names.{are_distinct}
+use Rattle.xr_arrays.specs.Nodes.{without}
 use Rattle.xr_defs.specs.Values as of
-use Rattle.xr_defs.specs.Values.{axis_names, no_axis, chosen_list, chosen_axis, chosen_axes, chosen_coord}
+use Rattle.xr_types.specs.Names.{axis_names}
+use Rattle.xr_defs.specs.Values.{no_axis, chosen_list, chosen_axis, chosen_axes, chosen_coord}
 use Rattle.xr_defs.specs.Selecting.{One, Several, Choice, place_of, variable_along, variable_at, set_at, coords_at, label_coord, label_content, coord_at}
 use Rattle.xr_values.specs.WellFormed.{names_of, labelled}
 use Rattle.xr_indexing.specs.Unbounded.{IsLongVariable, IsLongSet, variables_named}

@@ -5,10 +5,10 @@ use Rattle.std.proofs.lemmas.Nat.{mul-le}
 use Rattle.std.specs.Str.{bytes_eq}
 use Rattle.xr_types.specs.declared.axis.Axis.{Axis}
 use Rattle.xr_types.specs.declared.fault.Fault.{Fault}
-use Rattle.xr_defs.specs.Classic.{among}
-use Rattle.xr_defs.specs.Canonical.{are_distinct}
+use Rattle.xr_types.specs.Names.{among}
+use Rattle.xr_types.specs.Names.{are_distinct}
 use Rattle.xr_defs.specs.Meanings.{Value}
-use Rattle.xr_defs.specs.Results.{◌>>=◌}
+use Rattle.xr_types.specs.Results.{◌>>=◌}
 use Rattle.xr_defs.specs.Room.{greatest, span}
 use Rattle.xr_defs.specs.Values.{Dataset, Variable, axis_position, no_axis}
 use Rattle.xr_defs.specs.Selecting.{Selector, Choice, One, Several, as_selector, choice_of, place_of, set_at, set_selected, set_each_selected, variable_at}

@@ -5,13 +5,14 @@ use Rattle.std.proofs.lemmas.Nat.{mul-le}
 use Rattle.std.specs.Str.{bytes_eq}
 use Rattle.xr_types.specs.declared.axis.Axis.{Axis}
 use Rattle.xr_types.specs.declared.fault.Fault.{Fault}
-use Rattle.xr_defs.specs.Classic.{among}
-use Rattle.xr_defs.specs.Canonical.{are_distinct}
+use Rattle.xr_types.specs.Names.{among}
+use Rattle.xr_types.specs.Names.{are_distinct}
 use Rattle.xr_defs.specs.Meanings.{Value}
-use Rattle.xr_defs.specs.Nodes.{without}
-use Rattle.xr_defs.specs.Results.{◌>>=◌}
+use Rattle.xr_arrays.specs.Nodes.{without}
+use Rattle.xr_types.specs.Results.{◌>>=◌}
 use Rattle.xr_defs.specs.Room.{greatest, span}
-use Rattle.xr_defs.specs.Values.{DataArray, axis_names, axis_position, no_axis, chosen_axis}
+use Rattle.xr_types.specs.Names.{axis_names}
+use Rattle.xr_defs.specs.Values.{DataArray, axis_position, no_axis, chosen_axis}
 use Rattle.xr_defs.specs.Selecting.{Selector, Choice, One, Several, as_selector, array_at, array_selected, array_each_selected, axes_at, choice_of}
 use Rattle.xr_defs.proofs.Spans.{AreAmong, back_among, front_among, greatest_both, points_above, span_up}
 use Rattle.xr_indexing.specs.Taken.{array_cells}

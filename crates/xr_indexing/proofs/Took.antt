@@ -6,17 +6,18 @@ use Rattle.std.specs.List.{AllByRecursion}
 use Rattle.std.specs.Prelude.{MatchOption, ⊤}
 use Rattle.xr_types.specs.declared.axis.Axis.{Axis}
 use Rattle.xr_types.specs.declared.kind.DType.{DType}
-use Rattle.xr_defs.specs.declared.node.Node.{Node}
-use Rattle.xr_defs.specs.declared.node.Node.TheVariants.{Take}
+use Rattle.xr_arrays.specs.declared.node.Node.{Node}
+use Rattle.xr_arrays.specs.declared.node.Node.TheVariants.{Take}
 use Rattle.xr_defs.specs.declared.value.Content.{Content}
 use Rattle.xr_defs.specs.declared.value.Content.TheVariants as contents
 use Rattle.xr_defs.specs.declared.value.Coord.{Coord}
-use Rattle.xr_defs.specs.Points.{size}
-use Rattle.xr_defs.specs.Arrays.{Array}
-use Rattle.xr_defs.specs.Nodes.{without, picked_from, taken_from, taken_or_picked, node_value, values, value, IsNode, IsBelow, Pushes, most_node_cells}
-use Rattle.xr_defs.specs.Values.{array_of, axis_names, axis_position, no_axis, shape_over, chosen_axis, chosen_axes, chosen_cells, chosen_coord}
+use Rattle.xr_types.specs.Points.{size}
+use Rattle.xr_arrays.specs.Arrays.{Array}
+use Rattle.xr_arrays.specs.Nodes.{without, picked_from, taken_from, taken_or_picked, node_value, values, value, IsNode, IsBelow, Pushes, most_node_cells}
+use Rattle.xr_types.specs.Names.{axis_names, shape_over}
+use Rattle.xr_defs.specs.Values.{array_of, axis_position, no_axis, chosen_axis, chosen_axes, chosen_cells, chosen_coord}
 use Rattle.xr_defs.specs.Selecting.{One, Several, array_at, coords_at}
-use Rattle.xr_defs.specs.Canonical.{are_distinct}
+use Rattle.xr_types.specs.Names.{are_distinct}
 use Rattle.plan_core.proofs.Plans.{values-length}
 use Rattle.xr_values.specs.declared.data_array.DataArray.{DataArray}
 use Rattle.xr_values.specs.WellFormed.{IsIndex}

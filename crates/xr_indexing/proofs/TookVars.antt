@@ -1,14 +1,15 @@
 -- What a node that takes positions means for a data variable of a plan.
 use Rattle.std.proofs.Common.{◌≡◌, ◌<◌, ◌≤◌, ◌^◌, ◌-◌, min, ℕ, ℤ, true, false, List, [], ◌∷◌, length, map, set, get_or, Option, Some, None, All, sym, ap, subst, ◌∙◌, arith}
 use Rattle.xr_types.specs.declared.axis.Axis.{Axis}
-use Rattle.xr_defs.specs.declared.node.Node.{Node}
-use Rattle.xr_defs.specs.declared.node.Node.TheVariants.{Take}
-use Rattle.xr_defs.specs.Canonical.{are_distinct}
-use Rattle.xr_defs.specs.Points.{size}
-use Rattle.xr_defs.specs.Arrays.{Array}
-use Rattle.xr_defs.specs.Nodes.{without, picked_from, taken_from, node_value, values, value, IsNode, IsBelow, Pushes}
+use Rattle.xr_arrays.specs.declared.node.Node.{Node}
+use Rattle.xr_arrays.specs.declared.node.Node.TheVariants.{Take}
+use Rattle.xr_types.specs.Names.{are_distinct}
+use Rattle.xr_types.specs.Points.{size}
+use Rattle.xr_arrays.specs.Arrays.{Array}
+use Rattle.xr_arrays.specs.Nodes.{without, picked_from, taken_from, node_value, values, value, IsNode, IsBelow, Pushes}
 use Rattle.xr_defs.specs.Values as of
-use Rattle.xr_defs.specs.Values.{axis_names, no_axis, chosen_axes, chosen_cells}
+use Rattle.xr_types.specs.Names.{axis_names}
+use Rattle.xr_defs.specs.Values.{no_axis, chosen_axes, chosen_cells}
 use Rattle.xr_defs.specs.Selecting.{One, Several, Choice, place_of, variable_array, variable_along, variable_at}
 use Rattle.xr_values.specs.declared.variable.Variable.{Variable}
 use Rattle.xr_values.specs.Stands.{variable_in, IsNodeOf}

@@ -5,10 +5,11 @@ use Rattle.std.proofs.lemmas.List.{map-append}
 use Rattle.std.specs.List.{AllByRecursion}
 use Rattle.std.specs.Str.{bytes_eq}
 use Rattle.xr_types.specs.declared.axis.Axis.{Axis}
-use Rattle.xr_defs.specs.declared.node.Node.{Node}
-use Rattle.xr_defs.specs.Classic.{among}
-use Rattle.xr_defs.specs.Points.{size}
-use Rattle.xr_defs.specs.Room.{span, AddsAtMost}
+use Rattle.xr_arrays.specs.declared.node.Node.{Node}
+use Rattle.xr_types.specs.Names.{among}
+use Rattle.xr_types.specs.Points.{size}
+use Rattle.xr_arrays.specs.Added.{AddsAtMost}
+use Rattle.xr_defs.specs.Room.{span}
 use Rattle.xr_defs.specs.Values as of
 use Rattle.xr_defs.specs.Values.{axis_position, no_axis}
 use Rattle.xr_defs.specs.Selecting.{Choice, One, Several, axes_at, place_of, set_at, variable_along, variable_at}

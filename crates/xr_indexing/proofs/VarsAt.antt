@@ -5,11 +5,12 @@ use Rattle.std.proofs.lemmas.List.{append-nil}
 use Rattle.std.specs.List.{AllByRecursion}
 use Rattle.std.specs.Str.{bytes_eq}
 use Rattle.xr_types.specs.declared.axis.Axis.{Axis}
-use Rattle.xr_defs.specs.Classic.{among}
-use Rattle.xr_defs.specs.Canonical.{are_distinct}
-use Rattle.xr_defs.specs.Nodes.{without, picked_from}
+use Rattle.xr_types.specs.Names.{among}
+use Rattle.xr_types.specs.Names.{are_distinct}
+use Rattle.xr_arrays.specs.Nodes.{without, picked_from}
 use Rattle.xr_defs.specs.Values as of
-use Rattle.xr_defs.specs.Values.{axis_names, no_axis, chosen_axis, chosen_axes, chosen_cells}
+use Rattle.xr_types.specs.Names.{axis_names}
+use Rattle.xr_defs.specs.Values.{no_axis, chosen_axis, chosen_axes, chosen_cells}
 use Rattle.xr_defs.specs.Selecting.{One, Several, axis_called, place_of, variable_array, variable_along, variable_at}
 use Rattle.xr_indexing.specs.Unbounded.{AreManyCells, IsLongVariable, sizes_called}
 use Rattle.xr_values.proofs.Named.{bytes_eq_swap}

@@ -1,7 +1,7 @@
 -- What selectors and choices of the program stand for, and which positions an axis has.
 use Rattle.std.specs.Prelude.{◌<◌, ◌++◌, ◌^◌, ℕ, List, length, All, Result, Ok, ⊤}
 use Rattle.xr_types.specs.declared.fault.Fault.{Fault}
-use Rattle.xr_defs.specs.Results.{◌>>=◌}
+use Rattle.xr_types.specs.Results.{◌>>=◌}
 use Rattle.xr_defs.specs.Selecting as of
 use Rattle.xr_defs.specs.Arguments as calls
 use Rattle.xr_indexing.specs.declared.choice.Positions.{Positions}

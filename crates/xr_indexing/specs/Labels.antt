@@ -2,11 +2,12 @@
 use Rattle.std.specs.Prelude.{◌≡◌, ◌<◌, ℕ, ℤ, List, [], ◌∷◌, length, get_or, MatchOption, Some, ⊤}
 use Rattle.xr_types.specs.declared.axis.Axis.{Axis}
 use Rattle.xr_types.specs.declared.kind.DType.{DType}
-use Rattle.xr_defs.specs.Arrays.{Array}
+use Rattle.xr_arrays.specs.Arrays.{Array}
 use Rattle.xr_defs.specs.declared.value.Content.{Content}
 use Rattle.xr_defs.specs.declared.value.Content.TheVariants as contents
 use Rattle.xr_defs.specs.declared.value.Coord.{Coord}
-use Rattle.xr_defs.specs.Values.{axis_position, no_axis, shape_over}
+use Rattle.xr_types.specs.Names.{shape_over}
+use Rattle.xr_defs.specs.Values.{axis_position, no_axis}
 
 -- an array without dimensions
 abbrev pub scalar : DType → ℤ → Array

@@ -3,9 +3,9 @@ use Rattle.std.specs.Prelude.{◌≡◌, true, List, map, All, Result, Ok, Err}
 use Rattle.xr_types.specs.declared.axis.Axis.{Axis}
 use Rattle.xr_types.specs.declared.fault.CallFault.{CallFault}
 use Rattle.xr_types.specs.declared.fault.Fault.{Fault}
-use Rattle.xr_defs.specs.declared.node.Node.{Node}
+use Rattle.xr_arrays.specs.declared.node.Node.{Node}
 use Rattle.xr_defs.specs.Values as of
-use Rattle.xr_defs.specs.Canonical.{are_distinct}
+use Rattle.xr_types.specs.Names.{are_distinct}
 use Rattle.xr_values.specs.declared.data_array.DataArray.{DataArray}
 use Rattle.xr_values.specs.declared.dataset.Dataset.{Dataset}
 use Rattle.xr_values.specs.declared.variable.Variable.{Variable}

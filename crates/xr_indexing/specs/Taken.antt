@@ -3,11 +3,12 @@ use Rattle.std.specs.Prelude.{◌+◌, ◌*◌, ℕ, List, [], ◌∷◌, map, g
 use Rattle.xr_types.specs.declared.axis.Axis.{Axis}
 use Rattle.xr_types.specs.declared.text.TextBytes.{TextBytes}
 use Rattle.xr_defs.specs.Meanings as of
-use Rattle.xr_defs.specs.Points.{size}
-use Rattle.xr_defs.specs.Classic.{among}
-use Rattle.xr_defs.specs.Nodes.{without}
+use Rattle.xr_types.specs.Points.{size}
+use Rattle.xr_types.specs.Names.{among}
+use Rattle.xr_arrays.specs.Nodes.{without}
 use Rattle.xr_defs.specs.Room.{span}
-use Rattle.xr_defs.specs.Values.{DataArray, Dataset, Variable, no_axis, shape_over}
+use Rattle.xr_types.specs.Names.{shape_over}
+use Rattle.xr_defs.specs.Values.{DataArray, Dataset, Variable, no_axis}
 use Rattle.xr_defs.specs.Selecting.{Choice, One, Several, array_selected, axes_at, place_of, set_selected}
 use Rattle.xr_values.specs.declared.args.Args.{Args}
 use Rattle.xr_values.specs.declared.value.Value.{Value}

@@ -4,19 +4,20 @@ use Rattle.std.specs.Prelude.{◌≡◌, ◌≤◌, ◌<◌, ◌++◌, ◌^◌, 
 use Rattle.std.specs.List.{AllByRecursion}
 use Rattle.xr_types.specs.declared.axis.Axis.{Axis}
 use Rattle.xr_types.specs.declared.kind.DType.{DType}
-use Rattle.xr_defs.specs.declared.node.Node.{Node}
+use Rattle.xr_arrays.specs.declared.node.Node.{Node}
 use Rattle.xr_defs.specs.declared.value.Content.{Content}
 use Rattle.xr_defs.specs.declared.value.Content.TheVariants as contents
 use Rattle.xr_defs.specs.declared.value.Coord.{Coord}
-use Rattle.xr_defs.specs.Points.{size}
-use Rattle.xr_defs.specs.Arrays.{IsCell}
-use Rattle.xr_defs.specs.Classic.{among, is_name}
-use Rattle.xr_defs.specs.Canonical.{are_distinct}
+use Rattle.xr_types.specs.Points.{size}
+use Rattle.xr_arrays.specs.Arrays.{IsCell}
+use Rattle.xr_types.specs.Names.{among}
+use Rattle.xr_files.specs.Classic.{is_name}
+use Rattle.xr_types.specs.Names.{are_distinct}
 use Rattle.xr_defs.specs.Limits.{most_dimensions}
 use Rattle.xr_defs.specs.Values as of
-use Rattle.xr_defs.specs.Values.{axis_names, shape_over}
+use Rattle.xr_types.specs.Names.{axis_names, shape_over}
 use Rattle.xr_defs.specs.Selecting.{axis_called}
-use Rattle.xr_defs.specs.Times.{IsTime}
+use Rattle.xr_arrays.specs.Times.{IsTime}
 use Rattle.xr_values.specs.declared.data_array.DataArray.{DataArray}
 use Rattle.xr_values.specs.declared.variable.Variable.{Variable}
 use Rattle.xr_values.specs.declared.dataset.Dataset.{Dataset}

@@ -1,7 +1,7 @@
 //! What a call takes from its arguments.
 ghost use Rattle.std.specs.Prelude.{List};
-ghost use Rattle.xr_defs.specs.declared.node.Node.{Node};
-ghost use Rattle.xr_defs.specs.Results.{Answers};
+ghost use Rattle.xr_arrays.specs.declared.node.Node.{Node};
+ghost use Rattle.xr_types.specs.Results.{Answers};
 ghost use Rattle.xr_defs.specs.Selecting as of;
 ghost use Rattle.xr_values.specs.Meaning.{meaning, all_values};
 

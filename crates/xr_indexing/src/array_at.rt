@@ -1,8 +1,9 @@
 //! Arrays at positions of one dimension.
 ghost use Rattle.std.specs.Prelude.{◌≡◌, ◌<◌, length, All, IfOk, get_or};
-ghost use Rattle.xr_defs.specs.Points.{size};
-ghost use Rattle.xr_defs.specs.Room.{AddsAtMost};
-ghost use Rattle.xr_defs.specs.Values.{no_axis, shape_over};
+ghost use Rattle.xr_types.specs.Points.{size};
+ghost use Rattle.xr_arrays.specs.Added.{AddsAtMost};
+ghost use Rattle.xr_types.specs.Names.{shape_over};
+ghost use Rattle.xr_defs.specs.Values.{no_axis};
 ghost use Rattle.xr_defs.specs.Selecting as of;
 ghost use Rattle.plan_core.specs.Plans.{Grows};
 ghost use Rattle.xr_values.specs.Stands.{array_in};
@@ -16,7 +17,7 @@ use crate::labels::chosen_axis;
 use crate::points::{MOST_NODE_CELLS, points_over};
 use plan_core::Plan;
 use std::alloc::Global;
-use xr_defs::Node;
+use xr_arrays::Node;
 use xr_types::{Items, NoMemory};
 use xr_values::DataArray;
 

@@ -1,6 +1,6 @@
 //! Axes by their names.
 ghost use Rattle.std.specs.Prelude.{◌≡◌, ◌<◌, ◌++◌, length, IfOk, IfSome};
-ghost use Rattle.xr_defs.specs.Nodes.{without};
+ghost use Rattle.xr_arrays.specs.Nodes.{without};
 ghost use Rattle.xr_defs.specs.Values.{axis_position};
 ghost use Rattle.xr_defs.specs.Selecting.{axis_called};
 

@@ -1,6 +1,6 @@
 //! The positions of an axis that a call chooses: one, or several.
 ghost use Rattle.std.specs.Prelude.{◌≡◌, ◌<◌, ◌≤◌, ◌^◌, All, IfOk};
-ghost use Rattle.xr_defs.specs.Results.{Answers};
+ghost use Rattle.xr_types.specs.Results.{Answers};
 ghost use Rattle.xr_defs.specs.Selecting as of;
 ghost use Rattle.xr_indexing.specs.Choices.{choice_in, selector_in, IsChoice};
 

@@ -1,7 +1,7 @@
 //! Coordinates along a dimension of which positions are chosen.
 ghost use Rattle.std.specs.Prelude.{◌≡◌, ◌<◌, ◌++◌, length, map, slice_set, All, IfOk, OnOk, MatchOption, ⊤, true, get_or, None, Some, ◌∷◌, []};
-ghost use Rattle.xr_defs.specs.Arrays.{Array};
-ghost use Rattle.xr_defs.specs.Nodes.{IsBelow, picked_from, taken_from};
+ghost use Rattle.xr_arrays.specs.Arrays.{Array};
+ghost use Rattle.xr_arrays.specs.Nodes.{IsBelow, picked_from, taken_from};
 ghost use Rattle.xr_defs.specs.Values.{chosen_axis, chosen_axes, chosen_cells, chosen_content, chosen_coord, no_axis};
 ghost use Rattle.xr_defs.specs.Selecting.{content_at, coord_at, coords_at, label_coord};
 ghost use Rattle.xr_values.specs.WellFormed.{IsIndex};
@@ -12,7 +12,8 @@ use crate::labels::{chosen_axis, label_content};
 use crate::points::{MOST_NODE_CELLS, points, points_with};
 use plan_core::taken;
 use std::alloc::{AllocError, Global};
-use xr_defs::{ArrayValue, Content, Coord};
+use xr_arrays::ArrayValue;
+use xr_defs::{Content, Coord};
 use xr_types::{Axis, DeepCopy, Items};
 use xr_values::copy_coord;
 

@@ -1,6 +1,6 @@
 //! The axes of a dataset and the coordinates over them, where positions of one axis are chosen.
 ghost use Rattle.std.specs.Prelude.{◌≡◌, ◌<◌, ◌^◌, length, map, All, IfOk, get_or};
-ghost use Rattle.xr_defs.specs.Nodes.{without};
+ghost use Rattle.xr_arrays.specs.Nodes.{without};
 ghost use Rattle.xr_defs.specs.Values.{no_axis, chosen_axes, chosen_coord};
 ghost use Rattle.xr_defs.specs.Selecting.{axes_at, coords_at, set_coords_at};
 ghost use Rattle.xr_indexing.specs.Choices.{choice_in, AreCounted, IsChoice};

@@ -1,11 +1,12 @@
 //! `isel(x=..)` of an array: the array at positions of the dimensions that are named.
 ghost use Rattle.std.specs.Prelude.{◌≡◌, true, List, [], ◌∷◌, map, IfOk};
-ghost use Rattle.xr_defs.specs.declared.node.Node.{Node};
-ghost use Rattle.xr_defs.specs.Canonical.{are_distinct};
-ghost use Rattle.xr_defs.specs.Points.{size};
-ghost use Rattle.xr_defs.specs.Room.{of_array, room, AddsAtMost};
+ghost use Rattle.xr_arrays.specs.declared.node.Node.{Node};
+ghost use Rattle.xr_types.specs.Names.{are_distinct};
+ghost use Rattle.xr_types.specs.Points.{size};
+ghost use Rattle.xr_arrays.specs.Added.{AddsAtMost};
+ghost use Rattle.xr_defs.specs.Room.{of_array, room};
 ghost use Rattle.xr_defs.specs.Selecting as of;
-ghost use Rattle.xr_defs.specs.Values.{shape_over};
+ghost use Rattle.xr_types.specs.Names.{shape_over};
 ghost use Rattle.plan_core.specs.Plans.{Grows};
 ghost use Rattle.xr_values.specs.Answers.{AnswersArray};
 ghost use Rattle.xr_values.specs.Meaning.{given, with_key};
@@ -72,7 +73,7 @@ fn select_each(
 /// `BadArgument` for a plain argument; then, for each argument, `WrongKind` unless it is a position, a slice or a list of
 /// positions, and `BadArgument` for a step of 0; then `NoDimension` for the first name that is no dimension; then
 /// `OutOfRange` for a position that isn't there; then `TooLarge`.
-#[tactic(auto, using(crate::proofs::Bounds::long_array), unfolding(xr_defs::specs::Selecting::isel_array, xr_defs::specs::Results::unless, xr_values::specs::Meaning::given))]
+#[tactic(auto, using(crate::proofs::Bounds::long_array), unfolding(xr_defs::specs::Selecting::isel_array, xr_types::specs::Results::unless, xr_values::specs::Meaning::given))]
 pub fn isel_array(
     alloc: Global,
     plan: &mut Plan,

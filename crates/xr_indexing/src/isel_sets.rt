@@ -1,8 +1,9 @@
 //! `isel(x=..)` of a dataset: the dataset at positions of the dimensions that are named.
 ghost use Rattle.std.specs.Prelude.{◌≡◌, ◌*◌, true, List, [], ◌∷◌, map, IfOk};
-ghost use Rattle.xr_defs.specs.declared.node.Node.{Node};
-ghost use Rattle.xr_defs.specs.Canonical.{are_distinct};
-ghost use Rattle.xr_defs.specs.Room.{of_set, room, span, AddsAtMost};
+ghost use Rattle.xr_arrays.specs.declared.node.Node.{Node};
+ghost use Rattle.xr_types.specs.Names.{are_distinct};
+ghost use Rattle.xr_arrays.specs.Added.{AddsAtMost};
+ghost use Rattle.xr_defs.specs.Room.{of_set, room, span};
 ghost use Rattle.xr_defs.specs.Selecting as of;
 ghost use Rattle.plan_core.specs.Plans.{Grows};
 ghost use Rattle.xr_values.specs.Answers.{AnswersSet};
@@ -71,7 +72,7 @@ fn select_each(
 /// `BadArgument` for a plain argument; then, for each argument, `WrongKind` unless it is a position, a slice or a list of
 /// positions, and `BadArgument` for a step of 0; then `NoDimension` for the first name that is no dimension; then
 /// `OutOfRange` for a position that isn't there; then `TooLarge`.
-#[tactic(auto, using(crate::proofs::Bounds::long_set), unfolding(xr_defs::specs::Selecting::isel_set, xr_defs::specs::Results::unless, xr_values::specs::Meaning::given))]
+#[tactic(auto, using(crate::proofs::Bounds::long_set), unfolding(xr_defs::specs::Selecting::isel_set, xr_types::specs::Results::unless, xr_values::specs::Meaning::given))]
 pub fn isel_set(
     alloc: Global,
     plan: &mut Plan,

@@ -10,7 +10,8 @@ ghost use Rattle.std.specs.Option.{option_map};
 ghost use Rattle.xr_types.specs.declared.axis.Labels.{Labels as Index};
 
 use std::alloc::{AllocError, Global};
-use xr_defs::{ArrayValue, Cells, Content};
+use xr_arrays::{ArrayValue, Cells};
+use xr_defs::Content;
 use xr_types::{Axis, DType, DeepCopy, Items, LabelList, Labels, TextBytes};
 
 /// An array without dimensions.

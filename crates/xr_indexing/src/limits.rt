@@ -3,7 +3,7 @@ ghost use Rattle.std.specs.Prelude.{◌≡◌, ◌&&◌, nat_le};
 ghost use Rattle.std.specs.List.{list_all};
 ghost use Rattle.xr_types.specs.declared.axis.Axis.{Axis as OneAxis};
 ghost use Rattle.xr_defs.specs.Limits.{most_cells};
-ghost use Rattle.xr_defs.specs.Values.{shape_over};
+ghost use Rattle.xr_types.specs.Names.{shape_over};
 ghost use Rattle.xr_defs.specs.Selecting as of;
 ghost use Rattle.xr_indexing.specs.Limits.{are_vars_within, is_set_within};
 ghost use Rattle.xr_indexing.specs.Unbounded.{sizes_called};

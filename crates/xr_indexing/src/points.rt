@@ -1,7 +1,7 @@
 //! How many points a shape has.
 ghost use Rattle.std.specs.Prelude.{◌≡◌, ◌-◌, ◌^◌, min, slice_set};
-ghost use Rattle.xr_defs.specs.Points.{size};
-ghost use Rattle.xr_defs.specs.Values.{shape_over};
+ghost use Rattle.xr_types.specs.Points.{size};
+ghost use Rattle.xr_types.specs.Names.{shape_over};
 ghost use Rattle.xr_indexing.specs.Unbounded.{sizes_called};
 
 use crate::axes::size_called;

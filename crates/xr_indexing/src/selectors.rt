@@ -1,7 +1,7 @@
 //! Selectors that a call is given: a position, a slice of positions, or a list of them.
 ghost use Rattle.std.specs.Prelude.{◌≡◌, List, map};
-ghost use Rattle.xr_defs.specs.declared.node.Node.{Node};
-ghost use Rattle.xr_defs.specs.Results.{Answers, all_of};
+ghost use Rattle.xr_arrays.specs.declared.node.Node.{Node};
+ghost use Rattle.xr_types.specs.Results.{Answers, all_of};
 ghost use Rattle.xr_defs.specs.Meanings.{Slice};
 ghost use Rattle.xr_defs.specs.Arguments as calls;
 ghost use Rattle.xr_defs.specs.Selecting as of;
@@ -36,7 +36,7 @@ fn is_zero(step: Option<i128>) -> bool
     }
 }
 
-#[tactic(auto, unfolding(xr_defs::specs::Arguments::as_positions, xr_defs::specs::Results::unless))]
+#[tactic(auto, unfolding(xr_defs::specs::Arguments::as_positions, xr_types::specs::Results::unless))]
 fn as_positions(start: &Part, stop: &Part, step: Option<i128>) -> Result<Positions, CallFault>
     ensures { Answers positions_in result (calls.as_positions (Slice start.now stop.now step)) }
 {

@@ -1,6 +1,7 @@
 //! Datasets at positions of one dimension.
 ghost use Rattle.std.specs.Prelude.{◌<◌, ◌*◌, length, map, IfOk, get_or};
-ghost use Rattle.xr_defs.specs.Room.{span, AddsAtMost};
+ghost use Rattle.xr_arrays.specs.Added.{AddsAtMost};
+ghost use Rattle.xr_defs.specs.Room.{span};
 ghost use Rattle.xr_defs.specs.Values.{no_axis};
 ghost use Rattle.xr_defs.specs.Selecting as of;
 ghost use Rattle.plan_core.specs.Plans.{Grows};

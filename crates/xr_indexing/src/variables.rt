@@ -1,9 +1,10 @@
 //! Data variables where positions of an axis of their dataset are chosen.
 ghost use Rattle.std.specs.Prelude.{◌≡◌, ◌<◌, length, map, true, All, IfOk, IfSome, get_or, Some};
-ghost use Rattle.xr_defs.specs.Nodes.{without};
-ghost use Rattle.xr_defs.specs.Canonical.{are_distinct};
-ghost use Rattle.xr_defs.specs.Values.{axis_names, chosen_axes, no_axis};
-ghost use Rattle.xr_defs.specs.Room.{AddsAtMost};
+ghost use Rattle.xr_arrays.specs.Nodes.{without};
+ghost use Rattle.xr_types.specs.Names.{are_distinct};
+ghost use Rattle.xr_types.specs.Names.{axis_names};
+ghost use Rattle.xr_defs.specs.Values.{chosen_axes, no_axis};
+ghost use Rattle.xr_arrays.specs.Added.{AddsAtMost};
 ghost use Rattle.xr_defs.specs.Selecting as of;
 ghost use Rattle.plan_core.specs.Plans.{Grows};
 ghost use Rattle.xr_values.specs.Stands.{variable_in};
@@ -17,7 +18,7 @@ use crate::coords::sources;
 use crate::points::{MOST_NODE_CELLS, points_named_with};
 use plan_core::Plan;
 use std::alloc::Global;
-use xr_defs::Node;
+use xr_arrays::Node;
 use xr_types::{Axis, DeepCopy, Items, Name, NoMemory, TextBytes};
 use xr_values::{Variable, Variables};
 

@@ -1,6 +1,6 @@
 //! A store and a sink in memory, for tests.
 ghost use Rattle.std.specs.Prelude.{◌≡◌, ◌≢◌, ◌+◌, ◌^◌, ◌<◌, ◌≤◌, [], true, false, length, option_map, Ok, Err, IsOk, IfOk, OnOk};
-ghost use Rattle.xr_defs.specs.Canonical.{are_distinct};
+ghost use Rattle.xr_types.specs.Names.{are_distinct};
 ghost use Rattle.xr_outside.specs.Outside.{PutIs, OthersSame, Counted, GetCounted, GotIs, IsWithin, Takes, IsCount};
 ghost use Rattle.xr_outside.specs.PutLog.{found_in};
 ghost use Rattle.xr_outside.specs.Memory.{is_listed, next_call, Fails, files_of, put_all, file_names, nothing, bytes_of};

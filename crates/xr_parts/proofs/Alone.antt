@@ -8,17 +8,18 @@ use Rattle.std.proofs.lemmas.List.Elements.{All-nil, All-cons}
 use Rattle.xr_types.specs.declared.axis.Axis.{Axis}
 use Rattle.xr_types.specs.declared.fault.Fault.{Fault}
 use Rattle.xr_types.specs.declared.fault.Fault.TheVariants.{DuplicateName, TooLarge}
-use Rattle.xr_defs.specs.declared.node.Node.{Node}
+use Rattle.xr_arrays.specs.declared.node.Node.{Node}
 use Rattle.xr_defs.specs.declared.value.Content.{Content}
 use Rattle.xr_defs.specs.declared.value.Content.TheVariants as contents
 use Rattle.xr_defs.specs.declared.value.Coord.{Coord}
-use Rattle.xr_defs.specs.Classic.{among, is_name}
-use Rattle.xr_defs.specs.Canonical.{are_distinct}
+use Rattle.xr_types.specs.Names.{among}
+use Rattle.xr_files.specs.Classic.{is_name}
+use Rattle.xr_types.specs.Names.{are_distinct}
 use Rattle.xr_defs.specs.Limits.{most_cells, most_variables}
-use Rattle.xr_defs.specs.Points.{size}
-use Rattle.xr_defs.specs.Results.{◌>>=◌, unless}
+use Rattle.xr_types.specs.Points.{size}
+use Rattle.xr_types.specs.Results.{◌>>=◌, unless}
 use Rattle.xr_defs.specs.Values as of
-use Rattle.xr_defs.specs.Values.{axis_names, shape_over}
+use Rattle.xr_types.specs.Names.{axis_names, shape_over}
 use Rattle.xr_defs.specs.Selecting.{are_within, axis_called, check_set, is_within}
 use Rattle.xr_defs.specs.Parts.{as_set, is_taken, set_of_array}
 use Rattle.xr_values.specs.declared.data_array.DataArray.{DataArray}

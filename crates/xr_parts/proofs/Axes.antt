@@ -6,9 +6,10 @@ use Rattle.std.specs.List.{AllByRecursion}
 use Rattle.std.proofs.lemmas.Bool.{and_parts, or_parts, cases_Bool, cond-true, cond-false}
 use Rattle.xr_types.specs.declared.axis.Axis.{Axis}
 use Rattle.xr_defs.specs.declared.value.Coord.{Coord}
-use Rattle.xr_defs.specs.Classic.{among}
-use Rattle.xr_defs.specs.Canonical.{are_distinct}
-use Rattle.xr_defs.specs.Values.{axis_names, axis_position, no_axis, shape_over}
+use Rattle.xr_types.specs.Names.{among}
+use Rattle.xr_types.specs.Names.{are_distinct}
+use Rattle.xr_types.specs.Names.{axis_names, shape_over}
+use Rattle.xr_defs.specs.Values.{axis_position, no_axis}
 use Rattle.xr_defs.specs.Selecting.{axis_called}
 use Rattle.xr_defs.specs.Encoding.{coords_over, all_among}
 use Rattle.xr_defs.specs.Parts.{axes_called}

@@ -4,16 +4,17 @@ use Rattle.std.specs.Prelude.{if◌then◌else◌, IfOk}
 use Rattle.std.specs.Str.{bytes_eq}
 use Rattle.std.specs.List.{AllByRecursion}
 use Rattle.xr_types.specs.declared.attr.Attr.{Attr}
-use Rattle.xr_defs.specs.declared.node.Node.{Node}
+use Rattle.xr_arrays.specs.declared.node.Node.{Node}
 use Rattle.xr_types.specs.declared.attr.NcType.TheVariants.{Char, Int}
 use Rattle.xr_types.specs.declared.fault.Fault.{Fault}
 use Rattle.xr_types.specs.declared.fault.Fault.TheVariants.{DoesNotFit}
 use Rattle.xr_types.specs.declared.fault.CallFault.{CallFault}
 use Rattle.xr_defs.specs.Meanings as of
 use Rattle.xr_defs.specs.Encoding.{holds, value_bytes}
-use Rattle.xr_defs.specs.Results.{◌>>=◌, unless, Answers}
-use Rattle.xr_defs.specs.Classic.{among, attr_names, is_name}
-use Rattle.xr_defs.specs.Canonical.{are_distinct}
+use Rattle.xr_types.specs.Results.{◌>>=◌, unless, Answers}
+use Rattle.xr_types.specs.Names.{among}
+use Rattle.xr_files.specs.Classic.{attr_names, is_name}
+use Rattle.xr_types.specs.Names.{are_distinct}
 use Rattle.xr_defs.specs.Parts.{attr_given, each_attr, with_attr}
 use Rattle.xr_values.specs.declared.data_array.DataArray.{DataArray}
 use Rattle.xr_values.specs.declared.dataset.Dataset.{Dataset}

@@ -5,12 +5,12 @@ use Rattle.std.specs.Str.{is_utf8, IsUtf8}
 use Rattle.std.proofs.lemmas.Bool.{and_from, cond-false, cond-true, ne_eqb, not_from_false}
 use Rattle.std.proofs.lemmas.Str.{is_utf8-from_IsUtf8}
 use Rattle.xr_types.specs.declared.fault.Fault.{Fault}
-use Rattle.xr_defs.specs.declared.node.Node.{Node}
+use Rattle.xr_arrays.specs.declared.node.Node.{Node}
 use Rattle.xr_defs.specs.Arguments.{unfit}
-use Rattle.xr_defs.specs.Classic.{is_name}
+use Rattle.xr_files.specs.Classic.{is_name}
 use Rattle.xr_defs.specs.Arguments.{only}
 use Rattle.xr_defs.specs.Meanings.{Given}
-use Rattle.xr_defs.specs.Results.{◌>>=◌}
+use Rattle.xr_types.specs.Results.{◌>>=◌}
 use Rattle.xr_defs.specs.Values as of
 use Rattle.xr_defs.specs.Parts.{name_given, own_name, set_name}
 use Rattle.xr_arguments.proofs.Variants.{is_absent}

@@ -6,11 +6,12 @@ use Rattle.std.proofs.lemmas.Bool.{and_parts, or_parts, not-true, cases_Bool, co
 use Rattle.std.proofs.lemmas.List.{length-map}
 use Rattle.std.proofs.lemmas.List.Elements.{All-head, All-tail}
 use Rattle.xr_types.specs.declared.axis.Axis.{Axis}
-use Rattle.xr_defs.specs.Classic.{among}
-use Rattle.xr_defs.specs.Canonical.{are_distinct}
-use Rattle.xr_defs.specs.Nodes.{IsOrder}
-use Rattle.xr_defs.specs.Points.{size}
-use Rattle.xr_defs.specs.Values.{axis_names, no_axis, shape_over}
+use Rattle.xr_types.specs.Names.{among}
+use Rattle.xr_types.specs.Names.{are_distinct}
+use Rattle.xr_arrays.specs.Nodes.{IsOrder}
+use Rattle.xr_types.specs.Points.{size}
+use Rattle.xr_types.specs.Names.{axis_names, shape_over}
+use Rattle.xr_defs.specs.Values.{no_axis}
 use Rattle.xr_defs.specs.Selecting.{axis_called}
 use Rattle.xr_defs.specs.Parts.{axes_called, is_once}
 use Rattle.xr_values.proofs.Named.{bytes_eq_swap}

@@ -10,18 +10,18 @@ use Rattle.xr_types.specs.declared.attr.Attr.{Attr}
 use Rattle.xr_types.specs.declared.axis.Axis.{Axis}
 use Rattle.xr_types.specs.declared.fault.Fault.{Fault}
 use Rattle.xr_types.specs.declared.kind.DType.{DType}
-use Rattle.xr_defs.specs.declared.node.Node.{Node}
-use Rattle.xr_defs.specs.declared.node.Node.TheVariants.{Source}
+use Rattle.xr_arrays.specs.declared.node.Node.{Node}
+use Rattle.xr_arrays.specs.declared.node.Node.TheVariants.{Source}
 use Rattle.xr_defs.specs.declared.value.Content.TheVariants.{Cells}
 use Rattle.xr_defs.specs.declared.value.Coord.{Coord}
-use Rattle.xr_defs.specs.Arrays.{Array, IsArray, IsCell}
-use Rattle.xr_defs.specs.Classic.{among}
-use Rattle.xr_defs.specs.Canonical.{are_distinct}
+use Rattle.xr_arrays.specs.Arrays.{Array, IsArray, IsCell}
+use Rattle.xr_types.specs.Names.{among}
+use Rattle.xr_types.specs.Names.{are_distinct}
 use Rattle.xr_defs.specs.Encoding.{coords_over}
-use Rattle.xr_defs.specs.Nodes.{IsNode, Pushes, node_value, value, values}
-use Rattle.xr_defs.specs.Points.{size}
+use Rattle.xr_arrays.specs.Nodes.{IsNode, Pushes, node_value, value, values}
+use Rattle.xr_types.specs.Points.{size}
 use Rattle.xr_defs.specs.Values as of
-use Rattle.xr_defs.specs.Values.{axis_names, shape_over}
+use Rattle.xr_types.specs.Names.{axis_names, shape_over}
 use Rattle.xr_defs.specs.Parts.{axes_called, coordinate_of, is_labelled_as, not_there, picked_of_set, variable_as_array}
 use Rattle.xr_values.specs.declared.data_array.DataArray.{DataArray}
 use Rattle.xr_values.specs.declared.variable.Variable.{Variable}

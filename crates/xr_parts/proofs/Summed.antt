@@ -12,20 +12,21 @@ use Rattle.xr_types.specs.declared.attr.Attr.{Attr}
 use Rattle.xr_types.specs.declared.axis.Axis.{Axis}
 use Rattle.xr_types.specs.declared.kind.DType.{DType}
 use Rattle.xr_types.specs.declared.kind.DType.TheVariants.{Int64}
-use Rattle.xr_defs.specs.declared.operation.FoldKind.TheVariants.{Sum}
-use Rattle.xr_defs.specs.declared.node.Feed.{Feed}
-use Rattle.xr_defs.specs.declared.node.Feed.TheVariants as feed
-use Rattle.xr_defs.specs.declared.node.Node.{Node}
-use Rattle.xr_defs.specs.declared.node.Node.TheVariants.{Fold}
+use Rattle.xr_types.specs.declared.operation.FoldKind.TheVariants.{Sum}
+use Rattle.xr_arrays.specs.declared.node.Feed.{Feed}
+use Rattle.xr_arrays.specs.declared.node.Feed.TheVariants as feed
+use Rattle.xr_arrays.specs.declared.node.Node.{Node}
+use Rattle.xr_arrays.specs.declared.node.Node.TheVariants.{Fold}
 use Rattle.xr_defs.specs.declared.value.Coord.{Coord}
-use Rattle.xr_defs.specs.Arrays.{Array, at, IsCell}
-use Rattle.xr_defs.specs.Points.{size, tab}
-use Rattle.xr_defs.specs.Folds as folds
-use Rattle.xr_defs.specs.Folds.{numbered, numbers, fold_of}
-use Rattle.xr_defs.specs.Numbers.{sum_of}
-use Rattle.xr_defs.specs.Nodes.{folded, gathered, kept, input_of, IsNode, node_value, values, Pushes}
+use Rattle.xr_arrays.specs.Arrays.{Array, at, IsCell}
+use Rattle.xr_types.specs.Points.{size, tab}
+use Rattle.xr_arrays.specs.Folds as folds
+use Rattle.xr_arrays.specs.Folds.{numbered, numbers, fold_of}
+use Rattle.xr_arrays.specs.Numbers.{sum_of}
+use Rattle.xr_arrays.specs.Nodes.{folded, gathered, kept, input_of, IsNode, node_value, values, Pushes}
 use Rattle.xr_defs.specs.Values as of
-use Rattle.xr_defs.specs.Values.{array_of, axis_names, is_scalar, present, shape_over, total}
+use Rattle.xr_types.specs.Names.{axis_names, shape_over}
+use Rattle.xr_defs.specs.Values.{array_of, is_scalar, present, total}
 use Rattle.plan_core.proofs.Tabs.{flat_same, tab_read}
 use Rattle.xr_values.specs.declared.data_array.DataArray.{DataArray}
 use Rattle.xr_values.specs.WellFormed.{IsCoordinate, IsDataArray, names_of}

@@ -5,17 +5,18 @@ use Rattle.std.proofs.lemmas.Bool.{and_from, cond-true}
 use Rattle.std.proofs.lemmas.List.{length-map}
 use Rattle.xr_types.specs.declared.axis.Axis.{Axis}
 use Rattle.xr_types.specs.declared.kind.DType.{DType}
-use Rattle.xr_defs.specs.declared.node.Node.{Node}
-use Rattle.xr_defs.specs.declared.node.Node.TheVariants.{Reorder}
+use Rattle.xr_arrays.specs.declared.node.Node.{Node}
+use Rattle.xr_arrays.specs.declared.node.Node.TheVariants.{Reorder}
 use Rattle.xr_defs.specs.declared.value.Coord.{Coord}
-use Rattle.xr_defs.specs.Arrays.{Array, at, IsCell}
-use Rattle.xr_defs.specs.Classic.{among}
-use Rattle.xr_defs.specs.Canonical.{are_distinct}
+use Rattle.xr_arrays.specs.Arrays.{Array, at, IsCell}
+use Rattle.xr_types.specs.Names.{among}
+use Rattle.xr_types.specs.Names.{are_distinct}
 use Rattle.xr_defs.specs.Encoding.{all_among, coords_over}
-use Rattle.xr_defs.specs.Nodes.{IsNode, IsOrder, Pushes, moved, node_value, reordered, values}
-use Rattle.xr_defs.specs.Points.{IsPoint, place, size}
+use Rattle.xr_arrays.specs.Nodes.{IsNode, IsOrder, Pushes, moved, node_value, reordered, values}
+use Rattle.xr_types.specs.Points.{IsPoint, place, size}
 use Rattle.xr_defs.specs.Values as of
-use Rattle.xr_defs.specs.Values.{array_of, axis_names, no_axis, shape_over}
+use Rattle.xr_types.specs.Names.{axis_names, shape_over}
+use Rattle.xr_defs.specs.Values.{array_of, no_axis}
 use Rattle.xr_defs.specs.Parts.{axes_called, in_order}
 use Rattle.plan_core.specs.Strides.{moved_sizes}
 use Rattle.plan_core.proofs.Moves.{moving_inside}

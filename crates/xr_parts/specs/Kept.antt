@@ -4,10 +4,10 @@ use Rattle.std.specs.Str.{bytes_eq}
 use Rattle.std.specs.List.{list_any}
 use Rattle.xr_types.specs.declared.axis.Axis.{Axis}
 use Rattle.xr_defs.specs.declared.value.Coord.{Coord}
-use Rattle.xr_defs.specs.Classic.{among}
-use Rattle.xr_defs.specs.Values.{axis_names}
+use Rattle.xr_types.specs.Names.{among}
+use Rattle.xr_types.specs.Names.{axis_names}
 use Rattle.xr_defs.specs.Parts.{coords_left, has_coordinate, unlabelled}
-use Rattle.xr_defs.specs.Results.{all_of, unless}
+use Rattle.xr_types.specs.Results.{all_of, unless}
 use Rattle.xr_types.specs.declared.fault.Fault.{Fault}
 use Rattle.xr_types.specs.declared.fault.Fault.TheVariants.{NoVariable}
 use Rattle.xr_values.specs.declared.data_array.DataArray.{DataArray}

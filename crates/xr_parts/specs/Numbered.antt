@@ -7,7 +7,7 @@ use Rattle.xr_types.specs.declared.attr.NcType.TheVariants.{Int}
 use Rattle.xr_types.specs.declared.fault.Fault.{Fault}
 use Rattle.xr_types.specs.declared.fault.Fault.TheVariants.{DoesNotFit}
 use Rattle.xr_defs.specs.Encoding.{holds, value_bytes}
-use Rattle.xr_defs.specs.Results.{◌>>=◌, unless}
+use Rattle.xr_types.specs.Results.{◌>>=◌, unless}
 
 -- the first of the name
 unfoldable pub attr_place : List Attr → List ℕ → Option ℕ

@@ -6,15 +6,15 @@ use Rattle.xr_types.specs.declared.kind.DType.{DType}
 use Rattle.xr_types.specs.declared.fault.Fault.{Fault}
 use Rattle.xr_types.specs.declared.fault.CallFault.{CallFault}
 use Rattle.xr_types.specs.declared.fault.CallFault.TheVariants.{Refused, Declined, NoMemory}
-use Rattle.xr_defs.specs.declared.node.Node.{Node}
+use Rattle.xr_arrays.specs.declared.node.Node.{Node}
 use Rattle.xr_defs.specs.declared.value.Coord.{Coord}
-use Rattle.xr_defs.specs.Arrays.{Array}
+use Rattle.xr_arrays.specs.Arrays.{Array}
 use Rattle.xr_defs.specs.Encoding.{coords_over}
 use Rattle.xr_defs.specs.Parts.{axes_called, coordinate_of, index_as_array, is_labelled_as}
-use Rattle.xr_defs.specs.Classic.{among}
+use Rattle.xr_types.specs.Names.{among}
 use Rattle.xr_types.specs.declared.fault.Fault.TheVariants.{NotLoaded, NoVariable}
 use Rattle.xr_defs.specs.Values as of
-use Rattle.xr_defs.specs.Values.{axis_names}
+use Rattle.xr_types.specs.Names.{axis_names}
 use Rattle.xr_values.specs.declared.data_array.DataArray.{DataArray}
 use Rattle.xr_values.specs.declared.variable.Variable.{Variable}
 use Rattle.xr_values.specs.declared.dataset.Dataset.{Dataset}

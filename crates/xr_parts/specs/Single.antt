@@ -1,7 +1,7 @@
 -- An array as a dataset of one variable, both over the same node, and a call without arguments.
 use Rattle.std.specs.Prelude.{◌&&◌, ◌==◌, ℕ, Bool, List, [], ◌∷◌, length}
 use Rattle.xr_defs.specs.Meanings.{Given}
-use Rattle.xr_defs.specs.Values.{axis_names}
+use Rattle.xr_types.specs.Names.{axis_names}
 use Rattle.xr_values.specs.declared.data_array.DataArray.{DataArray}
 use Rattle.xr_values.specs.declared.variable.Variable.{Variable}
 use Rattle.xr_values.specs.declared.dataset.Dataset.{Dataset}

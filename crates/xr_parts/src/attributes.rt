@@ -1,7 +1,7 @@
 //! `assign_attrs(name=value)`: attributes of arrays and datasets.
 ghost use Rattle.std.specs.Prelude.{◌≡◌, ◌<◌, List, length, map, IfOk, IfSome, OnOk};
-ghost use Rattle.xr_defs.specs.declared.node.Node.{Node};
-ghost use Rattle.xr_defs.specs.Results.{Answers, all_of};
+ghost use Rattle.xr_arrays.specs.declared.node.Node.{Node};
+ghost use Rattle.xr_types.specs.Results.{Answers, all_of};
 ghost use Rattle.xr_defs.specs.Parts as of;
 ghost use Rattle.xr_defs.specs.Calls as calls;
 ghost use Rattle.xr_values.specs.Answers.{AnswersArray, AnswersSet};
@@ -126,7 +126,7 @@ fn each_attr(
 }
 
 // The attributes with those that a call gives.
-#[tactic(auto, unfolding(xr_defs::specs::Parts::attrs_assigned, xr_defs::specs::Results::unless, xr_values::specs::Meaning::given))]
+#[tactic(auto, unfolding(xr_defs::specs::Parts::attrs_assigned, xr_types::specs::Results::unless, xr_values::specs::Meaning::given))]
 fn attrs_assigned(alloc: Global, attrs: &Items<Attr>, args: &Args) -> Result<Items<Attr>, CallFault>
     ensures answers { (nodes : List Node) → Answers (λ a. a) result (of.attrs_assigned attrs.now (given nodes args.now)) }
     ensures formed { AreAttributes attrs.now → IfOk result AreAttributes }

@@ -2,11 +2,12 @@
 ghost use Rattle.std.specs.Prelude.{◌≡◌, ◌||◌, List, length, nat_le, true, codes, IfOk};
 ghost use Rattle.std.specs.Str.{bytes_eq};
 ghost use Rattle.std.specs.List.{list_any};
-ghost use Rattle.xr_defs.specs.declared.node.Node.{Node};
+ghost use Rattle.xr_arrays.specs.declared.node.Node.{Node};
 ghost use Rattle.xr_defs.specs.declared.value.Coord.{Coord as Other};
-ghost use Rattle.xr_defs.specs.Classic.{among, is_name};
-ghost use Rattle.xr_defs.specs.Results.{Answers};
-ghost use Rattle.xr_defs.specs.Values.{axis_names};
+ghost use Rattle.xr_types.specs.Names.{among};
+ghost use Rattle.xr_files.specs.Classic.{is_name};
+ghost use Rattle.xr_types.specs.Results.{Answers};
+ghost use Rattle.xr_types.specs.Names.{axis_names};
 ghost use Rattle.xr_defs.specs.Parts as of;
 ghost use Rattle.xr_values.specs.Answers.{AnswersSet};
 ghost use Rattle.xr_values.specs.Meaning.{meaning, given};

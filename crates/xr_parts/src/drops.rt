@@ -4,11 +4,11 @@ ghost use Rattle.std.specs.Str.{bytes_eq};
 ghost use Rattle.std.specs.List.{list_any};
 ghost use Rattle.xr_defs.specs.declared.value.Coord.{Coord as Other};
 ghost use Rattle.xr_types.specs.declared.fault.Fault.TheVariants.{NoVariable};
-ghost use Rattle.xr_defs.specs.declared.node.Node.{Node};
-ghost use Rattle.xr_defs.specs.Canonical.{are_distinct};
-ghost use Rattle.xr_defs.specs.Classic.{among};
-ghost use Rattle.xr_defs.specs.Results.{Answers, unless};
-ghost use Rattle.xr_defs.specs.Values.{axis_names};
+ghost use Rattle.xr_arrays.specs.declared.node.Node.{Node};
+ghost use Rattle.xr_types.specs.Names.{are_distinct};
+ghost use Rattle.xr_types.specs.Names.{among};
+ghost use Rattle.xr_types.specs.Results.{Answers, unless};
+ghost use Rattle.xr_types.specs.Names.{axis_names};
 ghost use Rattle.xr_defs.specs.Parts as of;
 ghost use Rattle.xr_values.specs.declared.variable.Variable.{Variable as Var};
 ghost use Rattle.xr_values.specs.Answers.{AnswersArray, AnswersSet};
@@ -98,7 +98,7 @@ fn has_coordinate(axes: &[Axis], coords: &[Coord], name: &TextBytes) -> bool
     has_coord(coords, name) || has_index(axes, name)
 }
 
-#[tactic(auto, unfolding(xr_defs::specs::Results::unless))]
+#[tactic(auto, unfolding(xr_types::specs::Results::unless))]
 fn check_coordinate(alloc: Global, on: &DataArray, name: &TextBytes) -> Result<(), CallFault>
     ensures { Answers (λ u. u) result (unless (of.has_coordinate on.now.axes on.now.coords name.now) (NoVariable name.now)) }
 {
@@ -150,7 +150,7 @@ fn has_variable(vars: &[Variable], name: &TextBytes) -> bool
     false
 }
 
-#[tactic(auto, unfolding(xr_defs::specs::Results::unless))]
+#[tactic(auto, unfolding(xr_types::specs::Results::unless))]
 fn check_name(alloc: Global, on: &Dataset, name: &TextBytes) -> Result<(), CallFault>
     ensures { Answers (λ u. u) result (unless (has_variable on.now.vars name.now || of.has_coordinate on.now.axes on.now.coords name.now) (NoVariable name.now)) }
 {

@@ -1,8 +1,8 @@
 //! Names of arrays: `rename(name)`, and the name of an array as a data variable.
 ghost use Rattle.std.specs.Prelude.{◌≡◌, List, true, codes, IfOk};
-ghost use Rattle.xr_defs.specs.declared.node.Node.{Node};
-ghost use Rattle.xr_defs.specs.Classic.{is_name};
-ghost use Rattle.xr_defs.specs.Results.{Answers};
+ghost use Rattle.xr_arrays.specs.declared.node.Node.{Node};
+ghost use Rattle.xr_files.specs.Classic.{is_name};
+ghost use Rattle.xr_types.specs.Results.{Answers};
 ghost use Rattle.xr_defs.specs.Parts as of;
 ghost use Rattle.xr_values.specs.Answers.{AnswersArray};
 ghost use Rattle.xr_values.specs.Meaning.{meaning, given};
@@ -14,7 +14,7 @@ use xr_types::{CallFault, DeepCopy, Fault, TextBytes};
 use xr_values::{Args, DataArray, Value};
 
 /// The name that a value gives, which isn't empty.
-#[tactic(auto, unfolding(xr_defs::specs::Parts::new_name, xr_defs::specs::Results::unless))]
+#[tactic(auto, unfolding(xr_defs::specs::Parts::new_name, xr_types::specs::Results::unless))]
 pub(crate) fn new_name(value: &Value) -> Result<&TextBytes, CallFault>
     ensures answers { (nodes : List Node) → Answers (λ t. t.now) result (of.new_name (meaning nodes value.now)) }
     ensures named { IfOk result (λ t. is_name t.now ≡ true) }

@@ -1,11 +1,12 @@
 //! `transpose(d1, d2)`: dimensions in another order.
 ghost use Rattle.std.specs.Prelude.{◌≡◌, ◌==◌, ◌<◌, List, [], ◌∷◌, length, map, get_or, All, IfOk, IfSome};
 ghost use Rattle.std.specs.List.{list_any};
-ghost use Rattle.xr_defs.specs.declared.node.Node.{Node};
-ghost use Rattle.xr_defs.specs.Results.{Answers};
+ghost use Rattle.xr_arrays.specs.declared.node.Node.{Node};
+ghost use Rattle.xr_types.specs.Results.{Answers};
 ghost use Rattle.xr_defs.specs.Values.{axis_position, no_axis};
 ghost use Rattle.xr_defs.specs.Parts as of;
-ghost use Rattle.xr_defs.specs.Room.{of_array, room, AddsAtMost, AddsForAny};
+ghost use Rattle.xr_arrays.specs.Added.{AddsAtMost};
+ghost use Rattle.xr_defs.specs.Room.{of_array, room, AddsForAny};
 ghost use Rattle.plan_core.specs.Plans.{Grows};
 ghost use Rattle.xr_values.specs.Answers.{AnswersArray};
 ghost use Rattle.xr_values.specs.Meaning.{given};
@@ -15,7 +16,7 @@ ghost use Rattle.xr_parts.specs.Orders.{IsArrangement, IsMovedTo};
 use crate::texts::as_texts;
 use plan_core::Plan;
 use std::alloc::{AllocError, Global};
-use xr_defs::Node;
+use xr_arrays::Node;
 use xr_types::{Axis, CallFault, DeepCopy, Fault, Items, NoMemory, Shape, TextBytes};
 use xr_values::{Args, DataArray};
 
@@ -95,7 +96,7 @@ fn backwards(alloc: Global, axes: &[Axis]) -> Result<Items<u64>, AllocError>
     Ok(order)
 }
 
-#[tactic(auto, unfolding(xr_defs::specs::Parts::order_given, xr_defs::specs::Results::unless))]
+#[tactic(auto, unfolding(xr_defs::specs::Parts::order_given, xr_types::specs::Results::unless))]
 fn order_given(alloc: Global, axes: &[Axis], names: &[TextBytes]) -> Result<Items<u64>, CallFault>
     ensures answers { Answers (λ order. order) result (of.order_given axes.now names.now) }
     ensures fits { IfOk result (λ order. IsArrangement (length axes.now) order) }
@@ -152,7 +153,7 @@ fn in_order(
 /// # Errors
 /// `BadArgument` for an argument by keyword; then `WrongKind` for one that isn't a text; then `NoDimension` for the first
 /// name that is no dimension; then `BadArgument` unless every dimension is named once.
-#[tactic(auto, unfolding(xr_defs::specs::Parts::transposed, xr_defs::specs::Results::unless, xr_values::specs::Meaning::given))]
+#[tactic(auto, unfolding(xr_defs::specs::Parts::transposed, xr_types::specs::Results::unless, xr_values::specs::Meaning::given))]
 pub fn transposed(
     alloc: Global,
     plan: &mut Plan,

@@ -9,13 +9,14 @@ ghost use Rattle.xr_types.specs.declared.kind.DType.TheVariants.{Int8, Int16, In
 ghost use Rattle.xr_types.specs.declared.axis.LabelList.TheVariants.{Numbers};
 ghost use Rattle.xr_defs.specs.declared.value.Content.TheVariants as contents;
 ghost use Rattle.xr_defs.specs.declared.value.Coord.{Coord as Other};
-ghost use Rattle.xr_defs.specs.Arrays.{Array};
+ghost use Rattle.xr_arrays.specs.Arrays.{Array};
 ghost use Rattle.xr_defs.specs.Building.{is_integer_kind};
-ghost use Rattle.xr_defs.specs.Classic.{among};
+ghost use Rattle.xr_types.specs.Names.{among};
 ghost use Rattle.xr_defs.specs.Encoding.{all_among, coords_over};
-ghost use Rattle.xr_defs.specs.Room.{of_array, of_set, room, AddsAtMost, AddsForAny};
+ghost use Rattle.xr_arrays.specs.Added.{AddsAtMost};
+ghost use Rattle.xr_defs.specs.Room.{of_array, of_set, room, AddsForAny};
 ghost use Rattle.xr_defs.specs.Selecting.{axis_called};
-ghost use Rattle.xr_defs.specs.Values.{axis_names};
+ghost use Rattle.xr_types.specs.Names.{axis_names};
 ghost use Rattle.xr_defs.specs.Parts as of;
 ghost use Rattle.plan_core.specs.Plans.{Grows};
 ghost use Rattle.xr_values.specs.Answers.{AnswersArray};
@@ -29,7 +30,8 @@ use crate::orders::axis_place;
 use crate::texts::is_among;
 use plan_core::Plan;
 use std::alloc::{AllocError, Global};
-use xr_defs::{ArrayValue, Cells, Content, Coord, Node};
+use xr_arrays::{ArrayValue, Cells, Node};
+use xr_defs::{Content, Coord};
 use xr_types::{
     Attr, Axis, CallFault, DType, DeepCopy, Fault, Items, LabelList, Labels, Name, NoMemory,
     TextBytes,

@@ -1,10 +1,11 @@
 //! `sum()`: the sum of all cells.
 ghost use Rattle.std.specs.Prelude.{◌≡◌, List, [], ◌∷◌, filter, length, replicate, IfOk};
-ghost use Rattle.xr_defs.specs.declared.node.Node.{Node};
-ghost use Rattle.xr_defs.specs.declared.node.Feed.TheVariants as feed;
+ghost use Rattle.xr_arrays.specs.declared.node.Node.{Node};
+ghost use Rattle.xr_arrays.specs.declared.node.Feed.TheVariants as feed;
 ghost use Rattle.xr_defs.specs.Values.{is_scalar};
 ghost use Rattle.xr_defs.specs.Calls as calls;
-ghost use Rattle.xr_defs.specs.Room.{of_array, room, AddsAtMost, AddsForAny};
+ghost use Rattle.xr_arrays.specs.Added.{AddsAtMost};
+ghost use Rattle.xr_defs.specs.Room.{of_array, room, AddsForAny};
 ghost use Rattle.plan_core.specs.Plans.{Grows};
 ghost use Rattle.xr_values.specs.Meaning.{given};
 ghost use Rattle.xr_values.specs.Stands.{array_in, IsArrayIn};
@@ -13,7 +14,9 @@ ghost use Rattle.xr_parts.specs.Totals.{AnswersAsValue, IsTotal};
 use plan_core::Plan;
 use std::alloc::{AllocError, Global};
 use xr_arguments::nothing_given;
-use xr_defs::{Coord, Feed, FoldKind, Node};
+use xr_types::FoldKind;
+use xr_arrays::{Feed, Node};
+use xr_defs::Coord;
 use xr_types::{CallFault, DType, DeepCopy, Fault, Items, NoMemory};
 use xr_values::{Args, DataArray, copy_coord};
 
@@ -79,7 +82,7 @@ fn total(alloc: Global, plan: &mut Plan, on: &DataArray) -> Result<DataArray, No
 ///
 /// # Errors
 /// `WrongKind` for an array of chars; then `BadArgument` for any argument.
-#[tactic(auto, unfolding(xr_defs::specs::Calls::sum_called, xr_defs::specs::Results::unless))]
+#[tactic(auto, unfolding(xr_defs::specs::Calls::sum_called, xr_types::specs::Results::unless))]
 pub fn sum_called(
     alloc: Global,
     plan: &mut Plan,

@@ -1,8 +1,8 @@
 //! The texts that values are.
 ghost use Rattle.std.specs.Prelude.{◌≡◌, List, map};
-ghost use Rattle.xr_defs.specs.declared.node.Node.{Node};
-ghost use Rattle.xr_defs.specs.Classic.{among};
-ghost use Rattle.xr_defs.specs.Results.{Answers};
+ghost use Rattle.xr_arrays.specs.declared.node.Node.{Node};
+ghost use Rattle.xr_types.specs.Names.{among};
+ghost use Rattle.xr_types.specs.Results.{Answers};
 ghost use Rattle.xr_defs.specs.Parts as of;
 ghost use Rattle.xr_values.specs.Meaning.{meaning, given};
 
@@ -52,7 +52,7 @@ fn as_names(alloc: Global, value: &Value) -> Result<Items<TextBytes>, CallFault>
 }
 
 /// The names of a call whose one argument gives them.
-#[tactic(auto, unfolding(xr_defs::specs::Parts::names_given, xr_defs::specs::Results::unless, xr_values::specs::Meaning::given))]
+#[tactic(auto, unfolding(xr_defs::specs::Parts::names_given, xr_types::specs::Results::unless, xr_values::specs::Meaning::given))]
 pub(crate) fn names_given(alloc: Global, args: &Args) -> Result<Items<TextBytes>, CallFault>
     ensures { (nodes : List Node) → Answers (λ ts. ts) result (of.names_given (given nodes args.now)) }
 {

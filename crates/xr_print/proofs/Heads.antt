@@ -7,7 +7,7 @@ use Rattle.xr_types.specs.declared.axis.LabelList.TheVariants.{Numbers, Times, T
 use Rattle.xr_defs.specs.declared.value.Content.{Content}
 use Rattle.xr_defs.specs.declared.value.Content.TheVariants as contents
 use Rattle.xr_defs.specs.Text.{printed_name, masked_text, after_blanks, label_kind, label_texts, index_line, quoted, cell_text}
-use Rattle.xr_defs.specs.Times.{time_text}
+use Rattle.xr_arrays.specs.Times.{time_text}
 use Rattle.xr_defs.specs.Printing.{dims_text, coord_line, content_line}
 use Rattle.xr_print.specs.Pieces.{index_head, coord_head, content_kind, content_masked, content_items, label_items, shown_time}
 

@@ -7,8 +7,8 @@ use Rattle.std.proofs.lemmas.List.FromFn.{get_or-map-range_with_len, length-map-
 use Rattle.xr_types.specs.declared.attr.Attr.{Attr}
 use Rattle.xr_types.specs.declared.attr.NcType.{NcType}
 use Rattle.xr_types.specs.declared.attr.NcType.TheVariants.{Byte, Char, Short, Int, Float, Double}
-use Rattle.xr_defs.specs.Classic.{width}
-use Rattle.xr_defs.specs.Numbers.{number_in, value_at, numbers_of}
+use Rattle.xr_types.specs.Widths.{width}
+use Rattle.xr_arrays.specs.Numbers.{number_in, value_at, numbers_of}
 use Rattle.xr_defs.specs.Text.{after_blanks}
 use Rattle.xr_defs.specs.Printing.{attr_items}
 use Rattle.xr_print.specs.Pieces.{items_of}

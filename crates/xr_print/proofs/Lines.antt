@@ -5,9 +5,9 @@ use Rattle.std.proofs.lemmas.List.{take-map, drop-map}
 use Rattle.std.specs.Fmt.{decimal, signed_decimal}
 use Rattle.xr_types.specs.declared.kind.DType.{DType}
 use Rattle.xr_types.specs.declared.kind.DType.TheVariants as kinds
-use Rattle.xr_defs.specs.declared.typed.Cells.{Cells}
-use Rattle.xr_defs.specs.declared.typed.Cells.TheVariants as kept
-use Rattle.xr_defs.specs.Arrays.{kind_of, wide, hidden}
+use Rattle.xr_arrays.specs.declared.typed.Cells.{Cells}
+use Rattle.xr_arrays.specs.declared.typed.Cells.TheVariants as kept
+use Rattle.xr_arrays.specs.Arrays.{kind_of, wide, hidden}
 use Rattle.xr_defs.specs.Text.{joined, cell_text, rows_text}
 use Rattle.xr_print.specs.Pieces.{lines_text, grid_text, text_unless, texts_of, truth_of, shown, IsMaskOf}
 

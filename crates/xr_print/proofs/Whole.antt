@@ -5,12 +5,12 @@ use Rattle.xr_types.specs.Kinds.{kind_name}
 use Rattle.xr_types.specs.declared.attr.Attr.{Attr}
 use Rattle.xr_types.specs.declared.axis.Axis.{Axis}
 use Rattle.xr_types.specs.declared.kind.DType.{DType}
-use Rattle.xr_defs.specs.Arrays.{Array}
-use Rattle.xr_defs.specs.declared.node.Node.{Node}
+use Rattle.xr_arrays.specs.Arrays.{Array}
+use Rattle.xr_arrays.specs.declared.node.Node.{Node}
 use Rattle.xr_defs.specs.declared.value.Coord.{Coord}
 use Rattle.xr_defs.specs.Text.{array_name, axis_text, masked_text, head_line, rows_text, row_size}
 use Rattle.xr_defs.specs.Values as of
-use Rattle.xr_defs.specs.Values.{shape_over}
+use Rattle.xr_types.specs.Names.{shape_over}
 use Rattle.xr_defs.specs.Printing.{array_text, set_text, coords_text, attr_line, dim_line, var_line, skipped_line}
 use Rattle.xr_values.specs.declared.data_array.DataArray.{DataArray}
 use Rattle.xr_values.specs.declared.dataset.Dataset.{Dataset}

@@ -8,12 +8,12 @@ use Rattle.xr_types.specs.declared.attr.NcType.TheVariants.{Char, Float, Double}
 use Rattle.xr_types.specs.Kinds.{kind_name}
 use Rattle.xr_defs.specs.declared.value.Content.{Content}
 use Rattle.xr_defs.specs.declared.value.Content.TheVariants as contents
-use Rattle.xr_defs.specs.declared.typed.Cells.{Cells}
-use Rattle.xr_defs.specs.declared.typed.Cells.TheVariants as kept
-use Rattle.xr_defs.specs.Numbers.{numbers_of}
+use Rattle.xr_arrays.specs.declared.typed.Cells.{Cells}
+use Rattle.xr_arrays.specs.declared.typed.Cells.TheVariants as kept
+use Rattle.xr_arrays.specs.Numbers.{numbers_of}
 use Rattle.xr_defs.specs.Printing.{chars_text, dims_text}
 use Rattle.xr_defs.specs.Text.{escape, quoted_byte, joined, truth_text, printed_name, masked_text, label_kind, cell_text, quoted}
-use Rattle.xr_defs.specs.Times.{time_text}
+use Rattle.xr_arrays.specs.Times.{time_text}
 
 -- the first byte of a character of so many bytes, or one with no character at it
 abbrev pub first_text : ℕ → ℕ → List ℕ

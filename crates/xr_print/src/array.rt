@@ -1,7 +1,7 @@
 //! The printed form of an array.
 ghost use Rattle.std.specs.Prelude.{◌≡◌, ◌++◌, All, length, map, true, IfOk, OnOk};
 ghost use Rattle.xr_defs.specs.Text.{array_name, axis_text, row_size};
-ghost use Rattle.xr_defs.specs.Values.{shape_over};
+ghost use Rattle.xr_types.specs.Names.{shape_over};
 ghost use Rattle.xr_defs.specs.Printing.{array_text};
 ghost use Rattle.xr_print.specs.Conditions.{HasTimes, HoldsTime};
 ghost use Rattle.xr_print.specs.Printed.{with_cells, axes_text, head_text};
@@ -14,7 +14,7 @@ use crate::grid::push_cell_lines;
 use crate::names::push_name;
 use itoa::Buffer;
 use std::alloc::{AllocError, Global};
-use xr_defs::ArrayValue;
+use xr_arrays::ArrayValue;
 use xr_types::{Axis, DType, Name};
 use xr_values::DataArray;
 

@@ -1,8 +1,8 @@
 //! The lines of coordinates that are no index.
 ghost use Rattle.std.specs.Prelude.{◌≡◌, ◌++◌, [], ◌∷◌, OnOk};
 ghost use Rattle.xr_defs.specs.Text.{after_blanks, quoted, masked_text};
-ghost use Rattle.xr_defs.specs.Times.{IsTime};
-ghost use Rattle.xr_defs.specs.Values.{axis_names};
+ghost use Rattle.xr_arrays.specs.Times.{IsTime};
+ghost use Rattle.xr_types.specs.Names.{axis_names};
 ghost use Rattle.xr_defs.specs.Printing.{content_line, coord_text};
 ghost use Rattle.xr_print.specs.Conditions.{IsTimeContent, HoldsTime};
 ghost use Rattle.xr_print.specs.Pieces.{coord_head, content_kind, content_masked, content_items, shown_time};

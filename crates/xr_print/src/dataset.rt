@@ -1,6 +1,6 @@
 //! The printed form of a dataset.
 ghost use Rattle.std.specs.Prelude.{◌≡◌, ◌++◌, All, List, flat_map, IfOk, OnOk};
-ghost use Rattle.xr_defs.specs.declared.node.Node.{Node};
+ghost use Rattle.xr_arrays.specs.declared.node.Node.{Node};
 ghost use Rattle.xr_defs.specs.Printing.{dim_line, skipped_line, set_text};
 ghost use Rattle.xr_values.specs.Stands.{dataset_in};
 ghost use Rattle.xr_print.specs.Conditions.{HasTimes, HoldsTime};

@@ -2,7 +2,7 @@
 ghost use Rattle.std.specs.Prelude.{◌≡◌, ◌++◌, map, true, OnOk};
 ghost use Rattle.xr_defs.specs.Text.{axis_text, printed_name};
 ghost use Rattle.xr_defs.specs.Printing.{dims_text};
-ghost use Rattle.xr_defs.specs.Values.{axis_names};
+ghost use Rattle.xr_types.specs.Names.{axis_names};
 ghost use Rattle.xr_print.specs.Pieces.{listed, between};
 
 use crate::names::push_name;

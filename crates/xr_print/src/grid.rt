@@ -1,6 +1,6 @@
 //! The cells of an array, with its mask where it has one.
 ghost use Rattle.std.specs.Prelude.{◌≡◌, ◌++◌, ◌*◌, ◌/◌, ◌≤◌, length, map, OnOk, option_copied};
-ghost use Rattle.xr_defs.specs.Arrays.{wide};
+ghost use Rattle.xr_arrays.specs.Arrays.{wide};
 ghost use Rattle.xr_defs.specs.Text.{after_blanks, cell_text, rows_text};
 ghost use Rattle.xr_print.specs.Pieces.{texts_of, grid_text, shown, IsMaskOf};
 
@@ -9,7 +9,7 @@ use crate::{masked_rows, rows};
 use itoa::Buffer;
 use std::alloc::AllocError;
 use stored_cells::as_typed;
-use xr_defs::{ArrayValue, Cells};
+use xr_arrays::{ArrayValue, Cells};
 use xr_types::Items;
 
 fn push_texts<T: Copy, P: CellText<T>>(

@@ -1,7 +1,7 @@
 //! The lines of indexes.
 ghost use Rattle.std.specs.Prelude.{◌≡◌, ◌++◌, All, flat_map, map, OnOk};
 ghost use Rattle.xr_defs.specs.Text.{after_blanks, quoted, label_kind, index_line, index_text};
-ghost use Rattle.xr_defs.specs.Times.{IsTime};
+ghost use Rattle.xr_arrays.specs.Times.{IsTime};
 ghost use Rattle.xr_print.specs.Conditions.{AreTimes, HasTimes};
 ghost use Rattle.xr_print.specs.Pieces.{index_head, label_items, shown_time};
 

@@ -2,8 +2,8 @@
 ghost use Rattle.std.specs.Prelude.{◌≡◌, ◌++◌, ◌<◌, ◌/◌, length, map, pos, true, OnOk};
 ghost use Rattle.std.specs.Fmt.{signed_decimal};
 ghost use Rattle.xr_types.specs.declared.attr.NcType.TheVariants as types;
-ghost use Rattle.xr_defs.specs.Classic.{width};
-ghost use Rattle.xr_defs.specs.Numbers.{is_whole, number_in, value_at, numbers_of};
+ghost use Rattle.xr_types.specs.Widths.{width};
+ghost use Rattle.xr_arrays.specs.Numbers.{is_whole, number_in, value_at, numbers_of};
 ghost use Rattle.xr_defs.specs.Text.{after_blanks};
 
 use itoa::Buffer;

@@ -1,6 +1,6 @@
 //! Times.
 ghost use Rattle.std.specs.Prelude.{◌≡◌, ◌++◌, OnOk};
-ghost use Rattle.xr_defs.specs.Times.{IsTime};
+ghost use Rattle.xr_arrays.specs.Times.{IsTime};
 ghost use Rattle.xr_print.specs.Pieces.{shown_time};
 
 use std::alloc::AllocError;

@@ -1,11 +1,11 @@
 -- One statement: what it does is found, and then done.
 use Rattle.std.proofs.Common.{◌≡◌, ◌∙◌, ℕ, Bool, List, ◌++◌, Result, Ok, Err, refl, sym, ap, subst}
 use Rattle.xr_types.specs.declared.text.TextBytes.{TextBytes}
-use Rattle.xr_defs.specs.declared.node.Node.{Node}
-use Rattle.xr_defs.specs.Results.{◌>>=◌}
+use Rattle.xr_arrays.specs.declared.node.Node.{Node}
+use Rattle.xr_types.specs.Results.{◌>>=◌}
 use Rattle.xr_defs.specs.Stores.{Files}
-use Rattle.xr_defs.specs.Syntax as tree
-use Rattle.xr_defs.specs.Syntax.{Tree, Args, Line}
+use Rattle.xr_syntax.specs.Syntax as tree
+use Rattle.xr_syntax.specs.Syntax.{Tree, Args, Line}
 use Rattle.xr_defs.specs.Meanings as of
 use Rattle.xr_defs.specs.Meanings.{Given}
 use Rattle.xr_defs.specs.Calls.{set_written}

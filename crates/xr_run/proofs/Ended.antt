@@ -8,9 +8,9 @@ use Rattle.xr_types.specs.declared.status.Status.{Status}
 use Rattle.xr_types.specs.declared.status.Status.TheVariants.{Done, Refused, BadWords, NoScript, BadScript, Storage, NoMemory}
 use Rattle.xr_defs.specs.Stores.{Files}
 use Rattle.xr_defs.specs.Messages.{status_line}
-use Rattle.xr_defs.specs.Syntax.{Line}
-use Rattle.xr_defs.specs.Tokens.{text_fault, tokens_of}
-use Rattle.xr_defs.specs.Scripts.{IsScriptText, IsFirstFault, FirstFault}
+use Rattle.xr_syntax.specs.Syntax.{Line}
+use Rattle.xr_syntax.specs.Tokens.{text_fault, tokens_of}
+use Rattle.xr_syntax.specs.Scripts.{IsScriptText, IsFirstFault, FirstFault}
 use Rattle.xr_defs.specs.Runs.{Ended, ended, start, run_from, Run, no_words, no_script, script, ScriptRun, not_begun, begun as run_begun, IsPutInRun, put_by}
 use Rattle.xr_run.specs.declared.stopped.Stopped.{Stopped}
 use Rattle.xr_run.specs.declared.stopped.Stopped.TheVariants as stops

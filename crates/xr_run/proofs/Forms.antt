@@ -4,13 +4,13 @@ use Rattle.std.proofs.lemmas.List.{nil_from_length, length-drop}
 use Rattle.xr_types.specs.declared.text.TextBytes.{TextBytes}
 use Rattle.xr_types.specs.declared.fault.Fault.{Fault}
 use Rattle.xr_types.specs.declared.fault.Fault.TheVariants.{WrongKind}
-use Rattle.xr_defs.specs.declared.syntax.Constant.{Constant}
-use Rattle.xr_defs.specs.declared.syntax.Expr.{Expr}
-use Rattle.xr_defs.specs.declared.operation.OpKind.{OpKind}
-use Rattle.xr_defs.specs.Results.{◌>>=◌}
+use Rattle.xr_syntax.specs.declared.syntax.Constant.{Constant}
+use Rattle.xr_syntax.specs.declared.syntax.Expr.{Expr}
+use Rattle.xr_types.specs.declared.operation.OpKind.{OpKind}
+use Rattle.xr_types.specs.Results.{◌>>=◌}
 use Rattle.xr_defs.specs.Stores.{Files}
-use Rattle.xr_defs.specs.Syntax as tree
-use Rattle.xr_defs.specs.Syntax.{Tree, Args, tree_of}
+use Rattle.xr_syntax.specs.Syntax as tree
+use Rattle.xr_syntax.specs.Syntax.{Tree, Args, tree_of}
 use Rattle.xr_defs.specs.Meanings as of
 use Rattle.xr_defs.specs.Meanings.{Values, Entries, With, Entry, Given}
 use Rattle.xr_defs.specs.Arguments.{wrong}

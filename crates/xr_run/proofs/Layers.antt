@@ -3,18 +3,18 @@ use Rattle.std.proofs.Common.{◌≡◌, ◌∙◌, ℤ, List, Option, All, ap, 
 use Rattle.std.specs.Prelude.{Vec, Box}
 use Rattle.std.specs.declared.alloc.Global.{Global}
 use Rattle.xr_types.specs.declared.text.TextBytes.{TextBytes}
-use Rattle.xr_defs.specs.declared.operation.OpKind.{OpKind}
-use Rattle.xr_defs.specs.declared.syntax.Constant.{Constant}
-use Rattle.xr_defs.specs.declared.syntax.Expr.{Expr}
-use Rattle.xr_defs.specs.declared.syntax.Expr.TheVariants as expr
-use Rattle.xr_defs.specs.declared.syntax.Expr.TheOpen as open-expr
-use Rattle.xr_defs.specs.declared.syntax.Expr.TheOpen.{Expr-F}
-use Rattle.xr_defs.specs.declared.syntax.Expr.TheViews.{roll-Expr, out-roll-Expr}
-use Rattle.xr_defs.specs.Syntax as tree
-use Rattle.xr_defs.specs.Syntax.{tree_of, layer_tree, all_arguments, all_trees, all_entries}
-use Rattle.xr_defs.proofs.Trees.{tree_out}
+use Rattle.xr_types.specs.declared.operation.OpKind.{OpKind}
+use Rattle.xr_syntax.specs.declared.syntax.Constant.{Constant}
+use Rattle.xr_syntax.specs.declared.syntax.Expr.{Expr}
+use Rattle.xr_syntax.specs.declared.syntax.Expr.TheVariants as expr
+use Rattle.xr_syntax.specs.declared.syntax.Expr.TheOpen as open-expr
+use Rattle.xr_syntax.specs.declared.syntax.Expr.TheOpen.{Expr-F}
+use Rattle.xr_syntax.specs.declared.syntax.Expr.TheViews.{roll-Expr, out-roll-Expr}
+use Rattle.xr_syntax.specs.Syntax as tree
+use Rattle.xr_syntax.specs.Syntax.{tree_of, layer_tree, all_arguments, all_trees, all_entries}
+use Rattle.xr_syntax.proofs.Trees.{tree_out}
 use Rattle.xr_defs.specs.Meanings as of
-use Rattle.xr_defs.specs.declared.node.Node.{Node}
+use Rattle.xr_arrays.specs.declared.node.Node.{Node}
 use Rattle.xr_values.specs.declared.value.Value.{Value}
 use Rattle.xr_values.specs.declared.value.Value.TheVariants as value
 use Rattle.xr_values.specs.declared.value.Value.TheOpen as open-value

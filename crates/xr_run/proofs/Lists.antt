@@ -2,11 +2,11 @@
 use Rattle.std.proofs.Common.{◌≡◌, ◌∙◌, List, [], ◌∷◌, map, Option, Some, None, Result, Ok, Err, refl}
 use Rattle.xr_types.specs.declared.text.TextBytes.{TextBytes}
 use Rattle.xr_types.specs.declared.fault.Fault.{Fault}
-use Rattle.xr_defs.specs.declared.syntax.Expr.{Expr}
-use Rattle.xr_defs.specs.Results.{◌>>=◌}
+use Rattle.xr_syntax.specs.declared.syntax.Expr.{Expr}
+use Rattle.xr_types.specs.Results.{◌>>=◌}
 use Rattle.xr_defs.specs.Stores.{Files}
-use Rattle.xr_defs.specs.Syntax as tree
-use Rattle.xr_defs.specs.Syntax.{Tree, tree_of, arguments, trees, all_arguments, all_trees, all_entries, with_name, with_key}
+use Rattle.xr_syntax.specs.Syntax as tree
+use Rattle.xr_syntax.specs.Syntax.{Tree, tree_of, arguments, trees, all_arguments, all_trees, all_entries, with_name, with_key}
 use Rattle.xr_defs.specs.Meanings.{With, Entry, NoValue, NoEntry}
 use Rattle.xr_defs.specs.Evaluation.{Names, value_of, values_of, entries_of, given_of, and_plain, and_keyed, no_arguments}
 use Rattle.xr_run.specs.Arguments.{given_rest, values_rest, entries_rest}

@@ -2,7 +2,7 @@
 use Rattle.std.proofs.Common.{◌≡◌, ◌<◌, ◌∙◌, ℕ, Bool, List, length, Option, Some, None, Err, ltb, true, refl, ap, rules, tests}
 use Rattle.xr_types.specs.declared.fault.CdfKind.TheVariants.{TooLarge}
 use Rattle.xr_types.specs.declared.fault.Fault.TheVariants.{BadFile, NoFile}
-use Rattle.xr_defs.specs.Files.{file_in}
+use Rattle.xr_files.specs.Files.{file_in}
 use Rattle.xr_defs.specs.Stores.{Files}
 use Rattle.xr_defs.specs.Calls.{set_in, opened_set}
 use Rattle.xr_run.specs.Functions.{set_value}

@@ -3,8 +3,8 @@ use Rattle.std.proofs.Common.{◌≡◌, ℕ, List, Option, Some, None, refl, sy
 use Rattle.xr_types.specs.declared.status.ScriptFault.{ScriptFault}
 use Rattle.xr_types.specs.declared.status.Status.TheVariants.{BadScript}
 use Rattle.xr_defs.specs.Stores.{Files}
-use Rattle.xr_defs.specs.Syntax.{Line}
-use Rattle.xr_defs.specs.Scripts.{IsScriptText, IsFirstFault}
+use Rattle.xr_syntax.specs.Syntax.{Line}
+use Rattle.xr_syntax.specs.Scripts.{IsScriptText, IsFirstFault}
 use Rattle.xr_defs.specs.Runs.{Ended, ended, start, run_from, Run, no_words, no_script, script, ScriptRun, not_begun, begun}
 
 abbrev pub OneTree : Type 0

@@ -4,9 +4,9 @@ use Rattle.std.specs.Prelude.{IsTrue}
 use Rattle.std.proofs.lemmas.List.{append-nil, nil_from_length, length-drop}
 use Rattle.xr_types.specs.declared.fault.Fault.{Fault}
 use Rattle.xr_types.specs.declared.status.Status.TheVariants as statuses
-use Rattle.xr_defs.specs.declared.syntax.Statement.{Statement}
-use Rattle.xr_defs.specs.Syntax as tree
-use Rattle.xr_defs.specs.Syntax.{Line, line_of}
+use Rattle.xr_syntax.specs.declared.syntax.Statement.{Statement}
+use Rattle.xr_syntax.specs.Syntax as tree
+use Rattle.xr_syntax.specs.Syntax.{Line, line_of}
 use Rattle.xr_defs.specs.Stores.{Files}
 use Rattle.xr_defs.specs.Evaluation.{Names}
 use Rattle.xr_defs.specs.Runs.{State, step, run_from, start, Ended, ended, IsPut, put_now, put_later}

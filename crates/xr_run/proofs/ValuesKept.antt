@@ -2,7 +2,7 @@
 use Rattle.std.proofs.Common.{◌≡◌, List, All, ap}
 use Rattle.std.proofs.lemmas.List.Elements.{All-weaker}
 use Rattle.xr_types.specs.declared.text.TextBytes.{TextBytes}
-use Rattle.xr_defs.specs.declared.node.Node.{Node}
+use Rattle.xr_arrays.specs.declared.node.Node.{Node}
 use Rattle.xr_defs.specs.Meanings.{NoValue, NoEntry}
 use Rattle.plan_core.specs.Plans.{Grows}
 use Rattle.xr_values.specs.declared.value.Value.{Value}

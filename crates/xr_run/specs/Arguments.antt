@@ -2,10 +2,10 @@
 use Rattle.std.specs.Prelude.{List, [], ◌∷◌, Option, Some, None, Result, Ok}
 use Rattle.xr_types.specs.declared.text.TextBytes.{TextBytes}
 use Rattle.xr_types.specs.declared.fault.Fault.{Fault}
-use Rattle.xr_defs.specs.declared.syntax.Expr.{Expr}
-use Rattle.xr_defs.specs.Results.{◌>>=◌}
+use Rattle.xr_syntax.specs.declared.syntax.Expr.{Expr}
+use Rattle.xr_types.specs.Results.{◌>>=◌}
 use Rattle.xr_defs.specs.Stores.{Files}
-use Rattle.xr_defs.specs.Syntax.{tree_of}
+use Rattle.xr_syntax.specs.Syntax.{tree_of}
 use Rattle.xr_defs.specs.Meanings.{Value, Values, Entries, With, Entry, Given}
 use Rattle.xr_defs.specs.Evaluation.{Names, value_of, and_plain, and_keyed}
 

@@ -3,8 +3,8 @@ use Rattle.std.specs.Prelude.{◌≡◌, ◌≤◌, ◌⊎◌, ◌++◌, ℕ, Bo
 use Rattle.xr_types.specs.declared.status.Status.{Status}
 use Rattle.xr_types.specs.declared.status.Status.TheVariants as statuses
 use Rattle.xr_defs.specs.Stores.{Files}
-use Rattle.xr_defs.specs.Syntax.{Line}
-use Rattle.xr_defs.specs.Scripts.{IsScriptText}
+use Rattle.xr_syntax.specs.Syntax.{Line}
+use Rattle.xr_syntax.specs.Scripts.{IsScriptText}
 use Rattle.xr_defs.specs.Runs.{Ended, Run, ScriptRun, IsPut, IsPutInRun, start}
 use Rattle.xr_run.specs.declared.stopped.Stopped.{Stopped}
 use Rattle.xr_run.specs.declared.stopped.Stopped.TheVariants.{Refused, Storage, NoMemory}

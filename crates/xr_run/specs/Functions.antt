@@ -1,7 +1,7 @@
 -- The call of open_dataset, by its parts.
 use Rattle.std.specs.Prelude.{Result, Ok}
 use Rattle.xr_types.specs.declared.fault.Fault.{Fault}
-use Rattle.xr_defs.specs.Results.{◌>>=◌}
+use Rattle.xr_types.specs.Results.{◌>>=◌}
 use Rattle.xr_defs.specs.Stores.{Files}
 use Rattle.xr_defs.specs.Values.{Dataset}
 use Rattle.xr_defs.specs.Calls.{open_asked, opened_set}

@@ -1,11 +1,11 @@
 -- What a statement does, and what it leaves.
 use Rattle.std.specs.Prelude.{◌≡◌, ◌≢◌, ◌≤◌, ◌⊎◌, ℕ, Bool, List, ◌++◌, IsTrue, Result, Ok, Err}
 use Rattle.xr_defs.specs.Stores.{Files}
-use Rattle.xr_defs.specs.Syntax as tree
-use Rattle.xr_defs.specs.Syntax.{Line}
+use Rattle.xr_syntax.specs.Syntax as tree
+use Rattle.xr_syntax.specs.Syntax.{Line}
 use Rattle.xr_defs.specs.Evaluation.{Names}
 use Rattle.xr_defs.specs.Runs.{State, step, with_name, with_text, with_file}
-use Rattle.xr_defs.specs.declared.node.Node.{Node}
+use Rattle.xr_arrays.specs.declared.node.Node.{Node}
 use Rattle.xr_values.specs.Meaning.{meaning, IsValueIn}
 use Rattle.xr_run.specs.declared.effect.Effect.{Effect}
 use Rattle.xr_run.specs.declared.effect.Effect.TheVariants.{Bind, Print, Write}

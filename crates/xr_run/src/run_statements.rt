@@ -1,7 +1,7 @@
 //! Carries out the statements of a script in order.
 ghost use Rattle.std.specs.Prelude.{◌≡◌, map, IsTrue};
 ghost use denote.Param.Send.{IsSync};
-ghost use Rattle.xr_defs.specs.Syntax.{line_of};
+ghost use Rattle.xr_syntax.specs.Syntax.{line_of};
 ghost use Rattle.xr_defs.specs.Runs.{run_from, start};
 ghost use Rattle.xr_run.specs.Ends.{Ends, StatementsKeep, StatusTallied, Untouched, status_of};
 
@@ -11,7 +11,7 @@ use crate::stopped::Stopped;
 use plan_core::{Plan, Whole};
 use std::alloc::Global;
 use std::thread::Threads;
-use xr_defs::Statement;
+use xr_syntax::Statement;
 use xr_outside::{Sink, Store};
 use xr_types::Status;
 use xr_values::Cx;

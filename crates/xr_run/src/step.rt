@@ -1,8 +1,8 @@
 //! Carries out one statement: what it does is found first, with each check, and then done.
 ghost use Rattle.std.specs.Prelude.{◌≡◌, List, IsTrue, IfOk, codes};
 ghost use denote.Param.Send.{IsSync};
-ghost use Rattle.xr_defs.specs.declared.node.Node.{Node};
-ghost use Rattle.xr_defs.specs.Syntax.{line_of, tree_of, all_arguments, Assigned, Aligned, Placed, Printed as a_print, Written as a_write, Call as a_call, Method as a_method};
+ghost use Rattle.xr_arrays.specs.declared.node.Node.{Node};
+ghost use Rattle.xr_syntax.specs.Syntax.{line_of, tree_of, all_arguments, Assigned, Aligned, Placed, Printed as a_print, Written as a_write, Call as a_call, Method as a_method};
 ghost use Rattle.plan_core.specs.Plans.{Grows};
 ghost use Rattle.xr_run.specs.Answers.{Tallied};
 ghost use Rattle.xr_run.specs.Named.{names_of, AreNamesIn};
@@ -17,7 +17,7 @@ use crate::writing::written;
 use plan_core::Whole;
 use std::alloc::Global;
 use std::thread::Threads;
-use xr_defs::{Argument, Expr, Statement};
+use xr_syntax::{Argument, Expr, Statement};
 use xr_outside::{Sink, Store, StoreFault, write_all};
 use xr_types::{DeepCopy, Fault, TextBytes};
 use xr_values::Cx;

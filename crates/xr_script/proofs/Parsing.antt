@@ -1,9 +1,9 @@
 -- A text has one answer, so each script is read and each first fault is found.
 use Rattle.std.proofs.Common.{◌≡◌, ℕ, List, Result, Ok, Err, IfOk, refl}
 use Rattle.xr_types.specs.declared.status.ScriptFault.{ScriptFault}
-use Rattle.xr_defs.specs.declared.syntax.Script.{Script}
-use Rattle.xr_defs.specs.Syntax.{Line}
-use Rattle.xr_defs.specs.Scripts.{IsScriptText, IsFirstFault}
+use Rattle.xr_syntax.specs.declared.syntax.Script.{Script}
+use Rattle.xr_syntax.specs.Syntax.{Line}
+use Rattle.xr_syntax.specs.Scripts.{IsScriptText, IsFirstFault}
 use Rattle.xr_grammar.proofs.Faults.{one_tree, one_fault, not_both}
 use Rattle.xr_script.specs.declared.fault.ParseFault.{ParseFault}
 use Rattle.xr_script.specs.declared.fault.ParseFault.TheVariants as faults

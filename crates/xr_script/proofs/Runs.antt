@@ -2,16 +2,16 @@
 use Rattle.std.proofs.Common.{◌≡◌, ◌∙◌, ℕ, ◌+◌, ◌<◌, ◌≤◌, Bool, get_or, drop, List, [], ◌∷◌, ◌++◌, length, Option, Some, Result, Ok, Err, IfOk, sym, subst, refl, ap}
 use Rattle.std.proofs.lemmas.List.{map-append, drop-map}
 use Rattle.xr_types.specs.declared.status.ScriptFault.{ScriptFault}
-use Rattle.xr_defs.specs.declared.syntax.Statement.{Statement}
-use Rattle.xr_defs.specs.declared.syntax.Script.{Script}
-use Rattle.xr_defs.specs.declared.token.Placed.{Placed}
-use Rattle.xr_defs.specs.declared.scan.Scan.{Scan}
-use Rattle.xr_defs.specs.declared.scan.ScanEnd.{ScanEnd}
-use Rattle.xr_defs.specs.declared.scan.ScanEnd.TheVariants as end
-use Rattle.xr_defs.specs.declared.tally.Tally.{Tally}
-use Rattle.xr_defs.specs.Syntax.{Line, line_of}
-use Rattle.xr_defs.specs.Grammar.{End, terminal_of, starts_number}
-use Rattle.xr_defs.specs.Scripts.{terminals, terminal_at, no_tally, passes, tallied, IsParsed, FirstFault}
+use Rattle.xr_syntax.specs.declared.syntax.Statement.{Statement}
+use Rattle.xr_syntax.specs.declared.syntax.Script.{Script}
+use Rattle.xr_syntax.specs.declared.token.Placed.{Placed}
+use Rattle.xr_syntax.specs.declared.scan.Scan.{Scan}
+use Rattle.xr_syntax.specs.declared.scan.ScanEnd.{ScanEnd}
+use Rattle.xr_syntax.specs.declared.scan.ScanEnd.TheVariants as end
+use Rattle.xr_syntax.specs.declared.tally.Tally.{Tally}
+use Rattle.xr_syntax.specs.Syntax.{Line, line_of}
+use Rattle.xr_syntax.specs.Grammar.{End, terminal_of, starts_number}
+use Rattle.xr_syntax.specs.Scripts.{terminals, terminal_at, no_tally, passes, tallied, IsParsed, FirstFault}
 use Rattle.xr_grammar.specs.Machine.{Spot, Between, move, settled, begin}
 use Rattle.xr_grammar.proofs.Reading.{IsRead, nothing_read, read_more, fault_first, end_parsed, end_bad, end_cut}
 use Rattle.xr_script.specs.declared.terminal.Terminal.{Terminal}

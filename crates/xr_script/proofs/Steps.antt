@@ -2,10 +2,10 @@
 use Rattle.std.proofs.Common.{◌≡◌, ℕ, ℤ, List, [], ◌∷◌, ◌++◌, reverse, Option, None, Result, false, cond, ap, sym, refl, subst}
 use Rattle.std.proofs.lemmas.List.{reverse-append}
 use Rattle.xr_types.specs.declared.text.TextBytes.{TextBytes}
-use Rattle.xr_defs.specs.declared.operation.OpKind.{OpKind}
-use Rattle.xr_defs.specs.declared.operation.OpKind.TheVariants as op
-use Rattle.xr_defs.specs.Syntax.{Tree, Trees, Args, Variable, Index, plain_only}
-use Rattle.xr_defs.specs.Grammar.{Head}
+use Rattle.xr_types.specs.declared.operation.OpKind.{OpKind}
+use Rattle.xr_types.specs.declared.operation.OpKind.TheVariants as op
+use Rattle.xr_syntax.specs.Syntax.{Tree, Trees, Args, Variable, Index, plain_only}
+use Rattle.xr_syntax.specs.Grammar.{Head}
 use Rattle.xr_grammar.specs.Machine as machine
 use Rattle.xr_script.specs.declared.terminal.Level.{Level}
 use Rattle.xr_script.specs.declared.terminal.Terminal.{Terminal}

@@ -1,8 +1,8 @@
 -- What is answered for a script of these lines, and for a text with this first fault; want of memory is free.
 use Rattle.std.specs.Prelude.{◌≡◌, List, Result, Ok, Err, ⊤}
 use Rattle.xr_types.specs.declared.status.ScriptFault.{ScriptFault}
-use Rattle.xr_defs.specs.declared.syntax.Script.{Script}
-use Rattle.xr_defs.specs.Syntax.{Line}
+use Rattle.xr_syntax.specs.declared.syntax.Script.{Script}
+use Rattle.xr_syntax.specs.Syntax.{Line}
 use Rattle.xr_script.specs.declared.fault.ParseFault.{ParseFault}
 use Rattle.xr_script.specs.declared.fault.ParseFault.TheVariants as faults
 use Rattle.xr_script.specs.Progress.{lines_of}

@@ -2,16 +2,16 @@
 use Rattle.std.specs.Prelude.{◌≡◌, ℕ, List, map, Option, Some, None, Result, Ok, Err, ⊤}
 use Rattle.xr_types.specs.declared.status.ScriptKind.{ScriptKind}
 use Rattle.xr_types.specs.declared.status.ScriptKind.TheVariants as kind
-use Rattle.xr_defs.specs.declared.syntax.Statement.{Statement}
-use Rattle.xr_defs.specs.declared.syntax.Script.{Script}
-use Rattle.xr_defs.specs.declared.scan.ScanEnd.{ScanEnd}
-use Rattle.xr_defs.specs.declared.scan.ScanEnd.TheVariants as end
-use Rattle.xr_defs.specs.declared.tally.Tally.{Tally}
-use Rattle.xr_defs.specs.Syntax.{Line, line_of}
+use Rattle.xr_syntax.specs.declared.syntax.Statement.{Statement}
+use Rattle.xr_syntax.specs.declared.syntax.Script.{Script}
+use Rattle.xr_syntax.specs.declared.scan.ScanEnd.{ScanEnd}
+use Rattle.xr_syntax.specs.declared.scan.ScanEnd.TheVariants as end
+use Rattle.xr_syntax.specs.declared.tally.Tally.{Tally}
+use Rattle.xr_syntax.specs.Syntax.{Line, line_of}
 use Rattle.xr_grammar.specs.Machine as machine
 use Rattle.xr_grammar.specs.Machine.{Spot}
 use Rattle.xr_grammar.specs.Reading.{faulty, fault_here}
-use Rattle.xr_defs.specs.Grammar.{Terminal}
+use Rattle.xr_syntax.specs.Grammar.{Terminal}
 use Rattle.xr_script.specs.declared.state.Stop.{Stop}
 use Rattle.xr_script.specs.declared.state.Stop.TheVariants as stop
 use Rattle.xr_script.specs.declared.progress.Point.{Point}

@@ -1,11 +1,11 @@
 -- What the program's states stand for.
 use Rattle.std.specs.Prelude.{◌≡◌, List, [], ◌∷◌, reverse, true, false, Option, Some, None, Result, Ok, Err, ⊤, Box, codes}
 use Rattle.std.specs.declared.alloc.Global.{Global}
-use Rattle.xr_defs.specs.declared.operation.OpKind.{OpKind}
-use Rattle.xr_defs.specs.declared.syntax.Expr.{Expr}
-use Rattle.xr_defs.specs.Syntax.{tree_of, all_trees, all_entries, all_arguments, line_of, Call, Method}
-use Rattle.xr_defs.specs.Grammar as grammar
-use Rattle.xr_defs.specs.Grammar.{unary, term, sum, bitand, bitxor, bitor}
+use Rattle.xr_types.specs.declared.operation.OpKind.{OpKind}
+use Rattle.xr_syntax.specs.declared.syntax.Expr.{Expr}
+use Rattle.xr_syntax.specs.Syntax.{tree_of, all_trees, all_entries, all_arguments, line_of, Call, Method}
+use Rattle.xr_syntax.specs.Grammar as grammar
+use Rattle.xr_syntax.specs.Grammar.{unary, term, sum, bitand, bitxor, bitor}
 use Rattle.xr_grammar.specs.Machine as machine
 use Rattle.xr_script.specs.declared.state.Levels.{Levels}
 use Rattle.xr_script.specs.declared.state.Waiting.{Waiting}

@@ -1,6 +1,6 @@
 -- The terminals of the program are those of the grammar.
-use Rattle.xr_defs.specs.Grammar as grammar
-use Rattle.xr_defs.specs.Grammar.{Rank}
+use Rattle.xr_syntax.specs.Grammar as grammar
+use Rattle.xr_syntax.specs.Grammar.{Rank}
 use Rattle.xr_script.specs.declared.terminal.Level.{Level}
 use Rattle.xr_script.specs.declared.terminal.Level.TheVariants as level
 use Rattle.xr_script.specs.declared.terminal.Terminal.{Terminal}

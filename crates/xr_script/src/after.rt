@@ -1,7 +1,7 @@
 //! Behind an atom with the parts that it has so far.
 ghost use Rattle.std.specs.Prelude.{◌≡◌, codes, true};
 ghost use Rattle.xr_grammar.specs.Machine.{whole as whole_of};
-ghost use Rattle.xr_defs.specs.Syntax.{tree_of, all_arguments, Variable, Method as a_method, Call as a_call};
+ghost use Rattle.xr_syntax.specs.Syntax.{tree_of, all_arguments, Variable, Method as a_method, Call as a_call};
 ghost use Rattle.xr_grammar.specs.Machine.{join as join_of, compare as compare_of, close as close_of, after as after_of, after_operand as after_operand_of, fresh, Alone, Bare, On, Writing, Aligning};
 ghost use Rattle.xr_script.specs.Terminals.{terminal, rank_of};
 ghost use Rattle.xr_script.specs.States.{pend_of, seat_around, wait_of, around_of, inside, Follows};
@@ -13,7 +13,8 @@ use crate::state::{Around, Bracket, Next, Place, Seat, State, Stop, Wait};
 use crate::terminal::{Level, Terminal};
 use crate::wait::{compare, finish, join, nothing};
 use std::alloc::Global;
-use xr_defs::{Argument, Expr, OpKind, Statement};
+use xr_types::OpKind;
+use xr_syntax::{Argument, Expr, Statement};
 use xr_tree::variable;
 use xr_types::{Items, Name};
 

@@ -1,14 +1,14 @@
 //! Calls whose arguments have ended.
 ghost use Rattle.std.specs.Prelude.{◌≡◌, IfOk, codes};
-ghost use Rattle.xr_defs.specs.Grammar.{called};
-ghost use Rattle.xr_defs.specs.Syntax.{tree_of, all_arguments, Method as a_method};
+ghost use Rattle.xr_syntax.specs.Grammar.{called};
+ghost use Rattle.xr_syntax.specs.Syntax.{tree_of, all_arguments, Method as a_method};
 ghost use Rattle.xr_grammar.specs.Machine.{At, Have, go};
 ghost use Rattle.xr_script.specs.States.{head_of, pend_of, seat_around, pend_for, around_for, alone_pend, alone_around, Follows};
 
 use crate::around::no_room;
 use crate::state::{Head, Next, Place, Seat, State, Stop};
 use std::alloc::{AllocError, Global};
-use xr_defs::{Argument, Expr};
+use xr_syntax::{Argument, Expr};
 use xr_tree::{call, method};
 use xr_types::TextBytes;
 

@@ -1,7 +1,7 @@
 //! Where an expression ends.
 ghost use Rattle.std.specs.Prelude.{◌≡◌};
-ghost use Rattle.xr_defs.specs.Syntax.{tree_of, all_trees, all_entries, all_arguments};
-ghost use Rattle.xr_defs.specs.Grammar.{Comma, Right, RightBrace};
+ghost use Rattle.xr_syntax.specs.Syntax.{tree_of, all_trees, all_entries, all_arguments};
+ghost use Rattle.xr_syntax.specs.Grammar.{Comma, Right, RightBrace};
 ghost use Rattle.xr_grammar.specs.Machine.{close as close_of, end_arg as end_arg_of, Inside, On, Assigning, Placing, Printing, InRound, InItems, InEntry, InPlain, InKeyed};
 ghost use Rattle.xr_script.specs.Terminals.{terminal};
 ghost use Rattle.xr_script.specs.States.{around_of, base_of, inside, head_of, pend_of, seat_around, pend_for, around_for, Follows};
@@ -11,7 +11,7 @@ use crate::call::end_call;
 use crate::state::{Around, Base, Bracket, Frame, Head, Next, Place, Seat, State, Stop};
 use crate::terminal::Terminal;
 use std::alloc::Global;
-use xr_defs::{Argument, Expr, Statement};
+use xr_syntax::{Argument, Expr, Statement};
 use xr_tree::{list, push_entry, push_item, push_named, push_plain, table};
 use xr_types::{Name, TextBytes};
 

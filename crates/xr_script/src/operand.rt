@@ -9,11 +9,11 @@ use crate::state::{Around, Bracket, Next, Place, Seat, State, Stop, Wait};
 use crate::terminal::Terminal;
 use crate::wait::{nothing, with_sign};
 use std::alloc::Global;
-use xr_defs::OpKind;
+use xr_types::OpKind;
 use xr_tree::{constant, text, whole};
 
 /// An atom that doesn't begin with a name.
-#[tactic(auto, using(xr_defs::proofs::Trees::no_trees, xr_defs::proofs::Trees::no_entries))]
+#[tactic(auto, using(xr_syntax::proofs::Trees::no_trees, xr_syntax::proofs::Trees::no_entries))]
 pub fn atom(alloc: Global, seat: Seat, token: Terminal) -> Result<Next, Stop>
     ensures { Follows result (atom_of (pend_of seat) (seat_around seat) (terminal token)) }
 {

@@ -1,9 +1,9 @@
 //! Inside an expression.
 ghost use Rattle.std.specs.Prelude.{◌≡◌, cond, None};
-ghost use Rattle.xr_defs.specs.Syntax.{tree_of, all_trees, all_entries, all_arguments, plain_only as only_plain, Variable};
+ghost use Rattle.xr_syntax.specs.Syntax.{tree_of, all_trees, all_entries, all_arguments, plain_only as only_plain, Variable};
 ghost use Rattle.xr_grammar.specs.Machine.{step_at as step_at_of, Dotted, Asked, Indexed, Indexing, AtItem, AtEntry, AtKey, AtArg, AtName, asks};
 ghost use Rattle.xr_grammar.specs.Machine.{operand as operand_of, after_operand as after_operand_of, fresh as no_wait, Inside as m_inside, InPlain};
-ghost use Rattle.xr_defs.specs.Grammar.{Of, Is, Open, Name as a_name, Text as a_text};
+ghost use Rattle.xr_syntax.specs.Grammar.{Of, Is, Open, Name as a_name, Text as a_text};
 ghost use Rattle.xr_script.specs.Terminals.{terminal};
 ghost use Rattle.xr_script.specs.States.{head_of, pend_of, seat_around, pend_for, around_for, place_of, pend_at, around_at, Follows};
 
@@ -15,7 +15,7 @@ use crate::state::{Bracket, Head, Next, Place, Seat, State, Stop};
 use crate::terminal::Terminal;
 use crate::wait::nothing;
 use std::alloc::Global;
-use xr_defs::{Argument, Expr};
+use xr_syntax::{Argument, Expr};
 use xr_tree::{boxed, has_key, has_name, index, list, plain_only, table};
 use xr_types::{Name, TextBytes};
 
@@ -46,7 +46,7 @@ pub fn asked_head(e: Box<Expr>, name: Name, seat: &Seat) -> Head
     }
 }
 
-#[tactic(auto, using(xr_defs::proofs::Trees::no_arguments))]
+#[tactic(auto, using(xr_syntax::proofs::Trees::no_arguments))]
 fn asked(alloc: Global, e: Expr, name: Name, seat: Seat, token: Terminal) -> Result<Next, Stop>
     ensures { Follows result (step_at_of (Asked (tree_of e) name) (pend_of seat) (seat_around seat) (terminal token)) }
 {
@@ -201,7 +201,7 @@ fn name_value(
 }
 
 /// The `(` behind a function's name.
-#[tactic(auto, using(xr_defs::proofs::Trees::no_arguments))]
+#[tactic(auto, using(xr_syntax::proofs::Trees::no_arguments))]
 fn name_call(
     alloc: Global,
     head: Head,

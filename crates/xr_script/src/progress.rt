@@ -1,7 +1,6 @@
 //! How far a script was read.
 use crate::state::State;
-use xr_defs::{Statement, Tally};
-
+use xr_syntax::{Statement, Tally};
 /// Between statements, or in one.
 #[derive(Drop)]
 pub enum Point {

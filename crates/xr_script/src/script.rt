@@ -1,8 +1,8 @@
 //! Scripts from their text.
 ghost use Rattle.std.specs.Prelude.{◌≡◌, List, IfOk, Err};
 ghost use Rattle.xr_types.specs.declared.status.ScriptFault.{ScriptFault as Fault};
-ghost use Rattle.xr_defs.specs.Syntax.{Line};
-ghost use Rattle.xr_defs.specs.Scripts.{IsScriptText, IsFirstFault};
+ghost use Rattle.xr_syntax.specs.Syntax.{Line};
+ghost use Rattle.xr_syntax.specs.Scripts.{IsScriptText, IsFirstFault};
 ghost use Rattle.xr_script.specs.declared.fault.ParseFault.TheVariants.{Script as of_script};
 ghost use Rattle.xr_script.specs.Progress.{lines_of};
 ghost use Rattle.xr_script.specs.Parsing.{IsRead, IsRefused};
@@ -10,7 +10,7 @@ ghost use Rattle.xr_script.specs.Parsing.{IsRead, IsRefused};
 use crate::fault::ParseFault;
 use crate::walk::parse_tokens;
 use std::alloc::Global;
-use xr_defs::Script;
+use xr_syntax::Script;
 use xr_tokens::{scan, text_of};
 
 /// A text's tokens as a script, where the bytes are a text.

@@ -1,6 +1,7 @@
 //! Where the parser is in a statement.
 use std::alloc::AllocError;
-use xr_defs::{Argument, Expr, OpKind, Statement};
+use xr_types::OpKind;
+use xr_syntax::{Argument, Expr, Statement};
 use xr_types::{Items, Name, TextBytes};
 
 /// An operator with its left side, which waits for its right side.

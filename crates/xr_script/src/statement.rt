@@ -1,8 +1,8 @@
 //! The forms of a statement.
 ghost use Rattle.std.specs.Prelude.{◌≡◌, false};
-ghost use Rattle.xr_defs.specs.declared.operation.OpKind.TheVariants.{Negate};
-ghost use Rattle.xr_defs.specs.Syntax.{tree_of, Index as an_index, Variable as a_variable};
-ghost use Rattle.xr_defs.specs.Grammar.{Number as a_number};
+ghost use Rattle.xr_types.specs.declared.operation.OpKind.TheVariants.{Negate};
+ghost use Rattle.xr_syntax.specs.Syntax.{tree_of, Index as an_index, Variable as a_variable};
+ghost use Rattle.xr_syntax.specs.Grammar.{Number as a_number};
 ghost use Rattle.xr_grammar.specs.Machine.{operand as operand_of, with_sign as one_more, after as after_of, Alone, On, Writing};
 ghost use Rattle.xr_grammar.specs.Machine.{step as step_of, Named, NamedOpen, NamedText, NamedIndex, Several, Target, Joint, Prints, Closed, Signed, Fresh};
 ghost use Rattle.xr_script.specs.Terminals.{terminal};
@@ -16,12 +16,13 @@ use crate::state::{Around, Base, Head, Next, Place, Seat, State, Stop, Wait};
 use crate::terminal::Terminal;
 use crate::wait::{nothing, with_sign};
 use std::alloc::Global;
-use xr_defs::{Expr, OpKind, Statement};
+use xr_types::OpKind;
+use xr_syntax::{Expr, Statement};
 use xr_tree::{index, variable, whole};
 use xr_types::{Items, Name, TextBytes};
 
 /// Behind the first name of a statement.
-#[tactic(auto, using(xr_defs::proofs::Trees::no_arguments))]
+#[tactic(auto, using(xr_syntax::proofs::Trees::no_arguments))]
 pub fn named(alloc: Global, name: Name, token: Terminal) -> Result<Next, Stop>
     ensures { Follows result (step_of (Named name) (terminal token)) }
 {
@@ -126,7 +127,7 @@ pub fn joint(names: Items<Name>, name: Name, token: Terminal) -> Result<Next, St
     }
 }
 
-#[tactic(auto, using(xr_defs::proofs::Trees::no_arguments))]
+#[tactic(auto, using(xr_syntax::proofs::Trees::no_arguments))]
 pub fn aligns(
     alloc: Global,
     mut names: Items<Name>,
@@ -201,7 +202,7 @@ pub fn signed(alloc: Global, wait: Wait, around: Around, token: Terminal) -> Res
 }
 
 /// Behind a name where an operand is expected.
-#[tactic(auto, using(xr_defs::proofs::Trees::no_arguments))]
+#[tactic(auto, using(xr_syntax::proofs::Trees::no_arguments))]
 pub fn fresh(
     alloc: Global,
     name: Name,

@@ -1,11 +1,11 @@
 //! The limits of a script, counted along its tokens.
 ghost use Rattle.std.specs.Prelude.{◌≡◌, ◌+◌, ◌-◌, ◌&&◌, not, nat_lt, false, None, if◌then◌else◌};
 ghost use Rattle.xr_types.specs.declared.limits.TheConstants.{MOST_STATEMENT_ELEMENTS as most_elements};
-ghost use Rattle.xr_defs.specs.Scripts.{no_tally, ends_operand as is_operand_end, is_callee as calls, opens as opens_one, closes as closes_one, counts as counts_it, begins as begins_one, is_end as ends_line, one_if, tallied, passes};
+ghost use Rattle.xr_syntax.specs.Scripts.{no_tally, ends_operand as is_operand_end, is_callee as calls, opens as opens_one, closes as closes_one, counts as counts_it, begins as begins_one, is_end as ends_line, one_if, tallied, passes};
 ghost use Rattle.xr_script.specs.Terminals.{terminal};
 
 use crate::terminal::Terminal;
-use xr_defs::Tally;
+use xr_syntax::Tally;
 use xr_types::{MOST_OPEN_BRACKETS, MOST_STATEMENT_ELEMENTS, MOST_STATEMENTS, ScriptKind};
 
 /// Nothing is counted.

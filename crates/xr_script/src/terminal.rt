@@ -1,11 +1,12 @@
 //! What the grammar tells apart of tokens.
 ghost use Rattle.std.specs.Prelude.{◌≡◌, IfOk};
-ghost use Rattle.xr_defs.specs.Grammar.{terminal_of};
-ghost use Rattle.xr_defs.specs.declared.token.Token.TheVariants as token;
+ghost use Rattle.xr_syntax.specs.Grammar.{terminal_of};
+ghost use Rattle.xr_syntax.specs.declared.token.Token.TheVariants as token;
 ghost use Rattle.xr_script.specs.Terminals.{terminal};
 
 use std::alloc::{AllocError, Global};
-use xr_defs::{Constant, Mark, OpKind, Reserved, Token};
+use xr_types::OpKind;
+use xr_syntax::{Constant, Mark, Reserved, Token};
 use xr_types::{DeepCopy, Name, TextBytes};
 
 /// The operators that bind equally tightly, by the rule of the grammar that has them.

@@ -1,15 +1,16 @@
 //! Operators and signs that wait for an operand.
 ghost use Rattle.std.specs.Prelude.{◌≡◌, IfOk, MatchResult, Some, None, Err, reverse};
-ghost use Rattle.xr_defs.specs.Syntax.{tree_of};
+ghost use Rattle.xr_syntax.specs.Syntax.{tree_of};
 ghost use Rattle.xr_grammar.specs.Machine.{fresh, empty, joined, signed, folded, put, whole as whole_of, with_sign as one_more, join as join_of, compare as compare_of, Need, go, Around as m_around};
-ghost use Rattle.xr_defs.specs.Grammar.{unary, term, sum as a_sum, bitand, bitxor, bitor};
+ghost use Rattle.xr_syntax.specs.Grammar.{unary, term, sum as a_sum, bitand, bitxor, bitor};
 ghost use Rattle.xr_script.specs.Terminals.{rank_of};
 ghost use Rattle.xr_script.specs.States.{slot_of, levels_of, waiting_of, wait_of};
 
 use crate::state::{Levels, Slot, Stop, Wait, Waiting};
 use crate::terminal::Level;
 use std::alloc::{AllocError, Global};
-use xr_defs::{Expr, OpKind};
+use xr_types::OpKind;
+use xr_syntax::Expr;
 use xr_tree::{binary, unary as signed_by};
 
 fn no_levels() -> Levels

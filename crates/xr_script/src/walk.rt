@@ -1,14 +1,14 @@
 //! Scripts from their tokens.
 ghost use Rattle.std.specs.Prelude.{◌≡◌, IfOk, Err, Some, None, Option, [], ◌∷◌, ◌++◌};
-ghost use Rattle.xr_defs.specs.Syntax.{line_of};
+ghost use Rattle.xr_syntax.specs.Syntax.{line_of};
 ghost use Rattle.xr_types.specs.declared.status.ScriptFault.{ScriptFault as Fault};
-ghost use Rattle.xr_defs.specs.Scripts.{IsParsed, FirstFault, terminals, passes, tallied};
-ghost use Rattle.xr_defs.specs.Grammar.{End as line_end, terminal_of, starts_number};
+ghost use Rattle.xr_syntax.specs.Scripts.{IsParsed, FirstFault, terminals, passes, tallied};
+ghost use Rattle.xr_syntax.specs.Grammar.{End as line_end, terminal_of, starts_number};
 ghost use Rattle.xr_grammar.specs.Machine.{settled, move as move_of, step as step_of, Between, Spot, Next as m_next};
 ghost use Rattle.xr_types.specs.declared.status.ScriptKind.{ScriptKind as Kind};
-ghost use Rattle.xr_defs.specs.declared.scan.ScanEnd.TheVariants.{Whole as whole_at};
+ghost use Rattle.xr_syntax.specs.declared.scan.ScanEnd.TheVariants.{Whole as whole_at};
 ghost use Rattle.xr_script.specs.declared.fault.ParseFault.TheVariants.{Script as of_script};
-ghost use Rattle.xr_defs.specs.declared.tally.Tally.{Tally as Counts};
+ghost use Rattle.xr_syntax.specs.declared.tally.Tally.{Tally as Counts};
 ghost use Rattle.xr_script.specs.Terminals.{terminal};
 ghost use Rattle.xr_script.specs.States.{state_of, Follows};
 ghost use Rattle.xr_grammar.specs.Reading.{faulty};
@@ -22,7 +22,7 @@ use crate::step::step;
 use crate::tally::{counted, limit_passed, nothing_counted};
 use crate::terminal::{Terminal, of_token};
 use std::alloc::{AllocError, Global};
-use xr_defs::{Placed, Scan, ScanEnd, Script, Statement, Tally, Token};
+use xr_syntax::{Placed, Scan, ScanEnd, Script, Statement, Tally, Token};
 use xr_types::{ScriptFault, ScriptKind};
 
 /// The statements with one more.

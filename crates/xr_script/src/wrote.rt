@@ -1,6 +1,6 @@
 //! Behind a dot or a `[` that follows a call of `to_netcdf`, in a statement that is no expression.
 ghost use Rattle.std.specs.Prelude.{◌≡◌, true};
-ghost use Rattle.xr_defs.specs.Syntax.{tree_of};
+ghost use Rattle.xr_syntax.specs.Syntax.{tree_of};
 ghost use Rattle.xr_grammar.specs.Machine.{step_at as step_at_of, Dotted, Asked, Indexed, Indexing, Alone, On, Writing};
 ghost use Rattle.xr_script.specs.Terminals.{terminal};
 ghost use Rattle.xr_script.specs.States.{Follows};
@@ -9,7 +9,7 @@ use crate::place::asked_head;
 use crate::state::{Next, Place, Seat, State, Stop};
 use crate::terminal::Terminal;
 use std::alloc::Global;
-use xr_defs::Expr;
+use xr_syntax::Expr;
 use xr_tree::{boxed, index};
 use xr_types::{Name, TextBytes};
 
@@ -22,7 +22,7 @@ pub fn wrote_dotted(e: Expr, token: Terminal) -> Result<Next, Stop>
     }
 }
 
-#[tactic(auto, using(xr_defs::proofs::Trees::no_arguments))]
+#[tactic(auto, using(xr_syntax::proofs::Trees::no_arguments))]
 pub fn wrote_asked(alloc: Global, e: Expr, name: Name, token: Terminal) -> Result<Next, Stop>
     ensures { Follows result (step_at_of (Asked (tree_of e) name) (Alone true) (On Writing) (terminal token)) }
 {

@@ -8,7 +8,7 @@ use Rattle.std.proofs.lemmas.Bool.Decides.{nat_tests}
 use Rattle.std.proofs.lemmas.List.Sums.{prefix_len-le-length, prefix_len_stops, prefix_len-drop_no, prefix_len-drop_all}
 use Rattle.std.proofs.lemmas.Bool.{cases_lt}
 use Rattle.xr_tokens.proofs.Cuts.{cut_behind}
-use Rattle.xr_defs.specs.Tokens.{is_control, is_quote, escape_of, escaped, one_more, quoted}
+use Rattle.xr_syntax.specs.Tokens.{is_control, is_quote, escape_of, escaped, one_more, quoted}
 use Rattle.xr_tokens.specs.Pieces.{is_plain, escape_at, begins, behind}
 
 both : (x y : Bool) → x && y ≡ true → (x ≡ true) × (y ≡ true)

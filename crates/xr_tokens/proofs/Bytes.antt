@@ -6,7 +6,7 @@ use Rattle.std.proofs.lemmas.Str.{IsUtf8-from_is_utf8, is_utf8-from_IsUtf8}
 use Rattle.std.proofs.lemmas.Bool.Decides.{nat_tests}
 use Rattle.xr_types.specs.declared.limits.TheConstants.{MOST_SCRIPT_BYTES}
 use Rattle.xr_types.specs.declared.status.ScriptKind.TheVariants as fault
-use Rattle.xr_defs.specs.Tokens.{text_fault, line_behind}
+use Rattle.xr_syntax.specs.Tokens.{text_fault, line_behind}
 
 not_more : (m n : ℕ) → n ≤ m → nat_lt m n ≡ false
 not_more m n h = grind (arith, nat_tests)

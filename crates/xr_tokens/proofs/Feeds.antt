@@ -5,16 +5,16 @@ use Rattle.std.specs.Char.{is_ascii_digit}
 use Rattle.std.specs.List.{take_while, list_all}
 use Rattle.std.proofs.lemmas.Bool.Decides.{nat_tests}
 use Rattle.std.proofs.lemmas.List.Sums.{sum_by-append}
-use Rattle.xr_defs.specs.declared.token.Token.{Token}
-use Rattle.xr_defs.specs.declared.token.Mark.TheVariants as mark
-use Rattle.xr_defs.specs.declared.token.Placed.{Placed}
-use Rattle.xr_defs.specs.declared.token.Mark.{Mark}
-use Rattle.xr_defs.specs.declared.scan.Front.{Front}
-use Rattle.xr_defs.specs.declared.scan.Front.TheVariants as front
-use Rattle.xr_defs.specs.declared.scan.ScanEnd.{ScanEnd}
-use Rattle.xr_defs.specs.declared.scan.ScanEnd.TheVariants as end
-use Rattle.xr_defs.specs.Tokens.{is_blank, in_comment, in_name, begins_name, is_control, is_quote, escape_of, numbered, text_front, marked, mark_front, short_mark, long_mark, front_of, tokens_of, Lexes, text_end, bad_token, blank, statement_end, line_in_brackets, one_token}
-use Rattle.xr_defs.specs.Spellings.{written, Means, nothing, itself, escape, Spells, word, zero_digit, number, quoted_text, mark_of, IsSpelled}
+use Rattle.xr_syntax.specs.declared.token.Token.{Token}
+use Rattle.xr_syntax.specs.declared.token.Mark.TheVariants as mark
+use Rattle.xr_syntax.specs.declared.token.Placed.{Placed}
+use Rattle.xr_syntax.specs.declared.token.Mark.{Mark}
+use Rattle.xr_syntax.specs.declared.scan.Front.{Front}
+use Rattle.xr_syntax.specs.declared.scan.Front.TheVariants as front
+use Rattle.xr_syntax.specs.declared.scan.ScanEnd.{ScanEnd}
+use Rattle.xr_syntax.specs.declared.scan.ScanEnd.TheVariants as end
+use Rattle.xr_syntax.specs.Tokens.{is_blank, in_comment, in_name, begins_name, is_control, is_quote, escape_of, numbered, text_front, marked, mark_front, short_mark, long_mark, front_of, tokens_of, Lexes, text_end, bad_token, blank, statement_end, line_in_brackets, one_token}
+use Rattle.xr_syntax.specs.Spellings.{written, Means, nothing, itself, escape, Spells, word, zero_digit, number, quoted_text, mark_of, IsSpelled}
 use Rattle.xr_tokens.proofs.Lexing.{formed_tokens}
 use Rattle.xr_tokens.proofs.Munch.{front_spelled, run_all}
 

@@ -9,10 +9,10 @@ use Rattle.std.proofs.lemmas.Bool.Decides.{nat_tests}
 use Rattle.std.proofs.lemmas.List.Folds.{length-prefix_len}
 use Rattle.std.proofs.lemmas.List.Sums.{prefix_len-le-length, prefix_len_stops}
 use Rattle.xr_tokens.proofs.Cuts.{cut_behind, cut_behind_run, name_is_ascii}
-use Rattle.xr_defs.specs.declared.token.Mark.{Mark}
-use Rattle.xr_defs.specs.declared.scan.Front.{Front}
-use Rattle.xr_defs.specs.declared.scan.Front.TheVariants as front
-use Rattle.xr_defs.specs.Tokens.{is_blank, in_comment, begins_name, in_name, is_control, is_quote, escape_of, one_more, escaped, quoted, fitting, numbered, number_front, text_front, long_mark, short_mark, marked, mark_front, token_front, front_of}
+use Rattle.xr_syntax.specs.declared.token.Mark.{Mark}
+use Rattle.xr_syntax.specs.declared.scan.Front.{Front}
+use Rattle.xr_syntax.specs.declared.scan.Front.TheVariants as front
+use Rattle.xr_syntax.specs.Tokens.{is_blank, in_comment, begins_name, in_name, is_control, is_quote, escape_of, one_more, escaped, quoted, fitting, numbered, number_front, text_front, long_mark, short_mark, marked, mark_front, token_front, front_of}
 
 -- the first n bytes are some, and all in the text, which may be cut behind them
 pub record Fits (n : ℕ) (bs : List ℕ) : Type 0 where

@@ -1,11 +1,11 @@
 -- A text has the tokens that its scan gives, and no others.
 use Rattle.std.proofs.Common.{◌≡◌, ℕ, zero, suc, ◌+◌, ◌≤◌, List, [], ◌∷◌, length, drop, refl, sym, ap, ◌∙◌, arith, length-drop}
-use Rattle.xr_defs.specs.declared.token.Placed.{Placed}
-use Rattle.xr_defs.specs.declared.scan.Front.{Front}
-use Rattle.xr_defs.specs.declared.scan.Front.TheVariants as front
-use Rattle.xr_defs.specs.declared.scan.Scan.{Scan}
-use Rattle.xr_defs.specs.declared.scan.ScanEnd.{ScanEnd}
-use Rattle.xr_defs.specs.Tokens.{front_of, scan_from, tokens_of, before, at_line_feed, deeper, Lexes, text_end, bad_token, blank, statement_end, line_in_brackets, one_token, Tokens}
+use Rattle.xr_syntax.specs.declared.token.Placed.{Placed}
+use Rattle.xr_syntax.specs.declared.scan.Front.{Front}
+use Rattle.xr_syntax.specs.declared.scan.Front.TheVariants as front
+use Rattle.xr_syntax.specs.declared.scan.Scan.{Scan}
+use Rattle.xr_syntax.specs.declared.scan.ScanEnd.{ScanEnd}
+use Rattle.xr_syntax.specs.Tokens.{front_of, scan_from, tokens_of, before, at_line_feed, deeper, Lexes, text_end, bad_token, blank, statement_end, line_in_brackets, one_token, Tokens}
 use Rattle.xr_tokens.proofs.Fits.{Fits, FrontFits, front_fits}
 use Rattle.xr_tokens.proofs.Steps.{follows, scan_by_front}
 

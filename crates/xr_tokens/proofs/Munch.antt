@@ -9,14 +9,14 @@ use Rattle.std.proofs.lemmas.List.{length_push}
 use Rattle.std.proofs.lemmas.List.Folds.{length-prefix_len}
 use Rattle.xr_tokens.specs.Pieces.{is_plain}
 use Rattle.xr_tokens.proofs.Between.{plain_step}
-use Rattle.xr_defs.specs.declared.token.Token.{Token}
-use Rattle.xr_defs.specs.declared.token.Token.TheVariants as token
-use Rattle.xr_defs.specs.declared.token.Mark.{Mark}
-use Rattle.xr_defs.specs.declared.token.Mark.TheVariants as mark
-use Rattle.xr_defs.specs.declared.scan.Front.{Front}
-use Rattle.xr_defs.specs.declared.scan.Front.TheVariants as front
-use Rattle.xr_defs.specs.Tokens.{is_blank, begins_name, in_name, is_control, is_quote, escape_of, escaped, one_more, quoted, reserved_of, named, name_front, fitting, numbered, number_front, text_front, long_mark, short_mark, marked, mark_front, front_of}
-use Rattle.xr_defs.specs.Spellings.{written, Means, nothing, itself, escape, Spells, word, zero_digit, number, quoted_text, mark_of, IsSpelled, IsAsLong}
+use Rattle.xr_syntax.specs.declared.token.Token.{Token}
+use Rattle.xr_syntax.specs.declared.token.Token.TheVariants as token
+use Rattle.xr_syntax.specs.declared.token.Mark.{Mark}
+use Rattle.xr_syntax.specs.declared.token.Mark.TheVariants as mark
+use Rattle.xr_syntax.specs.declared.scan.Front.{Front}
+use Rattle.xr_syntax.specs.declared.scan.Front.TheVariants as front
+use Rattle.xr_syntax.specs.Tokens.{is_blank, begins_name, in_name, is_control, is_quote, escape_of, escaped, one_more, quoted, reserved_of, named, name_front, fitting, numbered, number_front, text_front, long_mark, short_mark, marked, mark_front, front_of}
+use Rattle.xr_syntax.specs.Spellings.{written, Means, nothing, itself, escape, Spells, word, zero_digit, number, quoted_text, mark_of, IsSpelled, IsAsLong}
 
 -- ---- bytes that spell a token are no longer than what stands at the front
 

@@ -1,7 +1,7 @@
 -- The number that digits write, digit by digit.
 use Rattle.std.proofs.Common.{◌≡◌, ℕ, ◌+◌, ◌-◌, ◌*◌, ◌<◌, ◌≤◌, ◌^◌, true, List, Some, None, length, get_or, take, arith}
 use Rattle.std.specs.Char.{is_ascii_digit, digit_value}
-use Rattle.xr_defs.specs.Tokens.{fitting}
+use Rattle.xr_syntax.specs.Tokens.{fitting}
 use Rattle.std.specs.Str.Parse.{digits_value}
 use Rattle.std.proofs.lemmas.Bool.Decides.{nat_tests}
 use Rattle.std.proofs.lemmas.Int.Digits.{digits_value_more}

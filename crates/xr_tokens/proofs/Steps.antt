@@ -1,15 +1,15 @@
 -- How the tokens of the rest of a text become those of the whole.
 use Rattle.std.proofs.Common.{◌≡◌, ℕ, zero, suc, ◌+◌, ◌-◌, ◌<◌, ◌≤◌, List, [], ◌∷◌, ◌++◌, drop, refl, sym, ap, ◌∙◌, arith, append_assoc}
 use Rattle.std.proofs.lemmas.List.{append-nil}
-use Rattle.xr_defs.specs.declared.token.Token.{Token}
-use Rattle.xr_defs.specs.declared.token.Token.TheVariants as token
-use Rattle.xr_defs.specs.declared.token.Mark.TheVariants as mark
-use Rattle.xr_defs.specs.declared.token.Placed.{Placed}
-use Rattle.xr_defs.specs.declared.scan.Front.{Front}
-use Rattle.xr_defs.specs.declared.scan.Front.TheVariants as front
-use Rattle.xr_defs.specs.declared.scan.Scan.{Scan}
-use Rattle.xr_defs.specs.declared.scan.ScanEnd.TheVariants as end
-use Rattle.xr_defs.specs.Tokens.{front_of, scan_from, before, placed, at_line_feed, deeper}
+use Rattle.xr_syntax.specs.declared.token.Token.{Token}
+use Rattle.xr_syntax.specs.declared.token.Token.TheVariants as token
+use Rattle.xr_syntax.specs.declared.token.Mark.TheVariants as mark
+use Rattle.xr_syntax.specs.declared.token.Placed.{Placed}
+use Rattle.xr_syntax.specs.declared.scan.Front.{Front}
+use Rattle.xr_syntax.specs.declared.scan.Front.TheVariants as front
+use Rattle.xr_syntax.specs.declared.scan.Scan.{Scan}
+use Rattle.xr_syntax.specs.declared.scan.ScanEnd.TheVariants as end
+use Rattle.xr_syntax.specs.Tokens.{front_of, scan_from, before, placed, at_line_feed, deeper}
 use Rattle.xr_tokens.specs.Lines.{line_end}
 use Rattle.xr_tokens.proofs.Fits.{FrontFits, front_fits}
 

@@ -1,8 +1,8 @@
 -- Where a line ends.
 use Rattle.std.specs.Prelude.{ℕ, zero, suc, List, [], ◌∷◌}
-use Rattle.xr_defs.specs.declared.token.Token.TheVariants.{LineEnd}
-use Rattle.xr_defs.specs.declared.token.Placed.{Placed}
-use Rattle.xr_defs.specs.Tokens.{placed}
+use Rattle.xr_syntax.specs.declared.token.Token.TheVariants.{LineEnd}
+use Rattle.xr_syntax.specs.declared.token.Placed.{Placed}
+use Rattle.xr_syntax.specs.Tokens.{placed}
 
 -- what a line feed adds to the tokens where so many brackets are open
 abbrev pub line_end : ℕ → ℕ → List Placed

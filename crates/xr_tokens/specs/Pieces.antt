@@ -1,6 +1,6 @@
 -- The pieces of a text in quotes.
 use Rattle.std.specs.Prelude.{ℕ, ◌+◌, Bool, false, ◌&&◌, not, ◌==◌, if◌then◌else◌, List, [], ◌∷◌, ◌++◌, Option, Some, None}
-use Rattle.xr_defs.specs.Tokens.{is_control, escape_of}
+use Rattle.xr_syntax.specs.Tokens.{is_control, escape_of}
 
 -- a byte that stands for itself in a text that this quote closes
 abbrev pub is_plain : ℕ → ℕ → Bool

@@ -1,6 +1,6 @@
 //! What stands at the front of a text.
 ghost use Rattle.std.specs.Prelude.{◌≡◌, ◌≤◌, ◌∷◌, IfOk, length};
-ghost use Rattle.xr_defs.specs.Tokens.{front_of, token_front};
+ghost use Rattle.xr_syntax.specs.Tokens.{front_of, token_front};
 
 use crate::mark::mark_front;
 use crate::name::name_front;
@@ -8,11 +8,11 @@ use crate::number::number_front;
 use crate::quotes::text_front;
 use crate::run::{begins_name, blank_run, comment_run, is_blank, is_quote};
 use std::alloc::{AllocError, Global};
-use xr_defs::{Front, Token};
+use xr_syntax::{Front, Token};
 use xr_types::MOST_SCRIPT_BYTES;
 
 /// What stands at the front of a text.
-#[tactic(auto, unfolding(xr_defs::specs::Tokens::front_of))]
+#[tactic(auto, unfolding(xr_syntax::specs::Tokens::front_of))]
 pub fn front(alloc: Global, text: &str) -> Result<Front, AllocError>
     requires { length text.now ≤ MOST_SCRIPT_BYTES }
     ensures { IfOk result (λ front. front ≡ front_of text.now) }

@@ -1,10 +1,10 @@
 //! What holds of the tokens of every text.
 ghost use Rattle.std.specs.Prelude.{◌≡◌, ◌+◌, ◌==◌, ◌++◌, ℕ, List, count_by};
-ghost use Rattle.xr_defs.specs.Spellings.{IsAsLong, IsSpelled, Spells};
-ghost use Rattle.xr_defs.specs.Tokens.{Tokens, front_of, tokens_of};
-ghost use Rattle.xr_defs.specs.declared.scan.Scan.{Scan};
-ghost use Rattle.xr_defs.specs.declared.scan.ScanEnd.TheVariants as ends;
-ghost use Rattle.xr_defs.specs.declared.token.Token.{Token};
+ghost use Rattle.xr_syntax.specs.Spellings.{IsAsLong, IsSpelled, Spells};
+ghost use Rattle.xr_syntax.specs.Tokens.{Tokens, front_of, tokens_of};
+ghost use Rattle.xr_syntax.specs.declared.scan.Scan.{Scan};
+ghost use Rattle.xr_syntax.specs.declared.scan.ScanEnd.TheVariants as ends;
+ghost use Rattle.xr_syntax.specs.declared.token.Token.{Token};
 
 /// A text has the tokens that a scan of it gives, and no others.
 pub fn tokens_are_the_only_ones()

@@ -1,9 +1,8 @@
 //! Marks and operators.
 ghost use Rattle.std.specs.Prelude.{◌≡◌, ◌<◌, ◌^◌, []};
-ghost use Rattle.xr_defs.specs.Tokens.{long_mark, short_mark, mark_front, deeper};
+ghost use Rattle.xr_syntax.specs.Tokens.{long_mark, short_mark, mark_front, deeper};
 
-use xr_defs::{Front, Mark, Token};
-
+use xr_syntax::{Front, Mark, Token};
 /// The mark that two characters make.
 fn long_mark(c: u8, d: u8) -> Option<Mark>
     ensures { result ≡ long_mark c d }

@@ -1,10 +1,10 @@
 //! Names and reserved words.
 ghost use Rattle.std.specs.Prelude.{◌≡◌, IfOk};
-ghost use Rattle.xr_defs.specs.Tokens.{reserved_of, named, name_front};
+ghost use Rattle.xr_syntax.specs.Tokens.{reserved_of, named, name_front};
 
 use crate::run::name_run;
 use std::alloc::{AllocError, Global};
-use xr_defs::{Front, Reserved, Token};
+use xr_syntax::{Front, Reserved, Token};
 use xr_types::TextBytes;
 
 fn reserved(text: &str) -> Option<Reserved>

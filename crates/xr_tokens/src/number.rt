@@ -3,11 +3,10 @@ ghost use Rattle.std.specs.Prelude.{◌≡◌, ◌<◌, ◌+◌, ◌*◌, All, I
 ghost use Rattle.std.specs.Char.{is_ascii_digit};
 ghost use Rattle.std.specs.List.{take_while};
 ghost use Rattle.std.specs.Str.Parse.{digits_value};
-ghost use Rattle.xr_defs.specs.Tokens.{fitting, number_front};
+ghost use Rattle.xr_syntax.specs.Tokens.{fitting, number_front};
 
 use crate::run::digit_run;
-use xr_defs::{Front, Token};
-
+use xr_syntax::{Front, Token};
 /// The greatest number, 2^127 - 1, without its last digit, and that digit.
 const GREATEST_TENS: u128 = 17_014_118_346_046_923_173_168_730_371_588_410_572;
 

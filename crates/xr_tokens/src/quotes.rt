@@ -1,12 +1,12 @@
 //! Texts in quotes.
 ghost use Rattle.std.specs.Prelude.{◌≡◌, ◌<◌, ◌≤◌, ◌+◌, IfOk, IfSome, IsTrue, length, Some, None, if◌then◌else◌, string_bytes};
 ghost use Rattle.std.specs.List.{prefix_len};
-ghost use Rattle.xr_defs.specs.Tokens.{is_quote, escape_of, quoted, text_front};
+ghost use Rattle.xr_syntax.specs.Tokens.{is_quote, escape_of, quoted, text_front};
 ghost use Rattle.xr_tokens.specs.Pieces.{is_plain, escape_at, begins};
 
 use crate::run::is_control;
 use std::alloc::{AllocError, Global};
-use xr_defs::{Front, Token};
+use xr_syntax::{Front, Token};
 use xr_types::{MOST_SCRIPT_BYTES, TextBytes};
 
 /// What a byte behind a backslash stands for.

@@ -2,7 +2,7 @@
 ghost use Rattle.std.specs.Prelude.{◌≡◌, length};
 ghost use Rattle.std.specs.List.{prefix_len};
 ghost use Rattle.std.specs.Char.{is_ascii_digit};
-ghost use Rattle.xr_defs.specs.Tokens.{is_blank, in_comment, in_name, begins_name, is_control, is_quote};
+ghost use Rattle.xr_syntax.specs.Tokens.{is_blank, in_comment, in_name, begins_name, is_control, is_quote};
 
 pub fn is_blank(c: u8) -> bool
     ensures { result ≡ is_blank c }

@@ -1,12 +1,12 @@
 //! The tokens of a text.
 ghost use Rattle.std.specs.Prelude.{◌≡◌, ◌≤◌, ◌++◌, IfOk, OnOk, length};
-ghost use Rattle.xr_defs.specs.Tokens.{tokens_of};
+ghost use Rattle.xr_syntax.specs.Tokens.{tokens_of};
 ghost use Rattle.xr_tokens.specs.Lines.{line_end};
 
 use crate::fronts::front;
 use crate::mark::deeper;
 use std::alloc::{AllocError, Global};
-use xr_defs::{Front, Placed, Scan, ScanEnd, Token};
+use xr_syntax::{Front, Placed, Scan, ScanEnd, Token};
 use xr_types::{Items, MOST_SCRIPT_BYTES};
 
 /// The tokens of a text with their lines, up to its end or to the first place where none can be formed.

@@ -1,6 +1,6 @@
 //! Bytes as the text of a script.
 ghost use Rattle.std.specs.Prelude.{◌≡◌, ◌≤◌, ◌==◌, length, take, Some, None, MatchResult, OnOk, count_by};
-ghost use Rattle.xr_defs.specs.Tokens.{text_fault, line_behind};
+ghost use Rattle.xr_syntax.specs.Tokens.{text_fault, line_behind};
 
 use std::str;
 use xr_types::{MOST_SCRIPT_BYTES, ScriptFault, ScriptKind};

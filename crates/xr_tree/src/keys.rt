@@ -1,8 +1,8 @@
 //! Keywords among arguments, and keys of tables.
 ghost use Rattle.std.specs.Prelude.{◌≡◌};
-ghost use Rattle.xr_defs.specs.Syntax.{plain_only as only_plain, uses, has_entry, all_arguments, all_entries, no_names, has_name as is_used, has_key as is_key, is_named};
+ghost use Rattle.xr_syntax.specs.Syntax.{plain_only as only_plain, uses, has_entry, all_arguments, all_entries, no_names, has_name as is_used, has_key as is_key, is_named};
 
-use xr_defs::{Argument, Expr};
+use xr_syntax::{Argument, Expr};
 use xr_types::{Name, TextBytes};
 
 fn without_names(args: &[Argument]) -> bool
@@ -48,7 +48,7 @@ fn with_key(entries: &[(TextBytes, Expr)], wanted: &TextBytes) -> bool
 }
 
 /// Whether no keyword is among the arguments.
-#[tactic(auto, using(xr_defs::proofs::Trees::plain_is))]
+#[tactic(auto, using(xr_syntax::proofs::Trees::plain_is))]
 pub fn plain_only(args: &[Argument]) -> bool
     ensures { result ≡ only_plain (all_arguments args.now) }
 {
@@ -56,7 +56,7 @@ pub fn plain_only(args: &[Argument]) -> bool
 }
 
 /// Whether a keyword is among the arguments.
-#[tactic(auto, using(xr_defs::proofs::Trees::uses_is))]
+#[tactic(auto, using(xr_syntax::proofs::Trees::uses_is))]
 pub fn has_name(args: &[Argument], wanted: &Name) -> bool
     ensures { result ≡ uses (all_arguments args.now) wanted.now }
 {
@@ -64,7 +64,7 @@ pub fn has_name(args: &[Argument], wanted: &Name) -> bool
 }
 
 /// Whether a text is a key of the table.
-#[tactic(auto, using(xr_defs::proofs::Trees::has_is))]
+#[tactic(auto, using(xr_syntax::proofs::Trees::has_is))]
 pub fn has_key(entries: &[(TextBytes, Expr)], wanted: &TextBytes) -> bool
     ensures { result ≡ has_entry (all_entries entries.now) wanted.now }
 {

@@ -1,3 +1,7 @@
 pub mod Kinds
 pub mod Faults
 pub mod Cells
+pub mod Points
+pub mod Results
+pub mod Names
+pub mod Widths

@@ -8,6 +8,7 @@ mod fault;
 mod items;
 mod kind;
 mod limits;
+mod operation;
 mod shape;
 mod status;
 mod text;
@@ -22,6 +23,7 @@ pub use limits::{
     MOST_CELLS, MOST_CHUNKS, MOST_DIMENSIONS, MOST_FILE_BYTES, MOST_OPEN_BRACKETS,
     MOST_SCRIPT_BYTES, MOST_STATEMENT_ELEMENTS, MOST_STATEMENTS, MOST_VARIABLES, MOST_WORKERS,
 };
+pub use operation::{FoldKind, How, Near, OpKind};
 pub use shape::Shape;
 pub use status::{ScriptFault, ScriptKind, Status};
 pub use text::{Name, TextBytes};

@@ -13,12 +13,12 @@ use Rattle.std.specs.Ordering.{int_eq}
 use Rattle.std.proofs.lemmas.Bool.Decides.{Decides-int_eq}
 use Rattle.xr_values.proofs.Named.{bytes_eq_swap}
 use Rattle.xr_types.specs.declared.axis.Axis.{Axis}
-use Rattle.xr_defs.specs.declared.node.Node.{Node}
+use Rattle.xr_arrays.specs.declared.node.Node.{Node}
 use Rattle.xr_defs.specs.declared.value.Content.{Content}
 use Rattle.xr_defs.specs.declared.value.Content.TheVariants.{Cells, Text, Time}
 use Rattle.xr_defs.specs.declared.value.Coord.{Coord}
 use Rattle.xr_defs.specs.Values as of
-use Rattle.xr_defs.specs.Values.{axis_names}
+use Rattle.xr_types.specs.Names.{axis_names}
 use Rattle.xr_values.specs.declared.carrying.Carry.{Carry}
 use Rattle.xr_values.specs.declared.carrying.Parts.{Parts}
 use Rattle.xr_values.specs.declared.data_array.DataArray.{DataArray}

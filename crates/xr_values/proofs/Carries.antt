@@ -7,11 +7,12 @@ use Rattle.std.proofs.lemmas.Bool.{and_parts, and_from, or_parts, not-true, not_
 use Rattle.std.proofs.lemmas.List.{append-nil, append_assoc}
 use Rattle.xr_types.specs.declared.axis.Axis.{Axis}
 use Rattle.xr_defs.specs.declared.value.Coord.{Coord}
-use Rattle.xr_defs.specs.Classic.{among, is_name}
-use Rattle.xr_defs.specs.Canonical.{are_distinct}
+use Rattle.xr_types.specs.Names.{among}
+use Rattle.xr_files.specs.Classic.{is_name}
+use Rattle.xr_types.specs.Names.{are_distinct}
 use Rattle.xr_defs.specs.Selecting.{axis_called}
 use Rattle.xr_defs.specs.Values as of
-use Rattle.xr_defs.specs.Values.{axis_names}
+use Rattle.xr_types.specs.Names.{axis_names}
 use Rattle.xr_values.specs.declared.carrying.Carry.{Carry}
 use Rattle.xr_values.specs.declared.carrying.Carry.TheVariants.{Keep, Method, Binary, Where, First}
 use Rattle.xr_values.specs.Carrying.{attr_rule, carried, coord_rule, coords_among, first_attrs, first_name, first_named, has_place, is_agreed, is_new, name_rule, named_as, same_name, shared_name, stands}

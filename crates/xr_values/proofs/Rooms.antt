@@ -6,14 +6,16 @@ use Rattle.std.specs.List.{AllByRecursion}
 use Rattle.std.specs.Str.{bytes_eq}
 use Rattle.xr_types.specs.declared.axis.Axis.{Axis}
 use Rattle.xr_types.specs.declared.kind.DType.{DType}
-use Rattle.xr_defs.specs.Points.{size}
-use Rattle.xr_defs.specs.Nodes.{Pushes, value}
-use Rattle.xr_defs.specs.Canonical.{are_distinct}
-use Rattle.xr_defs.specs.Classic.{among}
-use Rattle.xr_defs.specs.Room.{greatest, span, AddsAtMost, AddsForAny}
+use Rattle.xr_types.specs.Points.{size}
+use Rattle.xr_arrays.specs.Nodes.{Pushes, value}
+use Rattle.xr_types.specs.Names.{are_distinct}
+use Rattle.xr_types.specs.Names.{among}
+use Rattle.xr_arrays.specs.Added.{AddsAtMost}
+use Rattle.xr_defs.specs.Room.{greatest, span, AddsForAny}
 use Rattle.xr_defs.specs.Selecting.{axis_called}
-use Rattle.xr_defs.specs.Values.{axis_names, axis_position, no_axis}
-use Rattle.xr_defs.specs.declared.node.Node.{Node}
+use Rattle.xr_types.specs.Names.{axis_names}
+use Rattle.xr_defs.specs.Values.{axis_position, no_axis}
+use Rattle.xr_arrays.specs.declared.node.Node.{Node}
 use Rattle.xr_defs.proofs.Spans.{AreAmong, span_above}
 use Rattle.plan_core.proofs.Added.{adds_one, array_added}
 use Rattle.xr_values.specs.declared.data_array.DataArray.{DataArray}

@@ -2,10 +2,12 @@
 use Rattle.std.specs.Prelude.{◌≡◌, ◌++◌, ℕ, List, true, MatchOption, ⊤}
 use Rattle.std.specs.List.{AllByRecursion}
 use Rattle.xr_types.specs.declared.axis.Axis.{Axis}
-use Rattle.xr_defs.specs.Classic.{among, is_name}
-use Rattle.xr_defs.specs.Canonical.{are_distinct}
+use Rattle.xr_types.specs.Names.{among}
+use Rattle.xr_files.specs.Classic.{is_name}
+use Rattle.xr_types.specs.Names.{are_distinct}
 use Rattle.xr_defs.specs.Selecting.{axis_called}
-use Rattle.xr_defs.specs.Values.{DataArray, axis_names}
+use Rattle.xr_types.specs.Names.{axis_names}
+use Rattle.xr_defs.specs.Values.{DataArray}
 use Rattle.xr_values.specs.declared.carrying.Parts.{Parts}
 use Rattle.xr_values.specs.WellFormed.{AreAttributes, IsCoordinate, IsDataArray, names_of}
 

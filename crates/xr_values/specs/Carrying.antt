@@ -11,9 +11,9 @@ use Rattle.xr_types.specs.declared.axis.Axis.{Axis}
 use Rattle.xr_defs.specs.declared.value.Content.{Content}
 use Rattle.xr_defs.specs.declared.value.Content.TheVariants.{Cells, Text, Time}
 use Rattle.xr_defs.specs.declared.value.Coord.{Coord}
-use Rattle.xr_defs.specs.Classic.{among}
+use Rattle.xr_types.specs.Names.{among}
 use Rattle.xr_defs.specs.Values as of
-use Rattle.xr_defs.specs.Values.{axis_names}
+use Rattle.xr_types.specs.Names.{axis_names}
 use Rattle.xr_values.specs.declared.data_array.DataArray.{DataArray}
 use Rattle.xr_values.specs.declared.carrying.Carry.{Carry}
 use Rattle.xr_values.specs.declared.carrying.Carry.TheVariants.{Keep, Method, Binary, Where, First}

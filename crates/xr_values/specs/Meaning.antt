@@ -3,7 +3,7 @@ use Rattle.std.specs.Prelude.{List, [], ◌∷◌, map, All, ⊤}
 use Rattle.xr_types.specs.declared.text.TextBytes.{TextBytes}
 use Rattle.xr_defs.specs.Meanings as of
 use Rattle.xr_defs.specs.Meanings.{Values, NoValue, With, Entries, NoEntry, Entry, Given}
-use Rattle.xr_defs.specs.declared.node.Node.{Node}
+use Rattle.xr_arrays.specs.declared.node.Node.{Node}
 use Rattle.xr_values.specs.declared.value.Value.{Value}
 use Rattle.xr_values.specs.declared.value.Value.TheOpen as held
 use Rattle.xr_values.specs.declared.value.Value.TheOpen.{Value-F}

@@ -1,10 +1,10 @@
 -- What arrays and datasets of the program stand for in a plan: their cells are the values of their nodes.
 use Rattle.std.specs.Prelude.{◌≡◌, ◌<◌, ℕ, ℤ, Option, List, map, length, All}
 use Rattle.xr_types.specs.declared.kind.DType.{DType}
-use Rattle.xr_defs.specs.declared.node.Node.{Node}
-use Rattle.xr_defs.specs.Nodes.{value}
+use Rattle.xr_arrays.specs.declared.node.Node.{Node}
+use Rattle.xr_arrays.specs.Nodes.{value}
 use Rattle.xr_defs.specs.Values as of
-use Rattle.xr_defs.specs.Values.{shape_over}
+use Rattle.xr_types.specs.Names.{shape_over}
 use Rattle.xr_defs.specs.Selecting.{axis_called}
 use Rattle.xr_values.specs.declared.data_array.DataArray.{DataArray}
 use Rattle.xr_values.specs.declared.variable.Variable.{Variable}

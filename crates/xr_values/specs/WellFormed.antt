@@ -13,15 +13,18 @@ use Rattle.xr_types.specs.declared.kind.DType.{DType}
 use Rattle.xr_defs.specs.declared.value.Content.{Content}
 use Rattle.xr_defs.specs.declared.value.Content.TheVariants as contents
 use Rattle.xr_defs.specs.declared.value.Coord.{Coord}
-use Rattle.xr_defs.specs.Points.{size}
-use Rattle.xr_defs.specs.Arrays.{IsCell}
-use Rattle.xr_defs.specs.Classic.{among, attr_names, is_name, width}
-use Rattle.xr_defs.specs.Canonical.{are_distinct}
+use Rattle.xr_types.specs.Points.{size}
+use Rattle.xr_arrays.specs.Arrays.{IsCell}
+use Rattle.xr_types.specs.Names.{among}
+use Rattle.xr_types.specs.Widths.{width}
+use Rattle.xr_files.specs.Classic.{attr_names, is_name}
+use Rattle.xr_types.specs.Names.{are_distinct}
 use Rattle.xr_defs.specs.Limits.{most_cells, most_dimensions, most_variables}
-use Rattle.xr_defs.specs.Values.{DataArray, Dataset, Variable, axis_names, label_count, shape_over}
+use Rattle.xr_types.specs.Names.{axis_names, shape_over}
+use Rattle.xr_defs.specs.Values.{DataArray, Dataset, Variable, label_count}
 use Rattle.xr_defs.specs.Selecting.{axis_called}
 use Rattle.xr_defs.specs.Building.{is_integer_kind}
-use Rattle.xr_defs.specs.Times.{IsTime}
+use Rattle.xr_arrays.specs.Times.{IsTime}
 
 -- ---- attributes
 

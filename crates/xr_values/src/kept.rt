@@ -1,8 +1,8 @@
 //! The coordinates that a result keeps.
 ghost use Rattle.std.specs.Prelude.{◌≡◌, ◌&&◌, ◌++◌, map, IfOk, OnOk};
 ghost use Rattle.std.specs.List.{list_all};
-ghost use Rattle.xr_defs.specs.Classic.{among};
-ghost use Rattle.xr_defs.specs.Values.{axis_names};
+ghost use Rattle.xr_types.specs.Names.{among};
+ghost use Rattle.xr_types.specs.Names.{axis_names};
 ghost use Rattle.xr_values.specs.Carrying.{coords_among, has_place, is_agreed, is_new, kept_here, the_coords};
 
 use crate::copies::copy_coord;

@@ -1,7 +1,7 @@
 //! The name, the attributes and the coordinates of a result, by those of its operands.
 ghost use Rattle.std.specs.Prelude.{◌≡◌, List, map, IfOk};
 ghost use Rattle.std.specs.List.{list_all};
-ghost use Rattle.xr_defs.specs.declared.node.Node.{Node};
+ghost use Rattle.xr_arrays.specs.declared.node.Node.{Node};
 ghost use Rattle.xr_values.specs.Stands.{array_in};
 ghost use Rattle.xr_values.specs.Carrying.{attrs_among, carried, coords_among, first_attrs, first_name, name_among, same_name, shared_name, the_attrs, the_coords, the_names};
 

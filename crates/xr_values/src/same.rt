@@ -2,13 +2,14 @@
 ghost use Rattle.std.specs.Prelude.{◌≡◌, ◌<◌, ◌&&◌, ⊤, map, length, nat_eq, option_map, get_or, None, MatchOption, IfOk};
 ghost use Rattle.std.specs.Str.{bytes_eq};
 ghost use Rattle.std.specs.Cmp.Lexicographic.{pointwise};
-ghost use Rattle.xr_defs.specs.Arrays.{hidden, wide};
-ghost use Rattle.xr_defs.specs.Values.{axis_names};
+ghost use Rattle.xr_arrays.specs.Arrays.{hidden, wide};
+ghost use Rattle.xr_types.specs.Names.{axis_names};
 ghost use Rattle.xr_values.specs.Carrying.{same_cell, same_content, same_coord};
 
 use std::alloc::{AllocError, Global};
 use stored_cells::as_typed;
-use xr_defs::{ArrayValue, Cells, Content, Coord};
+use xr_arrays::{ArrayValue, Cells};
+use xr_defs::{Content, Coord};
 use xr_types::{Axis, Elem, Items};
 
 /// Whether the axes have the same names in the same order.

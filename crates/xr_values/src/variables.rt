@@ -2,7 +2,7 @@
 ghost use Rattle.std.specs.Prelude.{◌≡◌, [], true, find, OnOk, OnErr, option_copied};
 ghost use Rattle.std.specs.Str.{bytes_eq};
 ghost use Rattle.xr_values.specs.declared.variable.Variable.{Variable as Var};
-ghost use Rattle.xr_defs.specs.Canonical.{are_distinct};
+ghost use Rattle.xr_types.specs.Names.{are_distinct};
 ghost use Rattle.xr_values.specs.Variables.{names_of, with_variable, with_variables};
 
 use crate::variable::Variable;

@@ -1,5 +1,5 @@
 use Rattle.std.proofs.Common.{List, All}
-use Rattle.xr_defs.specs.declared.node.Node.{Node}
+use Rattle.xr_arrays.specs.declared.node.Node.{Node}
 use Rattle.xr_values.specs.Meaning.{IsValueIn}
 use Rattle.call_tests.proofs.building.texts.Given as goal
 

@@ -1,5 +1,5 @@
 use Rattle.std.proofs.Common.{ℕ, take, drop, ap, ◌∙◌}
-use Rattle.xr_defs.specs.Files.{head_size}
+use Rattle.xr_files.specs.Files.{head_size}
 use Rattle.cdf_reader.proofs.Placed.{values_within}
 use Rattle.cdf_reader.proofs.data.fixed_values.Goals as goal
 

@@ -1,6 +1,6 @@
 use Rattle.std.proofs.Common.{ℕ, take, drop, ap, ◌∙◌}
 use Rattle.std.proofs.lemmas.Result.{IfOk-weaker}
-use Rattle.xr_defs.specs.Files.{head_size}
+use Rattle.xr_files.specs.Files.{head_size}
 use Rattle.cdf_reader.proofs.Placed.{values_within}
 use Rattle.cdf_reader.proofs.data.shared_fixed.Goals as goal
 

@@ -1,6 +1,6 @@
 use Rattle.std.proofs.Common.{List, take, drop, ap, ◌∙◌}
-use Rattle.xr_defs.specs.declared.file.CdfDim.{CdfDim}
-use Rattle.xr_defs.specs.Files.{head_size}
+use Rattle.xr_files.specs.declared.file.CdfDim.{CdfDim}
+use Rattle.xr_files.specs.Files.{head_size}
 use Rattle.cdf_reader.proofs.heads.values_at.Goals as goal
 
 pub returns-clause-fixed : goal.returns-clause-fixed

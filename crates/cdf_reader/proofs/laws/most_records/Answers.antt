@@ -1,4 +1,4 @@
-use Rattle.xr_defs.proofs.RecordLaws.{records_lie, records_most, no_records}
+use Rattle.xr_files.proofs.RecordLaws.{records_lie, records_most, no_records}
 use Rattle.cdf_reader.proofs.laws.most_records.Goals as goal
 
 pub returns-clause-lie : goal.returns-clause-lie

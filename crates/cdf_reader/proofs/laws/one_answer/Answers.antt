@@ -2,8 +2,8 @@ use Rattle.std.proofs.Common.{◌<◌, ℕ, List, length, inl, inr, arith}
 use Rattle.std.specs.List.{All}
 use Rattle.std.proofs.lemmas.Bool.{cases_lt}
 use Rattle.std.proofs.lemmas.List.{get_or_past}
-use Rattle.xr_defs.proofs.FormatLaws.{IsBytes}
-use Rattle.xr_defs.proofs.FileLaws.{spelled_is_given, met_is_given, some_answer}
+use Rattle.xr_files.proofs.FormatLaws.{IsBytes}
+use Rattle.xr_files.proofs.FileLaws.{spelled_is_given, met_is_given, some_answer}
 use Rattle.cdf_reader.proofs.laws.one_answer.Goals as goal
 
 bytes_from_All : (bytes : List ℕ) → All (λ b. b < 256) bytes → IsBytes bytes

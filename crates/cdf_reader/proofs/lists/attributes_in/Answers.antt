@@ -2,7 +2,7 @@ use Rattle.std.proofs.Common.{◌∷◌, []}
 use Rattle.std.proofs.lemmas.List.{map-append}
 use Rattle.std.proofs.lemmas.Result.{err_from_is_err_and}
 use Rattle.xr_types.specs.declared.attr.Attr.{Attr}
-use Rattle.xr_defs.specs.Classic.{attribute}
+use Rattle.xr_files.specs.Classic.{attribute}
 use Rattle.cdf_reader.proofs.Loop.{goes_on, ends, is_done}
 use Rattle.cdf_reader.proofs.lists.attributes_in.Goals as goal
 

@@ -1,6 +1,6 @@
 use Rattle.std.proofs.Common.{◌≡◌, ◌-◌, []}
-use Rattle.xr_defs.specs.Format.{each}
-use Rattle.xr_defs.specs.Classic.{attribute, attr_names}
+use Rattle.xr_files.specs.Format.{each}
+use Rattle.xr_files.specs.Classic.{attribute, attr_names}
 use Rattle.cdf_reader.specs.Names.{Knows}
 use Rattle.cdf_reader.proofs.lists.attributes_in.Given as goal
 

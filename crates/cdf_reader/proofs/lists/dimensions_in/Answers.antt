@@ -1,8 +1,8 @@
 use Rattle.std.proofs.Common.{◌∷◌, []}
 use Rattle.std.proofs.lemmas.List.{map-append}
 use Rattle.std.proofs.lemmas.Result.{err_from_is_err_and}
-use Rattle.xr_defs.specs.declared.file.CdfDim.{CdfDim}
-use Rattle.xr_defs.specs.Classic.{dimension}
+use Rattle.xr_files.specs.declared.file.CdfDim.{CdfDim}
+use Rattle.xr_files.specs.Classic.{dimension}
 use Rattle.cdf_reader.proofs.Loop.{goes_on, ends, is_done}
 use Rattle.cdf_reader.proofs.lists.dimensions_in.Goals as goal
 

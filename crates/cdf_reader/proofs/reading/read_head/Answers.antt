@@ -1,6 +1,6 @@
 use Rattle.std.proofs.Common.{ℕ, List, sym, ap, ◌∙◌, arith}
 use Rattle.std.proofs.lemmas.Result.{IfOk-weaker}
-use Rattle.xr_defs.specs.Classic.{header}
+use Rattle.xr_files.specs.Classic.{header}
 use Rattle.cdf_reader.specs.Parts.{header_of}
 use Rattle.cdf_reader.proofs.Seen.{is_listed}
 use Rattle.cdf_reader.proofs.reading.read_head.Goals as goal

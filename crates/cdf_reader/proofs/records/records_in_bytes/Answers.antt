@@ -1,5 +1,5 @@
 use Rattle.std.proofs.Common.{◌-◌, ◌/◌, ℕ, ap, ◌∙◌}
-use Rattle.xr_defs.specs.Files.{head_size, recsize}
+use Rattle.xr_files.specs.Files.{head_size, recsize}
 use Rattle.cdf_reader.proofs.Counted.{records_counted}
 use Rattle.cdf_reader.proofs.records.records_in_bytes.Goals as goal
 

@@ -1,5 +1,5 @@
 use Rattle.std.proofs.Common.{◌≡◌, ◌-◌, ◌<◌, true, suc, length, sym, subst, ◌∙◌, ap, refl, arith}
-use Rattle.xr_defs.specs.Files.{is_record_var, records_in}
+use Rattle.xr_files.specs.Files.{is_record_var, records_in}
 use Rattle.cdf_reader.specs.Parts.{header_of}
 use Rattle.cdf_reader.specs.Fewest.{IsLeast}
 use Rattle.cdf_reader.proofs.Counted.{counts_more}

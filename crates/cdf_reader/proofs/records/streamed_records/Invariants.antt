@@ -1,5 +1,5 @@
 use Rattle.std.proofs.Common.{◌≤◌, length, drop, map}
-use Rattle.xr_defs.specs.Files.{records_in, record_vars}
+use Rattle.xr_files.specs.Files.{records_in, record_vars}
 use Rattle.cdf_reader.specs.Parts.{header_of}
 use Rattle.cdf_reader.specs.Fewest.{IsLeast}
 use Rattle.cdf_reader.proofs.records.streamed_records.Given as goal

@@ -1,6 +1,6 @@
 use Rattle.std.proofs.Common.{◌≡◌, ◌≤◌, length, drop}
-use Rattle.xr_defs.specs.Points.{size}
-use Rattle.xr_defs.specs.Files.{shape_of}
+use Rattle.xr_types.specs.Points.{size}
+use Rattle.xr_files.specs.Files.{shape_of}
 use Rattle.cdf_reader.specs.Sizes.{capped}
 use Rattle.cdf_reader.proofs.sizes.cells_of.Given as goal
 

@@ -1,5 +1,5 @@
 use Rattle.std.proofs.Common.{◌≡◌, ◌-◌, ◌<◌, true, suc, length, sym, subst, ◌∙◌, ap, arith}
-use Rattle.xr_defs.specs.Files.{head_size, is_record_var}
+use Rattle.xr_files.specs.Files.{head_size, is_record_var}
 use Rattle.cdf_reader.specs.Together.{Sum}
 use Rattle.cdf_reader.proofs.Distances.{sizes_more}
 use Rattle.cdf_reader.proofs.sizes.distance_of.Goals as goal

@@ -1,7 +1,7 @@
 use Rattle.std.proofs.Common.{◌≡◌, drop}
 use Rattle.std.specs.List.{list_all}
-use Rattle.xr_defs.specs.Classic.{Header}
-use Rattle.xr_defs.specs.Files.{is_inside, recsize}
+use Rattle.xr_files.specs.Classic.{Header}
+use Rattle.xr_files.specs.Files.{is_inside, recsize}
 use Rattle.cdf_reader.specs.Sizes.{capped}
 use Rattle.cdf_reader.proofs.values.are_inside.Given as goal
 

@@ -1,4 +1,4 @@
-use Rattle.xr_defs.specs.Files.{var_of}
+use Rattle.xr_files.specs.Files.{var_of}
 use Rattle.cdf_reader.proofs.Reversed.{moved}
 use Rattle.cdf_reader.proofs.values.vars_of.Goals as goal
 

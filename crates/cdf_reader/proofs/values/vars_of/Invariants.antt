@@ -1,6 +1,6 @@
 use Rattle.std.proofs.Common.{◌≡◌, ◌++◌, map, reverse, length}
-use Rattle.xr_defs.specs.Classic.{Header}
-use Rattle.xr_defs.specs.Files.{var_of, recsize}
+use Rattle.xr_files.specs.Classic.{Header}
+use Rattle.xr_files.specs.Files.{var_of, recsize}
 use Rattle.cdf_reader.specs.Sizes.{capped}
 use Rattle.cdf_reader.proofs.values.vars_of.Given as goal
 

@@ -1,5 +1,5 @@
 use Rattle.std.proofs.lemmas.Result.{err_from_is_err_and}
-use Rattle.xr_defs.specs.Classic.{dim_number}
+use Rattle.xr_files.specs.Classic.{dim_number}
 use Rattle.cdf_reader.specs.declared.fault.WalkFault.TheVariants as walk
 use Rattle.cdf_reader.proofs.Loop.{goes_on, ends, is_done}
 use Rattle.cdf_reader.proofs.variables.dim_numbers_in.Goals as goal

@@ -1,6 +1,6 @@
 use Rattle.std.proofs.Common.{◌≡◌, ◌-◌, []}
-use Rattle.xr_defs.specs.Format.{each}
-use Rattle.xr_defs.specs.Classic.{dim_number}
+use Rattle.xr_files.specs.Format.{each}
+use Rattle.xr_files.specs.Classic.{dim_number}
 use Rattle.cdf_reader.proofs.variables.dim_numbers_in.Given as goal
 
 abbrev pub invariant-loop : goal.invariant-loop

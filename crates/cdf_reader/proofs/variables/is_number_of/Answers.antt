@@ -1,6 +1,6 @@
 use Rattle.std.proofs.Common.{◌≡◌, ℕ, Bool, true, false, not, ◌&&◌, ◌||◌, eqb, refl, ap, arith}
 use Rattle.std.proofs.lemmas.Bool.Decides.{nat_tests}
-use Rattle.xr_defs.specs.declared.file.CdfDim.{CdfDim}
+use Rattle.xr_files.specs.declared.file.CdfDim.{CdfDim}
 use Rattle.cdf_reader.proofs.variables.is_number_of.Goals as goal
 
 none : (a b : Bool) → false ≡ a → false ≡ (a && b)

@@ -1,8 +1,8 @@
 use Rattle.std.proofs.Common.{◌∷◌, []}
 use Rattle.std.proofs.lemmas.List.{map-append}
 use Rattle.std.proofs.lemmas.Result.{err_from_is_err_and}
-use Rattle.xr_defs.specs.declared.file.VarHead.{VarHead}
-use Rattle.xr_defs.specs.Classic.{variable}
+use Rattle.xr_files.specs.declared.file.VarHead.{VarHead}
+use Rattle.xr_files.specs.Classic.{variable}
 use Rattle.cdf_reader.proofs.Loop.{goes_on, ends, is_done}
 use Rattle.cdf_reader.proofs.variables.variables_in.Goals as goal
 

@@ -1,6 +1,6 @@
 use Rattle.std.proofs.Common.{◌≡◌, ◌-◌, []}
-use Rattle.xr_defs.specs.Format.{each}
-use Rattle.xr_defs.specs.Classic.{variable, var_names}
+use Rattle.xr_files.specs.Format.{each}
+use Rattle.xr_files.specs.Classic.{variable, var_names}
 use Rattle.cdf_reader.specs.Names.{Knows}
 use Rattle.cdf_reader.proofs.variables.variables_in.Given as goal
 

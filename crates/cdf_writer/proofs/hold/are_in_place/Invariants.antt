@@ -1,6 +1,6 @@
 use Rattle.std.proofs.Common.{◌≡◌, drop}
 use Rattle.std.specs.List.{list_all}
-use Rattle.xr_defs.specs.Canonical.{in_place}
+use Rattle.xr_files.specs.Canonical.{in_place}
 use Rattle.cdf_writer.proofs.hold.are_in_place.Given as goal
 
 abbrev pub invariant-loop-var : goal.invariant-loop-var

@@ -1,6 +1,6 @@
 use Rattle.std.proofs.Common.{◌≡◌, not, drop}
 use Rattle.std.specs.List.{list_all}
-use Rattle.xr_defs.specs.Classic.{dim_at, is_record_dim}
+use Rattle.xr_files.specs.Classic.{dim_at, is_record_dim}
 use Rattle.cdf_writer.proofs.hold.have_no_record.Given as goal
 
 abbrev pub invariant-loop-number : goal.invariant-loop-number

@@ -1,5 +1,5 @@
-use Rattle.xr_defs.specs.Canonical.{canonical}
-use Rattle.xr_defs.proofs.FileLaws.{spelled_is_given}
+use Rattle.xr_files.specs.Canonical.{canonical}
+use Rattle.xr_files.proofs.FileLaws.{spelled_is_given}
 use Rattle.cdf_writer.proofs.Again.{spelled}
 use Rattle.cdf_writer.proofs.laws.reads_again.Goals as goal
 

@@ -1,5 +1,5 @@
 use Rattle.std.proofs.Common.{◌≡◌, ◌<◌, ◌+◌, ◌++◌, ◌∷◌, [], true, false, not, cond, ap, length, get_or, ◌∙◌, arith}
-use Rattle.xr_defs.specs.Canonical.{is_record, room}
+use Rattle.xr_files.specs.Canonical.{is_record, room}
 use Rattle.cdf_writer.proofs.Rooms.{rooms_left}
 use Rattle.cdf_writer.proofs.Places.{record_place, fixed_place}
 use Rattle.cdf_writer.proofs.measure.begins.Goals as goal

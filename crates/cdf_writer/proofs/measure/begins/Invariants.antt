@@ -1,7 +1,7 @@
 use Rattle.std.proofs.Common.{◌≡◌, ◌+◌, ◌++◌, map, drop, not, sum}
 use Rattle.std.specs.List.{filter}
-use Rattle.xr_defs.specs.declared.file.CdfVar.{CdfVar}
-use Rattle.xr_defs.specs.Canonical.{is_record, placed_from, fixed_size, recsize, room}
+use Rattle.xr_files.specs.declared.file.CdfVar.{CdfVar}
+use Rattle.xr_files.specs.Canonical.{is_record, placed_from, fixed_size, recsize, room}
 use Rattle.cdf_writer.proofs.measure.begins.Given as goal
 
 abbrev pub invariant-loop-var : goal.invariant-loop-var

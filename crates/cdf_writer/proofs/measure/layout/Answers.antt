@@ -1,6 +1,6 @@
 use Rattle.std.proofs.Common.{◌≡◌, ◌+◌, ◌*◌, ◌-◌, ◌^◌, min, true, sym, ap, ◌∙◌, arith}
 use Rattle.std.proofs.Math.Nat.{mul_comm}
-use Rattle.xr_defs.specs.Canonical.{can_hold, recsize, fixed_size, header_size}
+use Rattle.xr_files.specs.Canonical.{can_hold, recsize, fixed_size, header_size}
 use Rattle.cdf_writer.proofs.Whole.{canonical_length}
 use Rattle.cdf_writer.proofs.measure.layout.Goals as goal
 

@@ -1,7 +1,7 @@
 use Rattle.std.proofs.Common.{◌≡◌, ℕ, List, ◌<◌, ◌++◌, [], true, false, not, cond, length, get_or, sym, ap, ◌∙◌, arith}
 use Rattle.std.proofs.lemmas.List.{append-nil}
-use Rattle.xr_defs.specs.declared.file.CdfVar.{CdfVar}
-use Rattle.xr_defs.specs.Canonical.{is_record, with_filling}
+use Rattle.xr_files.specs.declared.file.CdfVar.{CdfVar}
+use Rattle.xr_files.specs.Canonical.{is_record, with_filling}
 use Rattle.cdf_writer.proofs.Fillings.{fixed_gap, padded_text}
 use Rattle.cdf_writer.proofs.Held.{fixed_length, held_at}
 use Rattle.cdf_writer.proofs.Steps.{filter_step}

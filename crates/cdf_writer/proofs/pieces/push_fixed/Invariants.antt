@@ -1,6 +1,6 @@
 use Rattle.std.proofs.Common.{◌≡◌, ◌++◌, not, take}
 use Rattle.std.specs.List.{filter, flat_map}
-use Rattle.xr_defs.specs.Canonical.{is_record, with_filling}
+use Rattle.xr_files.specs.Canonical.{is_record, with_filling}
 use Rattle.cdf_writer.proofs.pieces.push_fixed.Given as goal
 
 abbrev pub invariant-loop-var : goal.invariant-loop-var

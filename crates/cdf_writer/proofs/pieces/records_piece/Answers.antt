@@ -1,7 +1,7 @@
 use Rattle.std.proofs.Common.{◌≡◌, ◌<◌, ◌-◌, length, take, get_or, sym, ap, ◌∙◌, arith}
 use Rattle.std.proofs.lemmas.List.{take_all}
 use Rattle.std.proofs.lemmas.Result.{IfOk-weaker}
-use Rattle.xr_defs.specs.Canonical.{record_vars}
+use Rattle.xr_files.specs.Canonical.{record_vars}
 use Rattle.cdf_writer.proofs.Kept.{kept_at, lone_records, mapped_at, mapped_count, no_records, single}
 use Rattle.cdf_writer.proofs.pieces.records_piece.Goals as goal
 

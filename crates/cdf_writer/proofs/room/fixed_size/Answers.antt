@@ -1,5 +1,5 @@
 use Rattle.std.proofs.Common.{◌≡◌, ◌<◌, true, false, not, cond, ap, length, get_or, arith}
-use Rattle.xr_defs.specs.Canonical.{is_record, room}
+use Rattle.xr_files.specs.Canonical.{is_record, room}
 use Rattle.cdf_writer.proofs.Rooms.{rooms_more}
 use Rattle.cdf_writer.proofs.room.fixed_size.Goals as goal
 use Rattle.cdf_writer.proofs.room.fixed_size.Goals.{then-not-is_record, else-not-is_record}

@@ -1,6 +1,6 @@
 use Rattle.std.proofs.Common.{◌≡◌, map, take, not, sum}
 use Rattle.std.specs.List.{filter}
-use Rattle.xr_defs.specs.Canonical.{is_record, room}
+use Rattle.xr_files.specs.Canonical.{is_record, room}
 use Rattle.cdf_writer.specs.Sizes.{capped}
 use Rattle.cdf_writer.proofs.room.fixed_size.Given as goal
 

@@ -1,6 +1,6 @@
 use Rattle.std.proofs.Common.{◌≡◌, ◌≤◌, length, take}
 use Rattle.std.specs.List.{filter}
-use Rattle.xr_defs.specs.Canonical.{is_record}
+use Rattle.xr_files.specs.Canonical.{is_record}
 use Rattle.cdf_writer.proofs.room.has_lone_record.Given as goal
 
 abbrev pub invariant-loop-var : goal.invariant-loop-var

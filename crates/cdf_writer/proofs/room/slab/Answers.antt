@@ -1,7 +1,7 @@
 use Rattle.std.proofs.Common.{◌≡◌, ◌<◌, ◌*◌, ◌+◌, ℕ, length, drop, get_or, ap, ◌∙◌, arith}
 use Rattle.std.proofs.lemmas.List.{at_drop_all}
-use Rattle.xr_defs.specs.Points.{size}
-use Rattle.xr_defs.specs.Files.{positions, shape_of}
+use Rattle.xr_types.specs.Points.{size}
+use Rattle.xr_files.specs.Files.{positions, shape_of}
 use Rattle.cdf_writer.specs.Sizes.{capped}
 use Rattle.cdf_writer.proofs.Each.{each_at}
 use Rattle.cdf_writer.proofs.Rooms.{slab_more}

@@ -1,7 +1,7 @@
 use Rattle.std.proofs.Common.{◌≡◌, ◌*◌, ◌<◌, ◌^◌, drop}
-use Rattle.xr_defs.specs.Points.{size}
-use Rattle.xr_defs.specs.Files.{shape_of}
-use Rattle.xr_defs.specs.Canonical.{slab}
+use Rattle.xr_types.specs.Points.{size}
+use Rattle.xr_files.specs.Files.{shape_of}
+use Rattle.xr_files.specs.Canonical.{slab}
 use Rattle.cdf_writer.specs.Sizes.{capped}
 use Rattle.cdf_writer.proofs.room.slab.Given as goal
 

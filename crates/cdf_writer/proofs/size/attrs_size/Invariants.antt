@@ -1,6 +1,6 @@
 use Rattle.std.proofs.Common.{◌≡◌, ◌+◌, length, take}
 use Rattle.std.specs.List.{flat_map}
-use Rattle.xr_defs.specs.Canonical.{attr_text}
+use Rattle.xr_files.specs.Canonical.{attr_text}
 use Rattle.cdf_writer.specs.Sizes.{capped}
 use Rattle.cdf_writer.proofs.size.attrs_size.Given as goal
 

@@ -1,5 +1,5 @@
 use Rattle.std.proofs.Common.{◌≡◌, ◌+◌, ◌*◌, length, ap, sym, ◌∙◌, arith}
-use Rattle.xr_defs.specs.Canonical.{attr_text, list_text, name_text}
+use Rattle.xr_files.specs.Canonical.{attr_text, list_text, name_text}
 use Rattle.cdf_writer.specs.Sizes.{capped, place_bytes}
 use Rattle.cdf_writer.proofs.Lengths.{var_length}
 use Rattle.cdf_writer.proofs.size.var_size.Goals as goal

@@ -1,7 +1,7 @@
 use Rattle.std.proofs.Common.{◌++◌, length, sym, ap, ◌∙◌}
 use Rattle.std.specs.List.{flat_map}
 use Rattle.std.proofs.lemmas.List.{take_all}
-use Rattle.xr_defs.specs.Canonical.{attr_text}
+use Rattle.xr_files.specs.Canonical.{attr_text}
 use Rattle.cdf_writer.specs.Sizes.{list_front}
 use Rattle.cdf_writer.proofs.Lengths.{flat_step, list_is}
 use Rattle.cdf_writer.proofs.text.put_attrs.Goals as goal

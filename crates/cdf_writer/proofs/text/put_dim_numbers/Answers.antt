@@ -1,7 +1,7 @@
 use Rattle.std.proofs.Common.{◌++◌, [], get_or, ap, ◌∙◌}
 use Rattle.std.specs.List.{flat_map}
 use Rattle.std.proofs.lemmas.List.{get_or_default, take_all}
-use Rattle.xr_defs.specs.Canonical.{number_text}
+use Rattle.xr_files.specs.Canonical.{number_text}
 use Rattle.cdf_writer.proofs.Lengths.{flat_step}
 use Rattle.cdf_writer.proofs.text.put_dim_numbers.Goals as goal
 

@@ -1,6 +1,6 @@
 use Rattle.std.proofs.Common.{◌≡◌, ◌++◌, take}
 use Rattle.std.specs.List.{flat_map}
-use Rattle.xr_defs.specs.Canonical.{number_text}
+use Rattle.xr_files.specs.Canonical.{number_text}
 use Rattle.cdf_writer.proofs.text.put_dim_numbers.Given as goal
 
 abbrev pub invariant-loop-number : goal.invariant-loop-number

@@ -1,9 +1,9 @@
 use Rattle.std.proofs.Common.{◌≡◌, ℕ, ◌<◌, ◌+◌, ◌++◌, ◌^◌, length, take, get_or, sym, ap, subst, ◌∙◌, arith}
 use Rattle.std.proofs.lemmas.List.{get_or_default, take_all}
 use Rattle.std.specs.List.{flat_map}
-use Rattle.xr_defs.specs.Files.{padded}
-use Rattle.xr_defs.specs.declared.file.CdfVar.{CdfVar}
-use Rattle.xr_defs.specs.Canonical.{fixed_size, header_size, placed, slab, var_text}
+use Rattle.xr_files.specs.Files.{padded}
+use Rattle.xr_files.specs.declared.file.CdfVar.{CdfVar}
+use Rattle.xr_files.specs.Canonical.{fixed_size, header_size, placed, slab, var_text}
 use Rattle.cdf_writer.specs.Sizes.{list_front}
 use Rattle.cdf_writer.proofs.Each.{each_at}
 use Rattle.cdf_writer.proofs.Lengths.{flat_step, list_is}

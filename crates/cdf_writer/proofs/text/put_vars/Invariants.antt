@@ -1,6 +1,6 @@
 use Rattle.std.proofs.Common.{◌≡◌, ◌++◌, length, take}
 use Rattle.std.specs.List.{flat_map}
-use Rattle.xr_defs.specs.Canonical.{placed, var_text}
+use Rattle.xr_files.specs.Canonical.{placed, var_text}
 use Rattle.cdf_writer.specs.Sizes.{list_front}
 use Rattle.cdf_writer.proofs.text.put_vars.Given as goal
 

@@ -1,6 +1,6 @@
 use Rattle.std.proofs.Common.{◌≡◌, drop}
 use Rattle.std.specs.List.{find}
-use Rattle.xr_defs.specs.Canonical.{is_own_fill}
+use Rattle.xr_files.specs.Canonical.{is_own_fill}
 use Rattle.cdf_writer.proofs.values.fill_of.Given as goal
 
 abbrev pub invariant-loop-attr : goal.invariant-loop-attr

@@ -1,5 +1,5 @@
 use Rattle.std.specs.List.{flat_map}
-use Rattle.xr_defs.specs.Canonical.{record_text, record_vars}
+use Rattle.xr_files.specs.Canonical.{record_text, record_vars}
 use Rattle.cdf_writer.proofs.Steps.{range_step}
 use Rattle.cdf_writer.proofs.values.put_each_record.Goals as goal
 

@@ -1,6 +1,6 @@
 use Rattle.std.proofs.Common.{◌≡◌, ◌++◌}
 use Rattle.std.specs.List.{flat_map, range_with_len}
-use Rattle.xr_defs.specs.Canonical.{record_text, record_vars}
+use Rattle.xr_files.specs.Canonical.{record_text, record_vars}
 use Rattle.cdf_writer.proofs.values.put_each_record.Given as goal
 
 abbrev pub invariant-loop-index : goal.invariant-loop-index

@@ -1,5 +1,5 @@
 use Rattle.std.proofs.Common.{◌≡◌, ◌-◌, ◌++◌, length, take, sym, ap, ◌∙◌}
-use Rattle.xr_defs.specs.Canonical.{fill_of}
+use Rattle.xr_files.specs.Canonical.{fill_of}
 use Rattle.cdf_writer.proofs.Steps.{put_three, take_three}
 use Rattle.cdf_writer.proofs.values.put_filling.Goals as goal
 

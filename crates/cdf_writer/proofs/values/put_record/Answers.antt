@@ -1,6 +1,6 @@
 use Rattle.std.proofs.Common.{◌≡◌, ℕ, List, ◌<◌, ◌*◌, ◌++◌, [], length, take, drop, get_or, ap, ◌∙◌, arith}
-use Rattle.xr_defs.specs.Classic.{padding}
-use Rattle.xr_defs.specs.Canonical.{filling, record_text, record_vars, slab}
+use Rattle.xr_files.specs.Classic.{padding}
+use Rattle.xr_files.specs.Canonical.{filling, record_text, record_vars, slab}
 use Rattle.cdf_writer.proofs.Fillings.{many_gap, padded_text}
 use Rattle.cdf_writer.proofs.Held.{record_length}
 use Rattle.cdf_writer.proofs.Kept.{kept_at, mapped_at, mapped_count}

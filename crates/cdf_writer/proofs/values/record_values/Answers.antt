@@ -1,6 +1,6 @@
 use Rattle.std.proofs.Common.{◌≡◌, ◌*◌, ◌/◌, length, take, drop, ap, ◌∙◌, arith}
 use Rattle.std.proofs.Math.Nat.{mul-div_cancel_left}
-use Rattle.xr_defs.specs.Canonical.{slab}
+use Rattle.xr_files.specs.Canonical.{slab}
 use Rattle.cdf_writer.proofs.values.record_values.Goals as goal
 
 pub returns : goal.returns

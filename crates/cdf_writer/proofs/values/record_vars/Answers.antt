@@ -2,7 +2,7 @@ use Rattle.std.proofs.Common.{◌≡◌, ◌<◌, ◌+◌, ◌++◌, ◌∷◌, 
 use Rattle.std.specs.List.{filter}
 use Rattle.std.proofs.lemmas.List.{append-nil, map-append, take_all}
 use Rattle.std.proofs.lemmas.List.Elements.{filter_more}
-use Rattle.xr_defs.specs.Canonical.{is_record}
+use Rattle.xr_files.specs.Canonical.{is_record}
 use Rattle.cdf_writer.proofs.values.record_vars.Goals as goal
 use Rattle.cdf_writer.proofs.values.record_vars.Goals.{then-is_record+in_ok-push, else-is_record}
 

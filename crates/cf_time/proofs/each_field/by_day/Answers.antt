@@ -1,6 +1,6 @@
 use Rattle.std.proofs.Common.{◌≡◌, get_or, pos, w64, to_z, of_z, FitsSigned, ◌∙◌, rules}
 use Rattle.std.proofs.lemmas.Int.{to_z-of_z}
-use Rattle.xr_defs.specs.Times.{field_of}
+use Rattle.xr_arrays.specs.Times.{field_of}
 use Rattle.cf_time.proofs.Mapped.{one_more}
 use Rattle.cf_time.proofs.each_field.by_day.Goals as goal
 

@@ -1,5 +1,5 @@
 use Rattle.std.proofs.Common.{◌≡◌, ◌++◌, pos, map, drop}
-use Rattle.xr_defs.specs.Times.{field_of}
+use Rattle.xr_arrays.specs.Times.{field_of}
 use Rattle.cf_time.specs.Fields.{day_field}
 use Rattle.cf_time.proofs.each_field.by_day.Given as goal
 

@@ -1,5 +1,5 @@
 use Rattle.std.proofs.Common.{◌≡◌, ◌++◌, pos, map, drop}
-use Rattle.xr_defs.specs.Times.{field_of}
+use Rattle.xr_arrays.specs.Times.{field_of}
 use Rattle.cf_time.proofs.each_field.by_label.Given as goal
 
 abbrev pub invariant-loop-label : goal.invariant-loop-label

@@ -1,5 +1,5 @@
 use Rattle.std.proofs.Common.{◌≡◌, Some, true, false, sym, ◌∙◌}
-use Rattle.xr_defs.specs.Times.{has_year, has_month, has_day, two_at, year_in, period}
+use Rattle.xr_arrays.specs.Times.{has_year, has_month, has_day, two_at, year_in, period}
 use Rattle.cf_time.proofs.Chosen.{some_if, some_is, none_if, none_first, none_second, chosen, civil}
 use Rattle.cf_time.proofs.read.of_day.Goals as goal
 

@@ -1,6 +1,6 @@
 use Rattle.std.proofs.Common.{arith, ◌≡◌, ◌+ℤ◌, pos}
 use Rattle.std.proofs.lemmas.Int.{ints}
-use Rattle.xr_defs.specs.Times.{day_number}
+use Rattle.xr_arrays.specs.Times.{day_number}
 use Rattle.cf_time.proofs.Linked.{at_date}
 use Rattle.cf_time.proofs.read.time_at.Goals as goal
 

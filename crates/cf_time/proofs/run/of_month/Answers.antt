@@ -1,6 +1,6 @@
 -- The days of a month have its year and its month.
 use Rattle.std.proofs.Common.{◌≡◌, ◌∙◌, ap, arith}
-use Rattle.xr_defs.specs.Times.{year_at, month_at, day_at, day_since, month_days}
+use Rattle.xr_arrays.specs.Times.{year_at, month_at, day_at, day_since, month_days}
 use Rattle.cf_time.proofs.Binned.{same_month}
 use Rattle.cf_time.proofs.run.of_month.Goals as goal
 

@@ -1,6 +1,6 @@
 -- The days of a year have its number.
 use Rattle.std.proofs.Common.{◌≡◌, ◌-◌, ◌+◌, ◌∙◌, ap, arith}
-use Rattle.xr_defs.specs.Times.{year_at, day_since, day_in_year, days_of_years, year_days}
+use Rattle.xr_arrays.specs.Times.{year_at, day_since, day_in_year, days_of_years, year_days}
 use Rattle.cf_time.proofs.Binned.{same_year}
 use Rattle.cf_time.proofs.run.of_year.Goals as goal
 

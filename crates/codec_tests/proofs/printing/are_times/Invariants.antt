@@ -1,5 +1,5 @@
 use Rattle.std.proofs.Common.{◌<◌, ℕ, ℤ, slice_index_or}
-use Rattle.xr_defs.specs.Times.{IsTime}
+use Rattle.xr_arrays.specs.Times.{IsTime}
 use Rattle.codec_tests.proofs.printing.are_times.Given as goal
 
 abbrev pub invariant-loop-i : goal.invariant-loop-i

@@ -1,6 +1,6 @@
 use Rattle.std.proofs.Common.{subst}
 use Rattle.xr_defs.specs.Calls as calls
-use Rattle.xr_defs.specs.Results.{Answers}
+use Rattle.xr_types.specs.Results.{Answers}
 use Rattle.dataset_core.proofs.write.version_of.Goals as goal
 
 pub returns-clause-told : goal.returns-clause-told

@@ -1,6 +1,6 @@
 use Rattle.std.proofs.Common.{rules}
 use Rattle.xr_defs.specs.Calls.{write_asked}
-use Rattle.xr_defs.specs.Results.{unless}
+use Rattle.xr_types.specs.Results.{unless}
 use Rattle.dataset_core.proofs.write.write_request.Goals as goal
 
 pub returns-in_err-values : goal.returns-in_err-values

@@ -1,6 +1,6 @@
 use Rattle.std.proofs.Common.{refl, ap, subst, ◌∙◌}
-use Rattle.xr_defs.specs.Points.{IsPoint}
-use Rattle.xr_defs.specs.declared.operation.OpKind.TheVariants.{Cast}
+use Rattle.xr_types.specs.Points.{IsPoint}
+use Rattle.xr_types.specs.declared.operation.OpKind.TheVariants.{Cast}
 use Rattle.strided_block.specs.Boxes.{plus}
 use Rattle.strided_block.specs.Views.{cell_at}
 use Rattle.strided_block.specs.Typed.{win_kind, number_held, unless_hidden}

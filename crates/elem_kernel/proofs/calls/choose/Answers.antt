@@ -1,6 +1,6 @@
 use Rattle.std.proofs.Common.{ap, subst, ◌∙◌}
 use Rattle.std.specs.Prelude.{option_map}
-use Rattle.xr_defs.specs.Points.{IsPoint}
+use Rattle.xr_types.specs.Points.{IsPoint}
 use Rattle.strided_block.specs.Boxes.{plus}
 use Rattle.strided_block.specs.Views.{cell_at}
 use Rattle.strided_block.specs.Typed.{truth, number_shown, number_held, unless_hidden}

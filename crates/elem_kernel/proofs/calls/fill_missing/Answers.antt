@@ -1,5 +1,5 @@
 use Rattle.std.proofs.Common.{ap, subst, ◌∙◌}
-use Rattle.xr_defs.specs.Points.{IsPoint}
+use Rattle.xr_types.specs.Points.{IsPoint}
 use Rattle.strided_block.specs.Boxes.{plus}
 use Rattle.strided_block.specs.Views.{cell_at}
 use Rattle.strided_block.specs.Typed.{number_held, unless_hidden}

@@ -2,7 +2,7 @@ use Rattle.std.proofs.Common.{◌≡◌, ◌∙◌}
 use Rattle.std.proofs.lemmas.Int.{to_z-of_z}
 use mir.Val.{SFits}
 use mir.Syntax.{w64, w128}
-use Rattle.xr_defs.specs.Elements.{floor_quotient}
+use Rattle.xr_arrays.specs.Elements.{floor_quotient}
 use Rattle.elem_kernel.proofs.division.floor_by_long.Goals as goal
 
 pub returns : goal.returns

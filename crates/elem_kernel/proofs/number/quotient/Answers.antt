@@ -4,7 +4,7 @@ use Rattle.std.specs.Prelude.{Some}
 use mir.Val.{SFits}
 use mir.Syntax.{w128}
 use Rattle.xr_types.specs.Kinds.{wrap_to}
-use Rattle.xr_defs.specs.Elements.{floor_quotient, unless_zero}
+use Rattle.xr_arrays.specs.Elements.{floor_quotient, unless_zero}
 use Rattle.elem_kernel.proofs.Bounds.{wrapped_one, quotient_left}
 use Rattle.elem_kernel.proofs.number.quotient.Goals as goal
 

@@ -1,5 +1,5 @@
 use Rattle.std.proofs.Common.{◌≡◌, ◌+◌, drop}
-use Rattle.xr_defs.specs.Folds.{present}
+use Rattle.xr_arrays.specs.Folds.{present}
 use Rattle.fold_kernel.specs.Partials.{found_with}
 use Rattle.fold_kernel.specs.Rows.{placed}
 use Rattle.fold_kernel.proofs.find.first_with.Given as goal

@@ -1,7 +1,7 @@
 use Rattle.std.proofs.Common.{SFits, rules, pos, ap, sym, ◌∙◌}
 use Rattle.std.specs.Int.{int_wrap, w64}
 use Rattle.std.proofs.lemmas.Int.{to_z-of_z}
-use Rattle.xr_defs.specs.Folds.{truth}
+use Rattle.xr_arrays.specs.Folds.{truth}
 use Rattle.fold_kernel.proofs.Runs.{product_is, count_is, any_is, all_is}
 use Rattle.fold_kernel.proofs.run.run_number.Goals as goal
 

@@ -2,8 +2,8 @@ use Rattle.std.proofs.Common.{SFits, ◌∙◌, ◌+◌, ◌++◌, take, arith, 
 use Rattle.std.specs.Int.{w64}
 use Rattle.std.proofs.lemmas.Int.{to_z-of_z}
 use Rattle.fold_kernel.specs.Rows.{shown}
-use Rattle.xr_defs.specs.declared.operation.FoldKind.TheVariants.{Sum}
-use Rattle.xr_defs.specs.Folds.{fold_of}
+use Rattle.xr_types.specs.declared.operation.FoldKind.TheVariants.{Sum}
+use Rattle.xr_arrays.specs.Folds.{fold_of}
 use Rattle.fold_kernel.proofs.Rows.{masked_run, length_shown}
 use Rattle.fold_kernel.proofs.Scans.{scan_stands, scan_sum, masked_part}
 use Rattle.fold_kernel.proofs.running.scan_masked.Goals as goal

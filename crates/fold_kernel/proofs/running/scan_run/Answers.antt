@@ -1,8 +1,8 @@
 use Rattle.std.proofs.Common.{SFits, ◌∙◌, ◌+◌, ◌++◌, map, Some, take, arith, ap}
 use Rattle.std.specs.Int.{w64}
 use Rattle.std.proofs.lemmas.Int.{to_z-of_z}
-use Rattle.xr_defs.specs.declared.operation.FoldKind.TheVariants.{Sum}
-use Rattle.xr_defs.specs.Folds.{fold_of}
+use Rattle.xr_types.specs.declared.operation.FoldKind.TheVariants.{Sum}
+use Rattle.xr_arrays.specs.Folds.{fold_of}
 use Rattle.fold_kernel.proofs.Rows.{whole_run}
 use Rattle.fold_kernel.proofs.Scans.{scan_stands, scan_sum, whole_part}
 use Rattle.fold_kernel.proofs.running.scan_run.Goals as goal

@@ -1,4 +1,4 @@
-use Rattle.xr_defs.specs.Labels.{labels_of}
+use Rattle.xr_arrays.specs.Labels.{labels_of}
 use Rattle.label_index.proofs.Cutting.{end_rising, end_falling}
 use Rattle.label_index.proofs.between.end.Goals as goal
 

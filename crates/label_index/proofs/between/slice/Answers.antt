@@ -1,6 +1,6 @@
 use Rattle.std.proofs.Common.{◌≡◌, ◌&&◌, ◌||◌, is_some, Ok, false, sym, ap, ◌∙◌}
 use Rattle.std.specs.Option.{option_copied}
-use Rattle.xr_defs.specs.Labels.{labels_of, is_neither}
+use Rattle.xr_arrays.specs.Labels.{labels_of, is_neither}
 use Rattle.label_index.specs.Ranks.{direction}
 use Rattle.label_index.proofs.Cutting.{ordered_ok, between_cuts, some_copied}
 use Rattle.label_index.proofs.between.slice.Goals as goal

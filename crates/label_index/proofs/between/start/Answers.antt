@@ -1,4 +1,4 @@
-use Rattle.xr_defs.specs.Labels.{labels_of}
+use Rattle.xr_arrays.specs.Labels.{labels_of}
 use Rattle.label_index.proofs.Cutting.{start_rising, start_falling}
 use Rattle.label_index.proofs.between.start.Goals as goal
 

@@ -1,6 +1,6 @@
 use Rattle.std.proofs.Common.{◌≡◌, sym, ◌∙◌, ap, arith, length, ◌-◌}
 use Rattle.std.specs.List.{range_with_len}
-use Rattle.xr_defs.specs.Labels.{labels_of}
+use Rattle.xr_arrays.specs.Labels.{labels_of}
 use Rattle.label_index.proofs.Cutting.{whole_ok, whole_err}
 use Rattle.label_index.proofs.between.whole.Goals as goal
 

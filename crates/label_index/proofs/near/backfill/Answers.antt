@@ -1,5 +1,5 @@
 use Rattle.std.proofs.Common.{arith, ◌<◌, length, sym}
-use Rattle.xr_defs.specs.Labels.{labels_of}
+use Rattle.xr_arrays.specs.Labels.{labels_of}
 use Rattle.label_index.proofs.Nearing.{backfill_none, backfill_one}
 use Rattle.label_index.proofs.near.backfill.Goals as goal
 

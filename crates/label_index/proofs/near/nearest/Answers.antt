@@ -1,5 +1,5 @@
 use Rattle.std.proofs.Common.{arith, ◌≡◌, ◌<◌, ◌≤◌, ◌-◌, ◌+◌, sym, subst, ap, ◌∙◌}
-use Rattle.xr_defs.specs.Labels.{labels_of, label_at, distance}
+use Rattle.xr_arrays.specs.Labels.{labels_of, label_at, distance}
 use Rattle.label_index.specs.Ranks.{position, ranked}
 use Rattle.label_index.proofs.Nearing.{nearest_low, nearest_high, alike_ranked}
 use Rattle.label_index.proofs.near.nearest.Goals as goal

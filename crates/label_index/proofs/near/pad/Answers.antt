@@ -1,5 +1,5 @@
 use Rattle.std.proofs.Common.{arith, ◌<◌, ◌-◌, sym, ℕ}
-use Rattle.xr_defs.specs.Labels.{labels_of}
+use Rattle.xr_arrays.specs.Labels.{labels_of}
 use Rattle.label_index.proofs.Nearing.{pad_none, pad_one}
 use Rattle.label_index.proofs.near.pad.Goals as goal
 

@@ -1,5 +1,5 @@
 use Rattle.std.proofs.Common.{sym, ◌∙◌}
-use Rattle.xr_defs.specs.Labels.{labels_of}
+use Rattle.xr_arrays.specs.Labels.{labels_of}
 use Rattle.label_index.proofs.Ranking.{rising_ranked, falling_ranked}
 use Rattle.label_index.proofs.scan.in_order.Goals as goal
 

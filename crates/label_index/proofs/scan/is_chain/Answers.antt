@@ -1,7 +1,7 @@
 -- The loop keeps each pair so far; a pair that fails shows the whole to fail.
 use Rattle.std.proofs.Common.{arith, ◌≡◌, ◌-◌, suc, sym, subst, true, false}
-use Rattle.xr_defs.specs.Labels.{labels_of, label_at}
-use Rattle.xr_defs.proofs.LabelPlaces.{each_next_holds, each_next_fails}
+use Rattle.xr_arrays.specs.Labels.{labels_of, label_at}
+use Rattle.xr_arrays.proofs.LabelPlaces.{each_next_holds, each_next_fails}
 use Rattle.label_index.specs.Ranks.{next_way}
 use Rattle.label_index.proofs.Searches.{pairs_more}
 use Rattle.label_index.proofs.scan.is_chain.Goals as goal

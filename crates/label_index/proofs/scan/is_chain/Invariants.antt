@@ -1,5 +1,5 @@
 use Rattle.std.proofs.Common.{◌≡◌, ℕ, ◌<◌, ◌+◌, true}
-use Rattle.xr_defs.specs.Labels.{labels_of, label_at}
+use Rattle.xr_arrays.specs.Labels.{labels_of, label_at}
 use Rattle.label_index.specs.Ranks.{next_way}
 use Rattle.label_index.proofs.scan.is_chain.Given as goal
 

@@ -4,7 +4,7 @@ use Rattle.std.specs.List.{range_with_len}
 use Rattle.std.specs.List.Sorted.{IsPermutation, IsSortedBy}
 use Rattle.std.specs.Ordering.{is_lt, int_cmp, nat_cmp}
 use Rattle.std.specs.Cmp.Lexicographic.{slice_cmp}
-use Rattle.xr_defs.specs.Labels.{labels_of}
+use Rattle.xr_arrays.specs.Labels.{labels_of}
 use Rattle.label_index.specs.declared.rank.Ranks.TheVariants.{Sorted}
 use Rattle.label_index.specs.Ranks.{IsRanked}
 use Rattle.label_index.proofs.Ranking.{sorted_ranked}

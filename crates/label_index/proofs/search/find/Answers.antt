@@ -1,6 +1,6 @@
 -- No hit, two, or one, by the labels at two ranks.
 use Rattle.std.proofs.Common.{rules, ◌≡◌, ◌<◌, ◌+◌, ◌&&◌, nat_lt, length, sym, ◌∙◌, true, false}
-use Rattle.xr_defs.specs.Labels.{labels_of, same}
+use Rattle.xr_arrays.specs.Labels.{labels_of, same}
 use Rattle.label_index.specs.Ranks.{ranked}
 use Rattle.label_index.proofs.Finding.{place_none, place_two, place_one, both_left, both_right, below_from}
 use Rattle.label_index.proofs.search.find.Goals as goal

@@ -1,5 +1,5 @@
 use Rattle.std.proofs.Common.{arith, ◌≡◌, ◌<◌, ◌+◌, ◌-◌, ◌/◌, length, true, false, ℕ}
-use Rattle.xr_defs.specs.Labels.{labels_of}
+use Rattle.xr_arrays.specs.Labels.{labels_of}
 use Rattle.label_index.specs.Ranks.{ranked, stands_before}
 use Rattle.label_index.proofs.Searches.{below_step, above_step}
 use Rattle.label_index.proofs.search.first_rank.Goals as goal

@@ -1,5 +1,5 @@
 use Rattle.std.proofs.Common.{◌≡◌, ℕ, ◌<◌, ◌≤◌, ◌-◌, length, true, false}
-use Rattle.xr_defs.specs.Labels.{labels_of}
+use Rattle.xr_arrays.specs.Labels.{labels_of}
 use Rattle.label_index.specs.Ranks.{ranked, stands_before}
 use Rattle.label_index.proofs.search.first_rank.Given as goal
 

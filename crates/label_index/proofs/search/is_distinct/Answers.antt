@@ -1,6 +1,6 @@
 -- Neighbours by rank that differ, and two that don't.
 use Rattle.std.proofs.Common.{arith, ◌≡◌, ◌-◌, not, sym, ap, false}
-use Rattle.xr_defs.specs.Labels.{labels_of, same}
+use Rattle.xr_arrays.specs.Labels.{labels_of, same}
 use Rattle.label_index.specs.Ranks.{ranked}
 use Rattle.label_index.proofs.Searches.{pairs_less}
 use Rattle.label_index.proofs.Finding.{repeats_ranked, distinct_ranked}

@@ -1,5 +1,5 @@
 use Rattle.std.proofs.Common.{◌≡◌, ℕ, ◌<◌, ◌+◌, false}
-use Rattle.xr_defs.specs.Labels.{labels_of, same}
+use Rattle.xr_arrays.specs.Labels.{labels_of, same}
 use Rattle.label_index.specs.Ranks.{ranked}
 use Rattle.label_index.proofs.search.is_distinct.Given as goal
 

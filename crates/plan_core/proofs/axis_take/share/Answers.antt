@@ -1,6 +1,6 @@
 use Rattle.std.proofs.Common.{◌≡◌, ◌∙◌, ◌+◌, ◌*◌, ap, arith, drop, take, length, cond, slice_set, List, ℕ}
-use Rattle.xr_defs.specs.Points.{size}
-use Rattle.xr_defs.specs.Nodes.{without}
+use Rattle.xr_types.specs.Points.{size}
+use Rattle.xr_arrays.specs.Nodes.{without}
 use Rattle.plan_core.specs.Takes.{taking_sizes}
 use Rattle.plan_core.proofs.Blocks.{IsBlock, array, block_of, block_is}
 use Rattle.plan_core.proofs.Takes.{chosen_sizes}

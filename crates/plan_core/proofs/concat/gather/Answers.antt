@@ -1,5 +1,5 @@
 use Rattle.std.proofs.Common.{◌≡◌, ◌∙◌, sym, subst, length}
-use Rattle.xr_defs.specs.Points.{size}
+use Rattle.xr_types.specs.Points.{size}
 use Rattle.plan_core.proofs.Concats.{gather_more, all_more, all_done}
 use Rattle.plan_core.proofs.concat.gather.Goals as goal
 

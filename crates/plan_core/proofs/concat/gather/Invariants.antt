@@ -1,8 +1,8 @@
 use Rattle.std.proofs.Common.{◌≡◌, ◌++◌, drop, take, map, length, flat_map, All, IfSome}
 use Rattle.xr_types.specs.Kinds.{InRange}
 use Rattle.xr_types.specs.declared.kind.DType.TheVariants.{Bool}
-use Rattle.xr_defs.specs.Points.{size}
-use Rattle.xr_defs.specs.Arrays.{hidden}
+use Rattle.xr_types.specs.Points.{size}
+use Rattle.xr_arrays.specs.Arrays.{hidden}
 use Rattle.plan_core.proofs.concat.gather.Given as goal
 
 abbrev pub invariant-loop-a : goal.invariant-loop-a

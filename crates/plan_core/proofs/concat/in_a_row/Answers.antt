@@ -1,5 +1,5 @@
 use Rattle.std.proofs.Common.{◌∙◌}
-use Rattle.xr_defs.specs.Arrays.{hidden, wide, kind_of}
+use Rattle.xr_arrays.specs.Arrays.{hidden, wide, kind_of}
 use Rattle.plan_core.proofs.Concats.{row_made, hidden-length}
 use Rattle.plan_core.proofs.concat.in_a_row.Goals as goal
 

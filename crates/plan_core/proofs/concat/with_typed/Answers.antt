@@ -1,5 +1,5 @@
 use Rattle.std.proofs.Common.{◌≡◌, ◌∙◌, ◌++◌, ap, sym, subst, option_map, length, length-append, List, rules, refl, IfSome, ◌+◌}
-use Rattle.xr_defs.specs.Arrays.{hidden}
+use Rattle.xr_arrays.specs.Arrays.{hidden}
 use Rattle.std.specs.List.{All}
 use Rattle.std.proofs.lemmas.List.Elements.{All-append}
 use Rattle.xr_types.specs.Kinds.{InRange}

@@ -1,5 +1,5 @@
 use Rattle.std.proofs.Common.{sym, subst, length, List, ℕ}
-use Rattle.xr_defs.specs.Nodes.{IsOrder}
+use Rattle.xr_arrays.specs.Nodes.{IsOrder}
 use Rattle.plan_core.proofs.Moves.{moving_inside}
 use Rattle.plan_core.proofs.eval.reorder.Goals as goal
 

@@ -1,5 +1,5 @@
 use Rattle.std.proofs.Common.{◌∙◌, ap, sym, map, List, ℕ}
-use Rattle.xr_defs.specs.declared.node.Node.TheVariants.{Concat}
+use Rattle.xr_arrays.specs.declared.node.Node.TheVariants.{Concat}
 use Rattle.plan_core.proofs.Needs.{concat_ready}
 use Rattle.plan_core.proofs.eval.value_of.Goals as goal
 

@@ -1,7 +1,7 @@
 use Rattle.std.proofs.Common.{◌≡◌, ◌∙◌, ◌^◌, ◌-◌, ap, sym, min, List, [], ℕ, length}
-use Rattle.xr_defs.specs.Points.{size}
-use Rattle.xr_defs.specs.Folds.{folded_kind}
-use Rattle.xr_defs.specs.Nodes.{kept, folded}
+use Rattle.xr_types.specs.Points.{size}
+use Rattle.xr_arrays.specs.Folds.{folded_kind}
+use Rattle.xr_arrays.specs.Nodes.{kept, folded}
 use Rattle.plan_core.proofs.Takes.{if_ok}
 use Rattle.plan_core.proofs.Folded.{sum_is, none_folded, no_rows, fold_made, folded-length}
 use Rattle.plan_core.proofs.fold.fold.Goals as goal

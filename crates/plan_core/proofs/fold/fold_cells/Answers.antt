@@ -1,7 +1,7 @@
 use Rattle.std.proofs.Common.{◌∙◌, ap, sym, subst}
 use Rattle.std.specs.List.{All}
-use Rattle.xr_defs.specs.Arrays.{IsCell}
-use Rattle.xr_defs.specs.Folds.{folded_kind}
+use Rattle.xr_arrays.specs.Arrays.{IsCell}
+use Rattle.xr_arrays.specs.Folds.{folded_kind}
 use Rattle.plan_core.specs.Strides.{spread}
 use Rattle.plan_core.proofs.Takes.{if_ok}
 use Rattle.plan_core.proofs.Folded.{fold_here}

@@ -1,5 +1,5 @@
 use Rattle.std.proofs.Common.{◌∙◌, ◌++◌, [], ◌∷◌, ap, length, length-drop}
-use Rattle.xr_defs.specs.Folds.{fold_of, numbered}
+use Rattle.xr_arrays.specs.Folds.{fold_of, numbered}
 use Rattle.plan_core.proofs.Takes.{block_left, blocks_more, blocks_end}
 use Rattle.plan_core.proofs.fold.fold_rows.Goals as goal
 

@@ -1,6 +1,6 @@
 use Rattle.std.proofs.Common.{◌∙◌, ap, sym, subst, length}
 use Rattle.std.specs.List.{All}
-use Rattle.xr_defs.specs.Arrays.{Array, IsCell}
+use Rattle.xr_arrays.specs.Arrays.{Array, IsCell}
 use Rattle.plan_core.proofs.Takes.{if_ok}
 use Rattle.plan_core.proofs.Boxes.{sorting_inside}
 use Rattle.plan_core.proofs.Folded.{sorted_is}

@@ -1,6 +1,6 @@
 use Rattle.std.proofs.Common.{◌≡◌, drop}
 use Rattle.std.specs.List.{list_any}
-use Rattle.xr_defs.specs.Folds.{is_nonzero}
+use Rattle.xr_arrays.specs.Folds.{is_nonzero}
 use Rattle.plan_core.specs.Rows.{those}
 use Rattle.plan_core.proofs.fold_row.any.Given as goal
 

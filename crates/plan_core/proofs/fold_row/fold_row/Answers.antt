@@ -3,7 +3,7 @@ use Rattle.std.proofs.lemmas.Int.{to_z-of_z, ints}
 use Rattle.std.proofs.lemmas.List.{length-map}
 use Rattle.std.specs.Int.{int_wrap, w64, w128}
 use Rattle.std.specs.List.{last_or, list_any, list_all}
-use Rattle.xr_defs.specs.Folds.{sum_of, product_of, least, greatest, first_place, is_nonzero, present, numbered, fold_of, truth}
+use Rattle.xr_arrays.specs.Folds.{sum_of, product_of, least, greatest, first_place, is_nonzero, present, numbered, fold_of, truth}
 use Rattle.plan_core.proofs.FoldRows.{those_are}
 use Rattle.plan_core.proofs.fold_row.fold_row.Goals as goal
 

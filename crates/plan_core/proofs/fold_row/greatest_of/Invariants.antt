@@ -1,6 +1,6 @@
 use Rattle.std.proofs.Common.{◌≡◌, drop}
 use Rattle.std.specs.Int.{int_max}
-use Rattle.xr_defs.specs.Folds.{of_both, greatest}
+use Rattle.xr_arrays.specs.Folds.{of_both, greatest}
 use Rattle.plan_core.specs.Rows.{those}
 use Rattle.plan_core.proofs.fold_row.greatest_of.Given as goal
 

@@ -1,6 +1,6 @@
 use Rattle.std.proofs.Common.{◌≡◌, drop}
 use Rattle.std.specs.Int.{int_min}
-use Rattle.xr_defs.specs.Folds.{of_both, least}
+use Rattle.xr_arrays.specs.Folds.{of_both, least}
 use Rattle.plan_core.specs.Rows.{those}
 use Rattle.plan_core.proofs.fold_row.least_of.Given as goal
 

@@ -1,5 +1,5 @@
 use Rattle.std.proofs.Common.{◌≡◌, drop}
-use Rattle.xr_defs.specs.Folds.{first_place, present, numbered}
+use Rattle.xr_arrays.specs.Folds.{first_place, present, numbered}
 use Rattle.plan_core.proofs.fold_row.place.Given as goal
 
 abbrev pub invariant-loop-i : goal.invariant-loop-i

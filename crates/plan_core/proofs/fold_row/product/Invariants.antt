@@ -1,6 +1,6 @@
 use Rattle.std.proofs.Common.{◌≡◌, ◌*ℤ◌, drop}
 use Rattle.std.specs.Int.{int_wrap, w64}
-use Rattle.xr_defs.specs.Folds.{product_of}
+use Rattle.xr_arrays.specs.Folds.{product_of}
 use Rattle.plan_core.specs.Rows.{those}
 use Rattle.plan_core.proofs.fold_row.product.Given as goal
 

@@ -1,7 +1,7 @@
 use Rattle.std.proofs.Common.{◌≡◌, ◌∙◌, ◌∷◌, ap, sym, arith, ◌*ℤ◌, to_z, of_z}
 use Rattle.std.proofs.lemmas.Int.{to_z-of_z, ints}
 use Rattle.std.specs.Int.{int_wrap, w64, w128}
-use Rattle.xr_defs.specs.Folds.{product_of}
+use Rattle.xr_arrays.specs.Folds.{product_of}
 use Rattle.plan_core.specs.Rows.{those}
 use Rattle.plan_core.proofs.FoldRows.{product_step}
 use Rattle.plan_core.proofs.fold_row.product_with.Goals as goal

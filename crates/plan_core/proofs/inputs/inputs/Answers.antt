@@ -1,6 +1,6 @@
 use Rattle.std.proofs.Common.{◌++◌, ◌∙◌, [], ◌∷◌, ap, get_or, map, refl}
 use Rattle.std.proofs.lemmas.List.{map-append}
-use Rattle.xr_defs.specs.Nodes.{value}
+use Rattle.xr_arrays.specs.Nodes.{value}
 use Rattle.plan_core.proofs.Steps.{first_at, step_more}
 use Rattle.plan_core.proofs.inputs.inputs.Goals as goal
 

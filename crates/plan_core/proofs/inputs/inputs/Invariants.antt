@@ -1,5 +1,5 @@
 use Rattle.std.proofs.Common.{◌≡◌, ◌++◌, map, drop}
-use Rattle.xr_defs.specs.Nodes.{value}
+use Rattle.xr_arrays.specs.Nodes.{value}
 use Rattle.plan_core.proofs.inputs.inputs.Given as goal
 
 abbrev pub invariant-loop-id : goal.invariant-loop-id

@@ -1,5 +1,5 @@
 use Rattle.std.proofs.Common.{◌∙◌}
-use Rattle.xr_defs.specs.Arrays.{kind_of, wide}
+use Rattle.xr_arrays.specs.Arrays.{kind_of, wide}
 use Rattle.plan_core.proofs.Narrowing.{made_back}
 use Rattle.plan_core.proofs.numbers.array_of.Goals as goal
 

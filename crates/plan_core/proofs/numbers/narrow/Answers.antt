@@ -2,7 +2,7 @@ use Rattle.std.proofs.Common.{◌≡◌, ◌∙◌, pos, ap, sym, subst, arith, 
 use Rattle.std.proofs.lemmas.Int.{to_z-of_z, ints}
 use Rattle.std.specs.Int.{w128}
 use Rattle.xr_types.specs.Kinds.{InRange}
-use Rattle.xr_defs.specs.Arrays.{IsCell}
+use Rattle.xr_arrays.specs.Arrays.{IsCell}
 use Rattle.plan_core.specs.Arrangements.{filling}
 use Rattle.plan_core.proofs.Arrangements.{wrapped_in, zero_in}
 use Rattle.plan_core.proofs.numbers.narrow.Goals as goal

@@ -1,6 +1,6 @@
 use Rattle.std.proofs.Common.{subst}
 use Rattle.std.specs.List.{All}
-use Rattle.xr_defs.specs.Arrays.{IsCell}
+use Rattle.xr_arrays.specs.Arrays.{IsCell}
 use Rattle.plan_core.proofs.Narrowing.{small_truths}
 use Rattle.plan_core.proofs.numbers.typed.Goals as goal
 

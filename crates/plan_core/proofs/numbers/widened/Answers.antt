@@ -1,5 +1,5 @@
 use Rattle.std.proofs.Common.{◌++◌, ◌∙◌, [], ◌∷◌, Some, ap, map, refl}
-use Rattle.xr_defs.specs.Arrays.{IsCell}
+use Rattle.xr_arrays.specs.Arrays.{IsCell}
 use Rattle.plan_core.proofs.Steps.{first_is, step_more, all_pushed}
 use Rattle.plan_core.proofs.numbers.widened.Goals as goal
 

@@ -1,5 +1,5 @@
 use Rattle.std.proofs.Common.{◌≡◌, ◌++◌, map, drop, Some, All}
-use Rattle.xr_defs.specs.Arrays.{IsCell}
+use Rattle.xr_arrays.specs.Arrays.{IsCell}
 use Rattle.plan_core.proofs.numbers.widened.Given as goal
 
 abbrev pub invariant-loop-i : goal.invariant-loop-i

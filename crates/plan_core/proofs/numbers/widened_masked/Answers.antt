@@ -1,5 +1,5 @@
 use Rattle.std.proofs.Common.{◌<◌, ◌++◌, ◌∙◌, [], ◌∷◌, ap, arith, map, zip, length, get_or}
-use Rattle.xr_defs.specs.Arrays.{cell, IsCell}
+use Rattle.xr_arrays.specs.Arrays.{cell, IsCell}
 use Rattle.plan_core.proofs.Steps.{first_at, first_is, zipped_more, all_pushed}
 use Rattle.plan_core.proofs.numbers.widened_masked.Goals as goal
 

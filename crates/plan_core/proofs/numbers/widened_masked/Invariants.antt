@@ -1,5 +1,5 @@
 use Rattle.std.proofs.Common.{◌≡◌, ◌++◌, map, zip, drop, All}
-use Rattle.xr_defs.specs.Arrays.{IsCell, cell}
+use Rattle.xr_arrays.specs.Arrays.{IsCell, cell}
 use Rattle.plan_core.proofs.numbers.widened_masked.Given as goal
 
 abbrev pub invariant-loop-i : goal.invariant-loop-i

@@ -1,5 +1,5 @@
 use Rattle.std.proofs.Common.{◌≡◌, ◌+◌, ◌∙◌, ap, arith, ◌++◌, drop, min, ◌^◌, ◌-◌}
-use Rattle.xr_defs.specs.Points.{size}
+use Rattle.xr_types.specs.Points.{size}
 use Rattle.plan_core.specs.Strides.{own_strides}
 use Rattle.plan_core.proofs.Boxes.{own_more, behind_small}
 use Rattle.plan_core.proofs.stride.own_strides.Goals as goal

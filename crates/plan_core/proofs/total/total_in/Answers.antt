@@ -1,8 +1,8 @@
 use Rattle.std.proofs.Common.{◌∙◌, ap, sym, map, arith, option_map}
 use Rattle.std.proofs.lemmas.Int.{to_z-of_z, ints}
 use Rattle.std.specs.Int.{int_wrap, w64}
-use Rattle.xr_defs.specs.Arrays.{hidden}
-use Rattle.xr_defs.specs.Folds.{sum_of}
+use Rattle.xr_arrays.specs.Arrays.{hidden}
+use Rattle.xr_arrays.specs.Folds.{sum_of}
 use Rattle.plan_core.specs.Rows.{those}
 use Rattle.plan_core.proofs.FoldRows.{those_bare}
 use Rattle.plan_core.proofs.total.total_in.Goals as goal

@@ -1,8 +1,8 @@
 use Rattle.std.proofs.Common.{◌<◌, ◌+◌, ◌+ℤ◌, ◌∙◌, ap, arith, map, zip, drop, length, get_or}
 use Rattle.std.proofs.lemmas.Int.{to_z-of_z, ints}
 use Rattle.std.specs.Int.{int_wrap, w64}
-use Rattle.xr_defs.specs.Arrays.{cell}
-use Rattle.xr_defs.specs.Folds.{sum_of}
+use Rattle.xr_arrays.specs.Arrays.{cell}
+use Rattle.xr_arrays.specs.Folds.{sum_of}
 use Rattle.plan_core.specs.Rows.{those}
 use Rattle.plan_core.proofs.Steps.{first_at, first_is}
 use Rattle.plan_core.proofs.FoldRows.{masked_more}

@@ -1,7 +1,7 @@
 use Rattle.std.proofs.Common.{◌≡◌, ◌+ℤ◌, drop, map, zip}
 use Rattle.std.specs.Int.{int_wrap, w64}
-use Rattle.xr_defs.specs.Arrays.{cell}
-use Rattle.xr_defs.specs.Folds.{sum_of}
+use Rattle.xr_arrays.specs.Arrays.{cell}
+use Rattle.xr_arrays.specs.Folds.{sum_of}
 use Rattle.plan_core.specs.Rows.{those}
 use Rattle.plan_core.proofs.total.total_masked.Given as goal
 

@@ -1,7 +1,7 @@
 use Rattle.std.proofs.Common.{◌+◌, ◌+ℤ◌, ◌∙◌, ap, arith, map, drop}
 use Rattle.std.proofs.lemmas.Int.{to_z-of_z, ints}
 use Rattle.std.specs.Int.{int_wrap, w64}
-use Rattle.xr_defs.specs.Folds.{sum_of}
+use Rattle.xr_arrays.specs.Folds.{sum_of}
 use Rattle.plan_core.proofs.Steps.{first_is}
 use Rattle.plan_core.proofs.FoldRows.{sum_more}
 use Rattle.plan_core.proofs.total.total_of.Goals as goal

@@ -1,6 +1,6 @@
 use Rattle.std.proofs.Common.{◌≡◌, ◌+ℤ◌, drop, map}
 use Rattle.std.specs.Int.{int_wrap, w64}
-use Rattle.xr_defs.specs.Folds.{sum_of}
+use Rattle.xr_arrays.specs.Folds.{sum_of}
 use Rattle.plan_core.proofs.total.total_of.Given as goal
 
 abbrev pub invariant-loop-cell : goal.invariant-loop-cell

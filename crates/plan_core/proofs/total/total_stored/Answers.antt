@@ -1,9 +1,9 @@
 use Rattle.std.proofs.Common.{◌∙◌, ap, sym, arith, List, ℕ, ℤ}
 use Rattle.std.proofs.lemmas.Int.{to_z-of_z, ints}
 use Rattle.std.specs.Int.{int_wrap, w64}
-use Rattle.xr_defs.specs.Arrays.{Array}
-use Rattle.xr_defs.specs.Folds.{sum_of}
-use Rattle.xr_defs.specs.Numbers.{numbers_of}
+use Rattle.xr_arrays.specs.Arrays.{Array}
+use Rattle.xr_arrays.specs.Folds.{sum_of}
+use Rattle.xr_arrays.specs.Numbers.{numbers_of}
 use Rattle.stored_cells.specs.Counted.{present}
 use Rattle.stored_cells.proofs.Lengths.{whole_stored}
 use Rattle.plan_core.specs.Rows.{those}

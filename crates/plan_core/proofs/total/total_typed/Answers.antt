@@ -1,7 +1,7 @@
 use Rattle.std.proofs.Common.{◌∙◌, ap, sym, refl, arith, option_map}
 use Rattle.std.proofs.lemmas.Int.{to_z-of_z, ints}
 use Rattle.std.specs.Int.{int_wrap, w64}
-use Rattle.xr_defs.specs.Folds.{sum_of}
+use Rattle.xr_arrays.specs.Folds.{sum_of}
 use Rattle.plan_core.specs.Rows.{those}
 use Rattle.plan_core.proofs.Arrangements.{parts_of}
 use Rattle.plan_core.proofs.Concats.{parts_length}

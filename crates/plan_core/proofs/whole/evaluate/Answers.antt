@@ -1,7 +1,7 @@
 use Rattle.std.proofs.Common.{◌≡◌, sym, subst, arith, List, Option}
-use Rattle.xr_defs.specs.Arrays.{Array}
-use Rattle.xr_defs.specs.Nodes.{nothing}
-use Rattle.xr_defs.specs.declared.node.Node.TheVariants.{Source}
+use Rattle.xr_arrays.specs.Arrays.{Array}
+use Rattle.xr_arrays.specs.Nodes.{nothing}
+use Rattle.xr_arrays.specs.declared.node.Node.TheVariants.{Source}
 use Rattle.plan_core.specs.Needs.{AreHeld}
 use Rattle.plan_core.proofs.Needs.{held_inputs}
 use Rattle.plan_core.proofs.whole.evaluate.Goals as goal

@@ -1,5 +1,5 @@
 use Rattle.std.proofs.Common.{◌<◌, ◌≤◌, ◌^◌, [], ◌∷◌, arith}
-use Rattle.xr_defs.specs.declared.node.Node.TheVariants.{Widen}
+use Rattle.xr_arrays.specs.declared.node.Node.TheVariants.{Widen}
 use Rattle.plan_core.proofs.Fitting.{widen_fits}
 use Rattle.plan_tests.proofs.Sources.{FitsSources, on_sources, two_sources}
 use Rattle.plan_tests.proofs.plans.an_axis_is_added.Goals as goal

@@ -1,10 +1,10 @@
 use Rattle.std.proofs.Common.{◌≡◌, ◌<◌, ◌≤◌, ◌^◌, ◌∙◌, ℕ, List, [], ◌∷◌, length, get_or, refl, sym, ap, subst, arith}
 use Rattle.std.specs.Prelude.{slice_set, sum}
 use Rattle.std.proofs.lemmas.List.Elements.{All-cons}
-use Rattle.xr_defs.specs.Arrays.{Array}
-use Rattle.xr_defs.specs.Points.{size}
-use Rattle.xr_defs.specs.Nodes.{IsNode, Continues, input_of, most_node_cells}
-use Rattle.xr_defs.specs.declared.node.Node.TheVariants.{Concat}
+use Rattle.xr_arrays.specs.Arrays.{Array}
+use Rattle.xr_types.specs.Points.{size}
+use Rattle.xr_arrays.specs.Nodes.{IsNode, Continues, input_of, most_node_cells}
+use Rattle.xr_arrays.specs.declared.node.Node.TheVariants.{Concat}
 use Rattle.plan_core.proofs.Fitting.{concat_fits}
 use Rattle.plan_tests.proofs.Sources.{FitsSources, on_sources, two_sources}
 use Rattle.plan_tests.proofs.plans.arrays_stand_one_after_the_other.Goals as goal

@@ -1,8 +1,8 @@
 use Rattle.std.proofs.Common.{◌≡◌, ◌<◌, ◌≤◌, ◌^◌, ℕ, zero, suc, true, List, [], ◌∷◌, refl, sym, subst, arith}
 use Rattle.std.specs.Prelude.{◌==◌}
 use Rattle.std.specs.List.{list_any}
-use Rattle.xr_defs.specs.Nodes.{IsNode}
-use Rattle.xr_defs.specs.declared.node.Node.TheVariants.{Reorder}
+use Rattle.xr_arrays.specs.Nodes.{IsNode}
+use Rattle.xr_arrays.specs.declared.node.Node.TheVariants.{Reorder}
 use Rattle.plan_core.proofs.Fitting.{reorder_fits}
 use Rattle.plan_tests.proofs.Sources.{FitsSources, on_sources, two_sources}
 use Rattle.plan_tests.proofs.plans.axes_are_reordered.Goals as goal

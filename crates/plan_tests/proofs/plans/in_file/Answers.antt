@@ -1,10 +1,10 @@
 use Rattle.std.proofs.Common.{◌≡◌, ◌*◌, length, true, refl, sym, subst, rules, List, Option, ℤ}
 use Rattle.std.specs.List.{All}
-use Rattle.xr_defs.specs.Arrays.{Array, IsCell}
-use Rattle.xr_defs.specs.Classic.{width}
-use Rattle.xr_defs.specs.Points.{size}
-use Rattle.xr_defs.specs.Numbers.{is_whole}
-use Rattle.xr_defs.specs.Stored.{stored_array}
+use Rattle.xr_arrays.specs.Arrays.{Array, IsCell}
+use Rattle.xr_types.specs.Widths.{width}
+use Rattle.xr_types.specs.Points.{size}
+use Rattle.xr_arrays.specs.Numbers.{is_whole}
+use Rattle.xr_arrays.specs.Stored.{stored_array}
 use Rattle.stored_cells.proofs.Lengths.{whole_stored}
 use Rattle.plan_tests.proofs.plans.in_file.Goals as goal
 

@@ -1,6 +1,6 @@
 use Rattle.std.proofs.Common.{◌≡◌, ◌∙◌, ap, sym, length, map, zip, replicate, option_map, rules, List, ℕ}
 use Rattle.std.proofs.lemmas.List.{length-map}
-use Rattle.xr_defs.specs.Arrays.{cell, hidden}
+use Rattle.xr_arrays.specs.Arrays.{cell, hidden}
 use Rattle.plan_core.proofs.Arrangements.{no_gaps}
 use Rattle.plan_core.proofs.Takes.{if_ok}
 use Rattle.plan_tests.proofs.plans.numbers_in.Goals as goal

@@ -1,8 +1,8 @@
 use Rattle.std.proofs.Common.{◌≡◌, ◌<◌, ◌≤◌, ◌^◌, ℕ, true, List, [], ◌∷◌, Option, Some, None, refl, sym, subst, arith}
 use Rattle.std.specs.List.{All}
 use Rattle.std.proofs.lemmas.List.Elements.{All-cons}
-use Rattle.xr_defs.specs.Nodes.{IsNode, IsBelow}
-use Rattle.xr_defs.specs.declared.node.Node.TheVariants.{Take}
+use Rattle.xr_arrays.specs.Nodes.{IsNode, IsBelow}
+use Rattle.xr_arrays.specs.declared.node.Node.TheVariants.{Take}
 use Rattle.plan_core.proofs.Fitting.{take_fits}
 use Rattle.plan_tests.proofs.Sources.{FitsSources, on_sources, two_sources}
 use Rattle.plan_tests.proofs.plans.one_position_drops_its_axis.Goals as goal

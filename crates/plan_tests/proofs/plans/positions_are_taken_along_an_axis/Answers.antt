@@ -4,9 +4,9 @@ use Rattle.std.specs.List.{All}
 use Rattle.std.proofs.lemmas.List.Elements.{All-cons}
 use Rattle.xr_types.specs.declared.kind.DType.{DType}
 use Rattle.xr_types.specs.declared.kind.DType.TheVariants.{Int16}
-use Rattle.xr_defs.specs.Arrays.{IsCell}
-use Rattle.xr_defs.specs.Nodes.{IsNode, IsBelow}
-use Rattle.xr_defs.specs.declared.node.Node.TheVariants.{Take}
+use Rattle.xr_arrays.specs.Arrays.{IsCell}
+use Rattle.xr_arrays.specs.Nodes.{IsNode, IsBelow}
+use Rattle.xr_arrays.specs.declared.node.Node.TheVariants.{Take}
 use Rattle.plan_core.proofs.Fitting.{take_fits}
 use Rattle.plan_tests.proofs.Sources.{FitsSources, on_sources, two_sources}
 use Rattle.plan_tests.proofs.plans.positions_are_taken_along_an_axis.Goals as goal

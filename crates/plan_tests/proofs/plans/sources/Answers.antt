@@ -1,6 +1,6 @@
 use Rattle.std.proofs.Common.{◌≤◌, ◌^◌, ◌++◌, ◌∙◌, List, [], ◌∷◌, ap, arith}
-use Rattle.xr_defs.specs.declared.node.Node.{Node}
-use Rattle.xr_defs.specs.declared.node.Node.TheVariants.{Source}
+use Rattle.xr_arrays.specs.declared.node.Node.{Node}
+use Rattle.xr_arrays.specs.declared.node.Node.TheVariants.{Source}
 use Rattle.plan_tests.proofs.Sources.{source_behind, few}
 use Rattle.plan_tests.proofs.plans.sources.Goals as goal
 

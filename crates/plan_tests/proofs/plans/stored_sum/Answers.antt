@@ -1,5 +1,5 @@
 use Rattle.std.proofs.Common.{◌≡◌, ◌<◌, ◌≤◌, ◌^◌, [], ◌∷◌, refl, ap, length, arith}
-use Rattle.xr_defs.specs.declared.node.Feed.TheVariants as feed
+use Rattle.xr_arrays.specs.declared.node.Feed.TheVariants as feed
 use Rattle.plan_core.proofs.Fitting.{fold_fits}
 use Rattle.plan_tests.proofs.Sources.{on_source, few}
 use Rattle.plan_tests.proofs.plans.stored_sum.Goals as goal

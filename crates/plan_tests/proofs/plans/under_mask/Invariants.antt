@@ -1,5 +1,5 @@
 use Rattle.std.proofs.Common.{◌≡◌, ◌++◌, map, zip, drop, length, All}
-use Rattle.xr_defs.specs.Arrays.{IsCell, cell}
+use Rattle.xr_arrays.specs.Arrays.{IsCell, cell}
 use Rattle.plan_tests.proofs.plans.under_mask.Given as goal
 
 abbrev pub invariant-loop-i : goal.invariant-loop-i

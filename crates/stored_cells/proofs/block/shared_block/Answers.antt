@@ -1,7 +1,7 @@
 use Rattle.std.proofs.Common.{arith, ◌∙◌}
 use Rattle.stored_cells.proofs.Blocks.{run_fits, run_is}
 use Rattle.stored_cells.proofs.Lengths.{whole_stored}
-use Rattle.xr_defs.specs.Points.{size}
+use Rattle.xr_types.specs.Points.{size}
 use Rattle.stored_cells.proofs.block.shared_block.Goals as goal
 
 pub overflow_mul-from : goal.overflow_mul-from

@@ -1,5 +1,5 @@
 use Rattle.std.proofs.Common.{sym, subst, Some, List, ℕ}
-use Rattle.xr_defs.specs.Arrays.{wide}
+use Rattle.xr_arrays.specs.Arrays.{wide}
 use Rattle.stored_cells.specs.Masks.{Hides}
 use Rattle.stored_cells.proofs.MaskedCells.{hides_marked}
 use Rattle.stored_cells.proofs.masks.mask_for.Goals as goal

@@ -1,5 +1,5 @@
 use Rattle.std.proofs.Common.{◌≡◌, drop}
-use Rattle.xr_defs.specs.Stored.{is_fill}
+use Rattle.xr_arrays.specs.Stored.{is_fill}
 use Rattle.stored_cells.proofs.sums.is_fill.Given as goal
 
 abbrev pub invariant-loop-fill : goal.invariant-loop-fill

@@ -1,6 +1,6 @@
 use Rattle.std.proofs.Common.{◌∙◌, ap, sym, length}
-use Rattle.xr_defs.specs.Arrays.{wide}
-use Rattle.xr_defs.specs.Points.{size}
+use Rattle.xr_arrays.specs.Arrays.{wide}
+use Rattle.xr_types.specs.Points.{size}
 use Rattle.stored_cells.proofs.Lengths.{numbers-length, mask_fits}
 use Rattle.stored_cells.proofs.typed.decoded.Goals as goal
 

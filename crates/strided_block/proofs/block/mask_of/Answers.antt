@@ -1,6 +1,6 @@
 use Rattle.std.proofs.Common.{map, get_or, ap, ◌∙◌}
 use Rattle.std.specs.Prelude.{Some, None}
-use Rattle.xr_defs.specs.Points.{place}
+use Rattle.xr_types.specs.Points.{place}
 use Rattle.strided_block.specs.Typed.{mask_byte}
 use Rattle.strided_block.proofs.Puts.{made_kept}
 use Rattle.strided_block.proofs.block.mask_of.Goals as goal

@@ -1,5 +1,5 @@
 use Rattle.std.proofs.Common.{[], sym, subst, ◌∙◌}
-use Rattle.xr_defs.specs.Points.{place, IsPoint}
+use Rattle.xr_types.specs.Points.{place, IsPoint}
 use Rattle.strided_block.specs.Boxes.{plus}
 use Rattle.strided_block.proofs.Rows.{plus_none}
 use Rattle.strided_block.proofs.place.place_at.Goals as goal

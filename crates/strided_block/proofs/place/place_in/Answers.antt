@@ -1,6 +1,6 @@
 use Rattle.std.proofs.Common.{◌≡◌, ◌<◌, ◌≤◌, ◌+◌, ◌*◌, length, get_or, sym, ap, ◌∙◌, arith}
 use Rattle.strided_block.specs.Boxes.{plus}
-use Rattle.xr_defs.specs.Points.{size, place}
+use Rattle.xr_types.specs.Points.{size, place}
 use Rattle.strided_block.proofs.Boxes.{point_long, plus_long, place_below}
 use Rattle.strided_block.proofs.Places.{place_step, counted}
 use Rattle.strided_block.proofs.place.place_in.Goals as goal

@@ -1,5 +1,5 @@
 use Rattle.std.proofs.Common.{◌≡◌, ◌+◌, ◌*◌, drop}
-use Rattle.xr_defs.specs.Points.{size, place}
+use Rattle.xr_types.specs.Points.{size, place}
 use Rattle.strided_block.specs.Boxes.{plus}
 use Rattle.strided_block.proofs.place.place_in.Given as goal
 

@@ -1,5 +1,5 @@
 use Rattle.std.proofs.Common.{◌≡◌, ◌<◌, ◌+◌, ◌/◌, ◌%◌, ◌++◌, ℕ, List, [], ◌∷◌, min, length, drop, sym, ap, subst, ◌∙◌, arith, length-append}
-use Rattle.xr_defs.specs.Points.{size}
+use Rattle.xr_types.specs.Points.{size}
 use Rattle.strided_block.specs.Zips.{point_at}
 use Rattle.strided_block.proofs.Splits.{size_part, step_some, point_more, left_below}
 use Rattle.strided_block.proofs.zip.point_of.Goals as goal

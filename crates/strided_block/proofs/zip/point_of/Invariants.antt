@@ -1,5 +1,5 @@
 use Rattle.std.proofs.Common.{◌≡◌, ◌<◌, ◌++◌, length, drop}
-use Rattle.xr_defs.specs.Points.{size}
+use Rattle.xr_types.specs.Points.{size}
 use Rattle.strided_block.specs.Zips.{point_at}
 use Rattle.strided_block.proofs.zip.point_of.Given as goal
 

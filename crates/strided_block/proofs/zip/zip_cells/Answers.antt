@@ -1,5 +1,5 @@
 use Rattle.std.proofs.Common.{sym, ap, subst, ◌∙◌}
-use Rattle.xr_defs.specs.Points.{IsPoint}
+use Rattle.xr_types.specs.Points.{IsPoint}
 use Rattle.strided_block.specs.Views.{shown}
 use Rattle.strided_block.specs.Zips.{Zips}
 use Rattle.strided_block.proofs.Rows.{whole_cut, cell_stored, no_others}

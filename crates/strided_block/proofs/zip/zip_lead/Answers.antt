@@ -1,5 +1,5 @@
 use Rattle.std.proofs.Common.{◌<◌, ◌+◌, length, drop, refl, ap, arith}
-use Rattle.xr_defs.specs.Points.{size, place}
+use Rattle.xr_types.specs.Points.{size, place}
 use Rattle.strided_block.proofs.Boxes.{place_below}
 use Rattle.strided_block.proofs.Zipped.{found, read_at, zipped_at}
 use Rattle.strided_block.proofs.zip.zip_lead.Goals as goal

@@ -1,5 +1,5 @@
 use Rattle.std.proofs.Common.{◌≡◌, ℕ, List, min, take, drop, ap, ◌∙◌, arith}
-use Rattle.xr_defs.specs.Points.{size, IsPoint}
+use Rattle.xr_types.specs.Points.{size, IsPoint}
 use Rattle.strided_block.specs.Views.{shown}
 use Rattle.strided_block.specs.Zips.{Zips, point_at}
 use Rattle.strided_block.proofs.Boxes.{place_below, point_drop}

@@ -1,5 +1,5 @@
 use Rattle.std.proofs.Common.{◌<◌, ℕ, List, take}
-use Rattle.xr_defs.specs.Points.{place, IsPoint}
+use Rattle.xr_types.specs.Points.{place, IsPoint}
 use Rattle.strided_block.specs.Views.{shown}
 use Rattle.strided_block.specs.Zips.{Zips, stored}
 use Rattle.strided_block.proofs.zip.zip_rows.Given as goal

@@ -1,5 +1,5 @@
 use Rattle.std.proofs.Common.{sym, ap, subst, ◌∙◌}
-use Rattle.xr_defs.specs.Arrays.{wide, InKind, IsCell}
+use Rattle.xr_arrays.specs.Arrays.{wide, InKind, IsCell}
 use Rattle.xr_types.specs.declared.kind.DType.{DType}
 use Rattle.std.specs.Prelude.{All}
 use Rattle.xr_building.proofs.Kept.{same_ints, truths_below}

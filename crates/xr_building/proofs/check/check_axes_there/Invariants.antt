@@ -1,5 +1,5 @@
 use Rattle.std.proofs.Common.{◌≡◌, drop}
-use Rattle.xr_defs.specs.Results.{all_of}
+use Rattle.xr_types.specs.Results.{all_of}
 use Rattle.xr_building.specs.Places.{is_there}
 use Rattle.xr_building.proofs.check.check_axes_there.Given as goal
 

@@ -2,7 +2,7 @@ use Rattle.std.proofs.Common.{sym, ap, subst, ◌∙◌}
 use Rattle.xr_defs.specs.Building as of
 use Rattle.xr_defs.specs.Building.{check_labels}
 use Rattle.xr_defs.specs.Meanings.{Array, Sequence}
-use Rattle.xr_defs.specs.Results.{Answers}
+use Rattle.xr_types.specs.Results.{Answers}
 use Rattle.xr_values.specs.declared.data_array.DataArray.{DataArray}
 use Rattle.xr_values.specs.Meaning.{all_values}
 use Rattle.xr_values.specs.Stands.{array_in}

@@ -1,6 +1,6 @@
 use Rattle.std.proofs.Common.{◌≡◌, Ok, map, take, drop}
 use Rattle.xr_types.specs.declared.axis.Axis.{Axis}
-use Rattle.xr_defs.specs.Results.{all_of}
+use Rattle.xr_types.specs.Results.{all_of}
 use Rattle.xr_defs.specs.Selecting.{axis_called}
 use Rattle.xr_building.specs.Places.{is_there}
 use Rattle.xr_building.proofs.coordinates.axes_called.Given as goal

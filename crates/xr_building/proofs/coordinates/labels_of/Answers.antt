@@ -1,7 +1,7 @@
 use Rattle.std.proofs.Common.{sym, ap, ◌∙◌}
 use Rattle.xr_defs.specs.Building.{check_labels}
 use Rattle.xr_defs.specs.Meanings.{Array}
-use Rattle.xr_defs.specs.Nodes.{value}
+use Rattle.xr_arrays.specs.Nodes.{value}
 use Rattle.xr_values.specs.declared.data_array.DataArray.{DataArray}
 use Rattle.xr_values.specs.Stands.{array_in}
 use Rattle.xr_arguments.proofs.Variants.{is_array}

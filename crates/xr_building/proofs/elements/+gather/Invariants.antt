@@ -1,5 +1,5 @@
 use Rattle.std.proofs.Common.{◌≡◌, List, take}
-use Rattle.xr_defs.specs.declared.node.Node.{Node}
+use Rattle.xr_arrays.specs.declared.node.Node.{Node}
 use Rattle.xr_defs.specs.Building.{elements_of}
 use Rattle.xr_values.specs.Meaning.{all_values}
 use Rattle.xr_building.specs.Gathered.{with_elements}

@@ -1,5 +1,5 @@
 use Rattle.std.proofs.Common.{◌≡◌, drop}
-use Rattle.xr_defs.specs.Canonical.{are_distinct}
+use Rattle.xr_types.specs.Names.{are_distinct}
 use Rattle.xr_building.proofs.given.are_distinct.Given as goal
 
 abbrev pub invariant-loop-at : goal.invariant-loop-at

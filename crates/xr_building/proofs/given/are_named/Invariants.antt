@@ -1,6 +1,6 @@
 use Rattle.std.proofs.Common.{◌≡◌, drop, length, not, ◌==◌}
 use Rattle.std.specs.List.{list_all}
-use Rattle.xr_defs.specs.Classic.{is_name}
+use Rattle.xr_files.specs.Classic.{is_name}
 use Rattle.xr_building.proofs.given.are_named.Given as goal
 
 abbrev pub invariant-loop-name : goal.invariant-loop-name

@@ -1,5 +1,5 @@
 use Rattle.std.proofs.Common.{◌≡◌, drop}
-use Rattle.xr_defs.specs.Classic.{among}
+use Rattle.xr_types.specs.Names.{among}
 use Rattle.xr_building.proofs.given.is_among.Given as goal
 
 abbrev pub invariant-loop-other : goal.invariant-loop-other

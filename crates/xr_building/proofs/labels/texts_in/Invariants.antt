@@ -1,5 +1,5 @@
 use Rattle.std.proofs.Common.{◌≡◌, List, map, drop}
-use Rattle.xr_defs.specs.declared.node.Node.{Node}
+use Rattle.xr_arrays.specs.declared.node.Node.{Node}
 use Rattle.xr_values.specs.Meaning.{meaning}
 use Rattle.xr_building.specs.Listed.{text_in, each_of}
 use Rattle.xr_building.proofs.Lists.{onto}

@@ -1,5 +1,5 @@
 use Rattle.std.proofs.Common.{◌≡◌, take}
-use Rattle.xr_defs.specs.Values.{shape_over}
+use Rattle.xr_types.specs.Names.{shape_over}
 use Rattle.xr_building.proofs.placed.shape_of.Given as goal
 
 abbrev pub invariant-loop-axis : goal.invariant-loop-axis

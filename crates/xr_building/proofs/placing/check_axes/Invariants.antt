@@ -1,5 +1,5 @@
 use Rattle.std.proofs.Common.{◌≡◌, drop, Ok}
-use Rattle.xr_defs.specs.Results.{all_of}
+use Rattle.xr_types.specs.Results.{all_of}
 use Rattle.xr_defs.specs.Building.{check_axis}
 use Rattle.xr_building.specs.Places.{is_there}
 use Rattle.xr_building.proofs.placing.check_axes.Given as goal

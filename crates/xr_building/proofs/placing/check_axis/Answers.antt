@@ -1,5 +1,5 @@
 use Rattle.std.proofs.Common.{sym, subst}
-use Rattle.xr_defs.specs.Results.{Answers}
+use Rattle.xr_types.specs.Results.{Answers}
 use Rattle.xr_building.proofs.Fits.{axis_at}
 use Rattle.xr_building.proofs.placing.check_axis.Goals as goal
 

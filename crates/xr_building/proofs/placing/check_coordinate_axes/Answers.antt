@@ -1,5 +1,5 @@
 use Rattle.std.proofs.Common.{sym, subst, ap, ◌∙◌}
-use Rattle.xr_defs.specs.Results.{Answers, all_of}
+use Rattle.xr_types.specs.Results.{Answers, all_of}
 use Rattle.xr_values.specs.declared.data_array.DataArray.{DataArray}
 use Rattle.xr_values.specs.Meaning.{meaning}
 use Rattle.xr_values.specs.Stands.{array_in}

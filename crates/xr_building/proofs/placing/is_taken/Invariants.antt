@@ -1,5 +1,5 @@
 use Rattle.std.proofs.Common.{◌≡◌, drop}
-use Rattle.xr_defs.specs.Classic.{among}
+use Rattle.xr_types.specs.Names.{among}
 use Rattle.xr_values.specs.Variables.{names_of}
 use Rattle.xr_building.proofs.placing.is_taken.Given as goal
 

@@ -1,7 +1,7 @@
 use Rattle.std.proofs.Common.{Bor, map, option_map, Err, sym, ap, subst, ◌∙◌}
 use Rattle.std.proofs.lemmas.Result.{err_from_is_err_and}
 use Rattle.xr_defs.specs.Building.{bound, parameters}
-use Rattle.xr_defs.specs.Results.{Answers}
+use Rattle.xr_types.specs.Results.{Answers}
 use Rattle.xr_values.specs.declared.value.Value.{Value}
 use Rattle.xr_values.specs.Meaning.{meaning, given}
 use Rattle.xr_building.specs.Entries.{FollowsArray}

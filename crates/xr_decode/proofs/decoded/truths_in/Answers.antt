@@ -1,9 +1,9 @@
 use Rattle.std.proofs.Common.{◌≡◌, ◌∙◌, ap, length}
 use Rattle.std.proofs.lemmas.List.{length-map}
-use Rattle.xr_defs.specs.Points.{size}
-use Rattle.xr_defs.specs.Arrays.{kind_of, wide}
+use Rattle.xr_types.specs.Points.{size}
+use Rattle.xr_arrays.specs.Arrays.{kind_of, wide}
 use Rattle.xr_defs.specs.Decoding.{truth}
-use Rattle.xr_defs.specs.Numbers.{numbers_of}
+use Rattle.xr_arrays.specs.Numbers.{numbers_of}
 use Rattle.stored_cells.proofs.Lengths.{mask_fits}
 use Rattle.xr_decode.proofs.Arrays.{truths_are_bytes, numbers_fill, truths_array}
 use Rattle.xr_decode.proofs.decoded.truths_in.Goals as goal

@@ -1,5 +1,5 @@
 use Rattle.std.proofs.Common.{◌∷◌, [], sym, subst, arith}
-use Rattle.xr_defs.specs.Points.{size}
+use Rattle.xr_types.specs.Points.{size}
 use Rattle.xr_defs.specs.Decoding.{var_shape}
 use Rattle.plan_core.proofs.Added.{adds_up}
 use Rattle.xr_decode.specs.declared.role.Role.TheVariants.{Data}

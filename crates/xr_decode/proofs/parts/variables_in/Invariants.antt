@@ -1,5 +1,5 @@
 use Rattle.std.proofs.Common.{take}
-use Rattle.xr_defs.specs.Room.{AddsAtMost}
+use Rattle.xr_arrays.specs.Added.{AddsAtMost}
 use Rattle.plan_core.specs.Plans.{Grows}
 use Rattle.xr_decode.specs.Held.{AreHeld, data_cells, data_in}
 use Rattle.xr_decode.proofs.parts.variables_in.Given as goal

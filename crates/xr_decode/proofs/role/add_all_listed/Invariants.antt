@@ -1,5 +1,5 @@
 use Rattle.std.proofs.Common.{◌++◌, ℕ, List, take, flat_map}
-use Rattle.xr_defs.specs.declared.file.CdfVar.{CdfVar}
+use Rattle.xr_files.specs.declared.file.CdfVar.{CdfVar}
 use Rattle.xr_defs.specs.Decoding.{listed_in}
 use Rattle.xr_decode.specs.Listed.{Lists}
 use Rattle.xr_decode.proofs.role.add_all_listed.Given as goal

@@ -1,6 +1,6 @@
 use Rattle.std.proofs.Common.{◌++◌, [], subst, ap, ◌∙◌, List, flat_map}
 use Rattle.xr_types.specs.declared.attr.Attr.{Attr}
-use Rattle.xr_defs.specs.declared.file.CdfVar.{CdfVar}
+use Rattle.xr_files.specs.declared.file.CdfVar.{CdfVar}
 use Rattle.xr_defs.specs.Decoding.{listed_in}
 use Rattle.xr_decode.specs.Listed.{Lists}
 use Rattle.xr_decode.proofs.role.coordinate_names.Goals as goal

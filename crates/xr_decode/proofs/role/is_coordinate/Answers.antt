@@ -1,6 +1,6 @@
 use Rattle.std.proofs.Common.{◌≡◌, ◌∙◌, ◌&&◌, not, sym, ap, map, true, List}
-use Rattle.xr_defs.specs.declared.file.CdfDim.{CdfDim}
-use Rattle.xr_defs.specs.Classic.{among}
+use Rattle.xr_files.specs.declared.file.CdfDim.{CdfDim}
+use Rattle.xr_types.specs.Names.{among}
 use Rattle.xr_defs.specs.Decoding.{is_coordinate, coordinate_names}
 use Rattle.xr_decode.proofs.role.is_coordinate.Goals as goal
 

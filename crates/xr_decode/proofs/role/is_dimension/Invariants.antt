@@ -1,6 +1,6 @@
 use Rattle.std.proofs.Common.{◌≡◌, drop, map}
-use Rattle.xr_defs.specs.declared.file.CdfDim.{CdfDim}
-use Rattle.xr_defs.specs.Classic.{among}
+use Rattle.xr_files.specs.declared.file.CdfDim.{CdfDim}
+use Rattle.xr_types.specs.Names.{among}
 use Rattle.xr_decode.proofs.role.is_dimension.Given as goal
 
 abbrev pub invariant-loop-dim : goal.invariant-loop-dim

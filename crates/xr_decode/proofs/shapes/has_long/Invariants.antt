@@ -1,6 +1,6 @@
 use Rattle.std.proofs.Common.{◌≡◌, drop, nat_lt}
 use Rattle.std.specs.List.{list_any}
-use Rattle.xr_defs.specs.Files.{shape_of}
+use Rattle.xr_files.specs.Files.{shape_of}
 use Rattle.xr_defs.specs.Limits.{most_cells}
 use Rattle.xr_decode.proofs.shapes.has_long.Given as goal
 

@@ -1,5 +1,5 @@
 use Rattle.std.proofs.Common.{◌≡◌, ◌++◌, drop, map}
-use Rattle.xr_defs.specs.Classic.{dim_at}
+use Rattle.xr_files.specs.Classic.{dim_at}
 use Rattle.xr_decode.proofs.shapes.names_of.Given as goal
 
 abbrev pub invariant-loop-id : goal.invariant-loop-id

@@ -1,5 +1,5 @@
 use Rattle.std.proofs.Common.{◌≡◌, ◌++◌, drop}
-use Rattle.xr_defs.specs.Files.{shape_of}
+use Rattle.xr_files.specs.Files.{shape_of}
 use Rattle.xr_decode.proofs.shapes.shape_of.Given as goal
 
 abbrev pub invariant-loop-id : goal.invariant-loop-id

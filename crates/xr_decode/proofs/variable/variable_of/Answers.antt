@@ -1,7 +1,7 @@
 use Rattle.std.proofs.Common.{◌≡◌, ◌∙◌, sym, ap}
-use Rattle.xr_defs.specs.Arrays.{Array}
+use Rattle.xr_arrays.specs.Arrays.{Array}
 use Rattle.xr_defs.specs.Decoding.{var_shape}
-use Rattle.xr_defs.specs.Nodes.{values, value}
+use Rattle.xr_arrays.specs.Nodes.{values, value}
 use Rattle.xr_values.proofs.Grown.{pushed_value, pushed_node}
 use Rattle.xr_values.proofs.Rooms.{node_cells}
 use Rattle.xr_decode.proofs.Loaded.{loaded, fits_plan, source_means, variable_same}

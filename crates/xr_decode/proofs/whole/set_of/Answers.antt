@@ -1,5 +1,5 @@
 use Rattle.std.proofs.Common.{◌∙◌, sym, ap, length, List, arith, Ok}
-use Rattle.xr_defs.specs.declared.file.CdfVar.{CdfVar}
+use Rattle.xr_files.specs.declared.file.CdfVar.{CdfVar}
 use Rattle.xr_defs.specs.Decoding.{others_in}
 use Rattle.xr_decode.proofs.OneByOne.{set_is, set_too_large}
 use Rattle.xr_decode.proofs.whole.set_of.Goals as goal

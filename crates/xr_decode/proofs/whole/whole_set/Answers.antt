@@ -1,9 +1,9 @@
 use Rattle.std.proofs.Common.{◌∙◌, ap, subst, filter, List}
 use Rattle.xr_values.specs.declared.variable.Variable.{Variable}
-use Rattle.xr_defs.specs.declared.file.CdfVar.{CdfVar}
+use Rattle.xr_files.specs.declared.file.CdfVar.{CdfVar}
 use Rattle.xr_defs.specs.declared.value.Coord.{Coord}
 use Rattle.xr_defs.specs.Decoding.{coordinates_in, unlisted, skipped_in}
-use Rattle.xr_defs.specs.Room.{AddsAtMost}
+use Rattle.xr_arrays.specs.Added.{AddsAtMost}
 use Rattle.xr_decode.specs.Held.{AreHeld, data_cells, data_in, stays}
 use Rattle.xr_decode.proofs.HeldSets.{IsWhole, set_stands, set_in_plan}
 use Rattle.xr_decode.proofs.Rooms.{set_room}

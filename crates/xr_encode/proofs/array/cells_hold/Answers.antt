@@ -1,7 +1,7 @@
 use Rattle.std.proofs.Common.{sym, ap}
 use Rattle.std.specs.Prelude.{option_copied}
 use Rattle.xr_types.specs.declared.kind.DType.TheVariants as kinds
-use Rattle.xr_defs.specs.Arrays.{hidden, wide, kind_of}
+use Rattle.xr_arrays.specs.Arrays.{hidden, wide, kind_of}
 use Rattle.xr_encode.proofs.Ranges.{cells_hold, is_other, not_bool, not_char, not_int8, not_int16, not_int32}
 use Rattle.xr_encode.proofs.array.cells_hold.Goals as goal
 

@@ -1,8 +1,8 @@
 use Rattle.std.proofs.Common.{◌≡◌, ℕ, List, drop, map, Ok}
 use Rattle.std.specs.List.{AllByRecursion}
-use Rattle.xr_defs.specs.Results.{all_of}
+use Rattle.xr_types.specs.Results.{all_of}
 use Rattle.xr_defs.specs.Encoding.{check_fit}
-use Rattle.xr_defs.specs.declared.node.Node.{Node}
+use Rattle.xr_arrays.specs.declared.node.Node.{Node}
 use Rattle.xr_encode.specs.Outlines.{without_cells}
 use Rattle.xr_encode.specs.Sets.{variable_outline}
 use Rattle.xr_encode.specs.Encoded.{computed_from, IsReady}

@@ -1,5 +1,5 @@
 use Rattle.std.proofs.Common.{◌≡◌, drop}
-use Rattle.xr_defs.specs.Values.{axis_names}
+use Rattle.xr_types.specs.Names.{axis_names}
 use Rattle.xr_defs.specs.Encoding.{all_among}
 use Rattle.xr_encode.proofs.coords.is_over.Given as goal
 

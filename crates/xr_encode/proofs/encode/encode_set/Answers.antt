@@ -1,6 +1,6 @@
 use Rattle.std.proofs.Common.{◌≡◌, ◌<◌, ◌^◌, true, subst, ap, ◌∙◌}
 use Rattle.std.specs.List.{AllByRecursion}
-use Rattle.xr_defs.specs.Canonical.{IsFile, can_hold, is_small}
+use Rattle.xr_files.specs.Canonical.{IsFile, can_hold, is_small}
 use Rattle.xr_defs.specs.Encoding.{file_of}
 use Rattle.xr_values.specs.Stands.{dataset_in}
 use Rattle.xr_encode.specs.declared.parts.Parts.{Parts}

@@ -1,6 +1,6 @@
 use Rattle.std.proofs.Common.{subst, sym, ap, ◌∙◌, map}
 use Rattle.std.specs.List.{AllByRecursion}
-use Rattle.xr_defs.specs.Results.{all_of}
+use Rattle.xr_types.specs.Results.{all_of}
 use Rattle.xr_defs.specs.Encoding.{check_fit, stored_coord}
 use Rattle.xr_encode.specs.Outlines.{without_cells}
 use Rattle.xr_encode.specs.Sets.{variable_outline}

@@ -1,5 +1,5 @@
 use Rattle.std.proofs.Common.{◌≡◌, ◌++◌, drop, map, Ok}
-use Rattle.xr_defs.specs.Results.{all_of}
+use Rattle.xr_types.specs.Results.{all_of}
 use Rattle.xr_defs.specs.Encoding.{check_fit, var_of}
 use Rattle.xr_encode.specs.Outlines.{without_cells}
 use Rattle.xr_encode.proofs.frame.frame_vars.Given as goal

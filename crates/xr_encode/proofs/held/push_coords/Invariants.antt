@@ -1,6 +1,6 @@
 use Rattle.std.proofs.Common.{◌≡◌, drop, map, Ok}
 use Rattle.std.specs.List.{AllByRecursion}
-use Rattle.xr_defs.specs.Results.{all_of}
+use Rattle.xr_types.specs.Results.{all_of}
 use Rattle.xr_defs.specs.Encoding.{stored_coord, check_fit}
 use Rattle.xr_encode.specs.Walk.{vars_from, HasContent}
 use Rattle.xr_encode.proofs.held.push_coords.Given as goal

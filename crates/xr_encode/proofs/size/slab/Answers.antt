@@ -1,8 +1,8 @@
 use Rattle.std.proofs.Common.{◌≡◌, ◌<◌, ◌*◌, ◌+◌, length, drop, get_or, ap, ◌∙◌, arith}
 use Rattle.std.proofs.lemmas.List.{at_drop_all}
-use Rattle.xr_defs.specs.Points.{size}
-use Rattle.xr_defs.specs.Classic.{dim_at}
-use Rattle.xr_defs.specs.Files.{positions, shape_of}
+use Rattle.xr_types.specs.Points.{size}
+use Rattle.xr_files.specs.Classic.{dim_at}
+use Rattle.xr_files.specs.Files.{positions, shape_of}
 use Rattle.cdf_writer.specs.Sizes.{capped}
 use Rattle.xr_encode.proofs.Sizes.{slab_step}
 use Rattle.xr_encode.proofs.size.slab.Goals as goal

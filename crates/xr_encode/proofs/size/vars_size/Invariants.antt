@@ -1,6 +1,6 @@
 use Rattle.std.proofs.Common.{◌≡◌, ◌+◌, length, map, take}
 use Rattle.std.specs.List.{flat_map}
-use Rattle.xr_defs.specs.Canonical.{var_text}
+use Rattle.xr_files.specs.Canonical.{var_text}
 use Rattle.cdf_writer.specs.Sizes.{capped}
 use Rattle.xr_encode.proofs.size.vars_size.Given as goal
 

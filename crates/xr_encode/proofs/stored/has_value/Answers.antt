@@ -1,8 +1,8 @@
 use Rattle.std.proofs.Common.{◌≢◌, ◌/◌, ◌<◌, ◌≤◌, SFits, length, of_z, to_z, subst, sym, ap, ◌∙◌, arith}
 use Rattle.std.proofs.lemmas.Int.{to_z-of_z}
 use mir.Syntax.{w128}
-use Rattle.xr_defs.specs.Classic.{width}
-use Rattle.xr_defs.specs.Numbers.{numbers_of}
+use Rattle.xr_types.specs.Widths.{width}
+use Rattle.xr_arrays.specs.Numbers.{numbers_of}
 use Rattle.xr_encode.specs.Rows.{stands}
 use Rattle.xr_encode.proofs.Shared.{count_of, found_there, none_left, not_there, value_there}
 use Rattle.xr_encode.proofs.stored.has_value.Goals as goal

@@ -1,5 +1,5 @@
 use Rattle.std.proofs.Common.{◌≡◌, drop}
-use Rattle.xr_defs.specs.Numbers.{numbers_of}
+use Rattle.xr_arrays.specs.Numbers.{numbers_of}
 use Rattle.xr_encode.specs.Rows.{stands}
 use Rattle.xr_encode.proofs.stored.has_value.Given as goal
 

@@ -1,5 +1,5 @@
 use Rattle.std.proofs.Common.{◌≡◌, drop}
-use Rattle.xr_defs.specs.Stored.{is_fill}
+use Rattle.xr_arrays.specs.Stored.{is_fill}
 use Rattle.xr_encode.proofs.stored.is_fill.Given as goal
 
 abbrev pub invariant-loop-fill : goal.invariant-loop-fill

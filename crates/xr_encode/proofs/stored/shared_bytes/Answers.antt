@@ -4,7 +4,7 @@ use Rattle.std.specs.Ordering.{int_eq}
 use Rattle.std.proofs.lemmas.List.{take_all}
 use Rattle.std.proofs.lemmas.Int.{to_z-of_z}
 use mir.Syntax.{w128}
-use Rattle.xr_defs.proofs.FormatLaws.{IsBytes}
+use Rattle.xr_files.proofs.FormatLaws.{IsBytes}
 use Rattle.xr_defs.specs.Encoding.{type_of}
 use Rattle.xr_encode.specs.Rows.{cells_bytes}
 use Rattle.xr_encode.proofs.Shared.{written_again}

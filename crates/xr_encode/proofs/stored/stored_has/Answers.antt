@@ -1,8 +1,8 @@
 use Rattle.std.proofs.Common.{◌≡◌, true, false, not, of_z, to_z, sym, ap, ◌∙◌}
 use Rattle.std.proofs.lemmas.Int.{to_z-of_z}
 use mir.Syntax.{w128}
-use Rattle.xr_defs.specs.Numbers.{numbers_of}
-use Rattle.xr_defs.specs.Stored.{is_fill}
+use Rattle.xr_arrays.specs.Numbers.{numbers_of}
+use Rattle.xr_arrays.specs.Stored.{is_fill}
 use Rattle.xr_encode.specs.Rows.{stands}
 use Rattle.xr_encode.proofs.Shared.{seen_none, seen_values}
 use Rattle.xr_encode.proofs.stored.stored_has.Goals as goal

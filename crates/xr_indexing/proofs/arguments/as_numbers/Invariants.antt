@@ -1,5 +1,5 @@
 use Rattle.std.proofs.Common.{◌≡◌, List, take, Ok}
-use Rattle.xr_defs.specs.declared.node.Node.{Node}
+use Rattle.xr_arrays.specs.declared.node.Node.{Node}
 use Rattle.xr_defs.specs.Selecting.{as_numbers}
 use Rattle.xr_values.specs.Meaning.{all_values}
 use Rattle.xr_indexing.proofs.arguments.as_numbers.Given as goal

@@ -1,6 +1,6 @@
 use Rattle.std.proofs.Common.{◌≡◌, ◌≤◌, ◌+◌, List, map, drop}
-use Rattle.xr_defs.specs.declared.node.Node.{Node}
-use Rattle.xr_defs.specs.Room.{cells_of}
+use Rattle.xr_arrays.specs.declared.node.Node.{Node}
+use Rattle.xr_arrays.specs.Added.{cells_of}
 use Rattle.xr_defs.specs.Selecting.{set_each_selected}
 use Rattle.plan_core.specs.Plans.{Grows}
 use Rattle.xr_values.specs.Meaning.{with_key}

@@ -1,6 +1,6 @@
 use Rattle.std.proofs.Common.{◌≡◌, List, map, drop}
-use Rattle.xr_defs.specs.declared.node.Node.{Node}
-use Rattle.xr_defs.specs.Results.{all_of}
+use Rattle.xr_arrays.specs.declared.node.Node.{Node}
+use Rattle.xr_types.specs.Results.{all_of}
 use Rattle.xr_defs.specs.Selecting.{check_selector}
 use Rattle.xr_values.specs.Meaning.{with_key}
 use Rattle.xr_indexing.proofs.selectors.check_selectors.Given as goal

@@ -1,8 +1,8 @@
 use Rattle.std.proofs.Common.{◌∙◌, None, true, ap}
-use Rattle.xr_defs.specs.Nodes.{without}
+use Rattle.xr_arrays.specs.Nodes.{without}
 use Rattle.xr_indexing.specs.Unbounded.{sizes_called}
 use Rattle.xr_indexing.proofs.TookVars.{var_fits_one, took_var_one}
-use Rattle.xr_defs.specs.declared.node.Node.TheVariants.{Take}
+use Rattle.xr_arrays.specs.declared.node.Node.TheVariants.{Take}
 use Rattle.xr_defs.specs.Selecting.{One}
 use Rattle.xr_values.proofs.Rooms.{node_cells}
 use Rattle.xr_indexing.proofs.VarCells.{var_cells}

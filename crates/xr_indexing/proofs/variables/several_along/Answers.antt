@@ -1,8 +1,8 @@
 use Rattle.std.proofs.Common.{None, false, ◌∙◌, ◌-◌, ◌^◌, min, length, set, refl, ap, List, Option, ℕ}
-use Rattle.xr_defs.specs.Points.{size}
+use Rattle.xr_types.specs.Points.{size}
 use Rattle.xr_indexing.specs.Unbounded.{sizes_called}
 use Rattle.xr_indexing.proofs.TookVars.{var_fits_several, took_var_several}
-use Rattle.xr_defs.specs.declared.node.Node.TheVariants.{Take}
+use Rattle.xr_arrays.specs.declared.node.Node.TheVariants.{Take}
 use Rattle.xr_defs.specs.Selecting.{Several}
 use Rattle.xr_values.proofs.Rooms.{node_cells}
 use Rattle.xr_indexing.proofs.VarCells.{var_cells}

@@ -1,5 +1,5 @@
 use Rattle.std.proofs.Common.{map, take}
-use Rattle.xr_defs.specs.Room.{AddsAtMost}
+use Rattle.xr_arrays.specs.Added.{AddsAtMost}
 use Rattle.plan_core.specs.Plans.{Grows}
 use Rattle.xr_values.specs.Stands.{variable_in}
 use Rattle.xr_indexing.specs.Choices.{choice_in}

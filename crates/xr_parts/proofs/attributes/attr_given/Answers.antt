@@ -1,5 +1,5 @@
 use Rattle.std.proofs.Common.{[], ◌≡◌, true, subst}
-use Rattle.xr_defs.specs.Classic.{is_name}
+use Rattle.xr_files.specs.Classic.{is_name}
 use Rattle.xr_parts.proofs.Described.{answer_formed}
 use Rattle.xr_parts.proofs.Naming.{named_text}
 use Rattle.xr_values.specs.Meaning.{meaning}

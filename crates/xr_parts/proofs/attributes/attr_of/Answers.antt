@@ -1,5 +1,5 @@
 use Rattle.std.proofs.Common.{subst, sym}
-use Rattle.xr_defs.specs.Results.{Answers}
+use Rattle.xr_types.specs.Results.{Answers}
 use Rattle.xr_parts.proofs.Described.{number_given}
 use Rattle.xr_parts.proofs.attributes.attr_of.Goals as goal
 

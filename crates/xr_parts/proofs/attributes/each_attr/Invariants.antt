@@ -1,5 +1,5 @@
 use Rattle.std.proofs.Common.{◌≡◌, List, map, drop}
-use Rattle.xr_defs.specs.declared.node.Node.{Node}
+use Rattle.xr_arrays.specs.declared.node.Node.{Node}
 use Rattle.xr_defs.specs.Parts.{each_attr}
 use Rattle.xr_values.specs.Meaning.{with_key}
 use Rattle.xr_values.specs.WellFormed.{AreAttributes}

@@ -1,6 +1,6 @@
 use Rattle.std.proofs.Common.{◌≡◌, ◌||◌, drop}
 use Rattle.xr_types.specs.declared.fault.Fault.TheVariants.{NoVariable}
-use Rattle.xr_defs.specs.Results.{all_of, unless}
+use Rattle.xr_types.specs.Results.{all_of, unless}
 use Rattle.xr_defs.specs.Parts.{has_coordinate}
 use Rattle.xr_parts.specs.Kept.{has_variable}
 use Rattle.xr_parts.proofs.drops.check_names.Given as goal

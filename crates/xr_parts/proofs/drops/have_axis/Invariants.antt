@@ -1,8 +1,8 @@
 use Rattle.std.proofs.Common.{◌≡◌, drop}
 use Rattle.std.specs.List.{list_any}
 use Rattle.xr_defs.specs.declared.value.Coord.{Coord}
-use Rattle.xr_defs.specs.Classic.{among}
-use Rattle.xr_defs.specs.Values.{axis_names}
+use Rattle.xr_types.specs.Names.{among}
+use Rattle.xr_types.specs.Names.{axis_names}
 use Rattle.xr_parts.proofs.drops.have_axis.Given as goal
 
 abbrev pub invariant-loop-coord : goal.invariant-loop-coord

@@ -1,6 +1,6 @@
 use Rattle.std.proofs.Common.{◌≡◌, drop}
 use Rattle.std.specs.List.{list_any}
-use Rattle.xr_defs.specs.Classic.{among}
+use Rattle.xr_types.specs.Names.{among}
 use Rattle.xr_values.specs.declared.variable.Variable.{Variable}
 use Rattle.xr_parts.proofs.drops.have_dim.Given as goal
 

@@ -1,7 +1,7 @@
 use Rattle.std.proofs.Common.{length, refl, subst, sym}
-use Rattle.xr_defs.specs.declared.node.Node.TheVariants.{Fold}
-use Rattle.xr_defs.specs.declared.operation.FoldKind.TheVariants.{Sum}
-use Rattle.xr_defs.specs.Nodes.{IsNode, values}
+use Rattle.xr_arrays.specs.declared.node.Node.TheVariants.{Fold}
+use Rattle.xr_types.specs.declared.operation.FoldKind.TheVariants.{Sum}
+use Rattle.xr_arrays.specs.Nodes.{IsNode, values}
 use Rattle.xr_parts.proofs.Summed.{sum_fits, summed}
 use Rattle.xr_values.proofs.Rooms.{node_added}
 use Rattle.xr_parts.proofs.sums.total.Goals as goal

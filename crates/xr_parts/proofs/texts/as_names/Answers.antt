@@ -1,5 +1,5 @@
 use Rattle.std.proofs.Common.{◌∙◌, List, ap, map, subst, sym}
-use Rattle.xr_defs.specs.Results.{Answers}
+use Rattle.xr_types.specs.Results.{Answers}
 use Rattle.xr_defs.specs.Parts.{as_texts}
 use Rattle.xr_values.specs.declared.value.Value.{Value}
 use Rattle.xr_values.specs.Meaning.{meaning}

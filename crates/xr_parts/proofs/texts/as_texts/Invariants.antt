@@ -1,5 +1,5 @@
 use Rattle.std.proofs.Common.{◌≡◌, List, map, drop}
-use Rattle.xr_defs.specs.declared.node.Node.{Node}
+use Rattle.xr_arrays.specs.declared.node.Node.{Node}
 use Rattle.xr_defs.specs.Parts.{as_texts}
 use Rattle.xr_values.specs.Meaning.{meaning}
 use Rattle.xr_parts.specs.Orders.{behind}

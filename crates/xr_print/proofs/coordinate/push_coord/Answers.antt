@@ -1,6 +1,6 @@
 use Rattle.std.proofs.Common.{◌++◌, ◌∷◌, [], ap, sym, ◌∙◌}
 use Rattle.xr_defs.specs.Text.{after_blanks}
-use Rattle.xr_defs.specs.Values.{axis_names}
+use Rattle.xr_types.specs.Names.{axis_names}
 use Rattle.xr_print.specs.Pieces.{coord_head, content_kind, content_masked, content_items}
 use Rattle.xr_print.proofs.Pushed.{three_pieces}
 use Rattle.xr_print.proofs.Heads.{content_parts}

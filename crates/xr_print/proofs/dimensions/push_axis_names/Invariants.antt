@@ -1,6 +1,6 @@
 use Rattle.std.proofs.Common.{◌≡◌, ◌++◌, map, drop, true}
 use Rattle.xr_defs.specs.Text.{printed_name}
-use Rattle.xr_defs.specs.Values.{axis_names}
+use Rattle.xr_types.specs.Names.{axis_names}
 use Rattle.xr_print.specs.Pieces.{listed}
 use Rattle.xr_print.proofs.dimensions.push_axis_names.Given as goal
 

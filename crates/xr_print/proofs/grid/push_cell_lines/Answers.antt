@@ -1,6 +1,6 @@
 use Rattle.std.proofs.Common.{ap, length, ◌/◌, ◌∙◌, ◌++◌}
-use Rattle.xr_defs.specs.Arrays.{Array}
-use Rattle.xr_defs.specs.Points.{size}
+use Rattle.xr_arrays.specs.Arrays.{Array}
+use Rattle.xr_types.specs.Points.{size}
 use Rattle.xr_defs.specs.Text.{rows_text}
 use Rattle.xr_print.proofs.Pushed.{on_ok}
 use Rattle.xr_print.proofs.Lines.{grid_shown}

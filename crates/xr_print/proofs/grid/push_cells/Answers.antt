@@ -1,5 +1,5 @@
 use Rattle.std.proofs.Common.{ap, map, ◌∙◌, ◌++◌}
-use Rattle.xr_defs.specs.Arrays.{Array}
+use Rattle.xr_arrays.specs.Arrays.{Array}
 use Rattle.xr_defs.specs.Text.{after_blanks, cell_text}
 use Rattle.xr_print.proofs.Pushed.{on_ok}
 use Rattle.xr_print.proofs.Lines.{texts_shown}

@@ -1,6 +1,6 @@
 use Rattle.std.proofs.Common.{◌≡◌, ◌++◌, ◌/◌, ◌<◌, ◌≤◌, length, rules, ap, sym, subst, ◌∙◌}
 use Rattle.std.specs.Fmt.{signed_decimal}
-use Rattle.xr_defs.specs.Numbers.{numbers_of}
+use Rattle.xr_arrays.specs.Numbers.{numbers_of}
 use Rattle.xr_print.proofs.Pushed.{no_text_more}
 use Rattle.xr_print.proofs.Items.{number_count, one_number_more}
 use Rattle.xr_print.proofs.numbers.push_numbers.Goals as goal

@@ -1,6 +1,6 @@
 use Rattle.std.proofs.Common.{◌≡◌, ◌++◌, map, drop}
 use Rattle.std.specs.Fmt.{signed_decimal}
-use Rattle.xr_defs.specs.Numbers.{numbers_of}
+use Rattle.xr_arrays.specs.Numbers.{numbers_of}
 use Rattle.xr_defs.specs.Text.{after_blanks}
 use Rattle.xr_print.proofs.numbers.push_numbers.Given as goal
 

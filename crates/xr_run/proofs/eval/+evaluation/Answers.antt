@@ -6,9 +6,9 @@ use Rattle.std.specs.declared.alloc.Global.{Global}
 use Rattle.std.proofs.lemmas.Int.{to_z-of_z}
 use Rattle.std.proofs.lemmas.List.Elements.{All-nil}
 use Rattle.xr_types.specs.declared.text.TextBytes.{TextBytes}
-use Rattle.xr_defs.specs.declared.node.Node.{Node}
+use Rattle.xr_arrays.specs.declared.node.Node.{Node}
 use Rattle.xr_defs.specs.Meanings.{Values, Entries, With, Entry}
-use Rattle.xr_defs.specs.Syntax.{tree_of, all_arguments, all_trees, all_entries}
+use Rattle.xr_syntax.specs.Syntax.{tree_of, all_arguments, all_trees, all_entries}
 use Rattle.xr_defs.specs.Evaluation.{value_of, given_of, values_of, entries_of}
 use Rattle.plan_core.proofs.Plans.{grows_by_none, grows_on}
 use Rattle.xr_values.specs.declared.value.Value.{Value}

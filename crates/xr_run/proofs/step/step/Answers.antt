@@ -1,6 +1,6 @@
 use Rattle.std.proofs.Common.{Bool, sym, subst}
 use Rattle.std.specs.Prelude.{IsTrue}
-use Rattle.xr_defs.specs.Syntax.{line_of}
+use Rattle.xr_syntax.specs.Syntax.{line_of}
 use Rattle.xr_run.specs.Named.{names_of}
 use Rattle.xr_run.proofs.Carried.{kept_by, performed, unperformed}
 use Rattle.xr_run.proofs.NamesKept.{names_kept, stay_names}

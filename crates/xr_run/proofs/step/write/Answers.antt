@@ -1,6 +1,6 @@
 use Rattle.std.proofs.Common.{Bool, sym, subst}
 use Rattle.std.specs.Prelude.{IsTrue, codes}
-use Rattle.xr_defs.specs.Syntax.{tree_of, all_arguments}
+use Rattle.xr_syntax.specs.Syntax.{tree_of, all_arguments}
 use Rattle.xr_values.specs.Meaning.{meaning, given}
 use Rattle.xr_values.proofs.Meaning.{meaning_kept, stays_value}
 use Rattle.xr_run.specs.Named.{names_of}

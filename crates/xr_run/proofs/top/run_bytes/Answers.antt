@@ -1,6 +1,6 @@
 use Rattle.std.proofs.Common.{ap, map, sym, subst, Err}
-use Rattle.xr_defs.specs.Syntax.{line_of}
-use Rattle.xr_defs.specs.Scripts.{IsScriptText}
+use Rattle.xr_syntax.specs.Syntax.{line_of}
+use Rattle.xr_syntax.specs.Scripts.{IsScriptText}
 use Rattle.xr_run.proofs.Ended.{of_script, of_fault}
 use Rattle.xr_run.proofs.top.run_bytes.Goals as goal
 

@@ -1,4 +1,4 @@
-use Rattle.xr_defs.specs.Syntax.{tree_of}
+use Rattle.xr_syntax.specs.Syntax.{tree_of}
 use Rattle.xr_script.proofs.Steps.{carry, after_goes}
 use Rattle.xr_script.specs.States.{wait_of, around_of}
 use Rattle.xr_script.proofs.after.after_operand.Goals as goal

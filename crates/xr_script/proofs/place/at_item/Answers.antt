@@ -1,6 +1,6 @@
 use Rattle.xr_script.proofs.Steps.{carry, item_goes}
 use Rattle.xr_script.specs.States.{pend_of, seat_around}
-use Rattle.xr_defs.specs.Syntax.{all_trees}
+use Rattle.xr_syntax.specs.Syntax.{all_trees}
 use Rattle.xr_script.proofs.place.at_item.Goals as goal
 
 pub returns-in_default : goal.returns-in_default

@@ -1,6 +1,6 @@
 use Rattle.xr_script.proofs.Steps.{carry, name_goes}
 use Rattle.xr_script.specs.States.{head_of, pend_for, around_for}
-use Rattle.xr_defs.specs.Syntax.{all_arguments}
+use Rattle.xr_syntax.specs.Syntax.{all_arguments}
 use Rattle.xr_script.proofs.place.at_name.Goals as goal
 
 pub returns-in_default : goal.returns-in_default

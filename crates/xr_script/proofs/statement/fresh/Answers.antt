@@ -1,6 +1,6 @@
 use Rattle.xr_script.proofs.Steps.{carry, fresh_goes}
 use Rattle.xr_script.specs.States.{wait_of, around_of}
-use Rattle.xr_defs.specs.Syntax.{tree_of}
+use Rattle.xr_syntax.specs.Syntax.{tree_of}
 use Rattle.xr_script.proofs.statement.fresh.Goals as goal
 
 pub returns-in_default : goal.returns-in_default

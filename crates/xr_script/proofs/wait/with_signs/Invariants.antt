@@ -1,5 +1,5 @@
 use Rattle.std.proofs.Common.{◌≡◌, reverse, length}
-use Rattle.xr_defs.specs.Syntax.{tree_of}
+use Rattle.xr_syntax.specs.Syntax.{tree_of}
 use Rattle.xr_grammar.specs.Machine.{signed}
 use Rattle.xr_script.proofs.wait.with_signs.Given as goal
 

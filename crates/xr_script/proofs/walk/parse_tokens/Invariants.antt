@@ -1,4 +1,4 @@
-use Rattle.xr_defs.specs.Scripts.{terminals}
+use Rattle.xr_syntax.specs.Scripts.{terminals}
 use Rattle.xr_grammar.proofs.Reading.{IsRead}
 use Rattle.xr_script.specs.Progress.{spot_of}
 use Rattle.xr_script.proofs.walk.parse_tokens.Given as goal

@@ -1,4 +1,4 @@
-use Rattle.xr_defs.specs.Tokens.{in_name}
+use Rattle.xr_syntax.specs.Tokens.{in_name}
 use Rattle.xr_tokens.proofs.Cuts.{cut_behind_run, name_is_ascii}
 use Rattle.xr_tokens.proofs.name.name_front.Goals as goal
 

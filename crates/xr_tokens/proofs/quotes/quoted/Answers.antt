@@ -2,7 +2,7 @@ use Rattle.std.proofs.Common.{◌≡◌, ◌+◌, length, Some, None, string_byt
 use Rattle.std.specs.List.{prefix_len}
 use Rattle.std.specs.Str.{IsCharBoundary}
 use Rattle.std.proofs.lemmas.Str.{IsUtf8-drop}
-use Rattle.xr_defs.specs.Tokens.{quoted}
+use Rattle.xr_syntax.specs.Tokens.{quoted}
 use Rattle.xr_tokens.specs.Pieces.{is_plain, escape_at, begins}
 use Rattle.xr_tokens.proofs.Between.{plain_cut, escape_cut, next_piece, last_piece}
 use Rattle.xr_tokens.proofs.quotes.quoted.Goals as goal

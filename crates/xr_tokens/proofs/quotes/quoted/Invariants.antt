@@ -1,5 +1,5 @@
 use Rattle.std.proofs.Common.{◌≡◌, ◌≤◌, ◌-◌, length, string_bytes, IsUtf8}
-use Rattle.xr_defs.specs.Tokens.{quoted}
+use Rattle.xr_syntax.specs.Tokens.{quoted}
 use Rattle.xr_tokens.specs.Pieces.{behind}
 use Rattle.xr_tokens.proofs.quotes.quoted.Given as goal
 

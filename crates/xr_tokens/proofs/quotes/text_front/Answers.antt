@@ -1,5 +1,5 @@
 use Rattle.std.proofs.Common.{◌≡◌, Some, subst, sym, arith, ◌∙◌}
-use Rattle.xr_defs.specs.Tokens.{quoted}
+use Rattle.xr_syntax.specs.Tokens.{quoted}
 use Rattle.xr_tokens.proofs.Fits.{Closes, quoted_closes}
 use Rattle.xr_tokens.proofs.quotes.text_front.Goals as goal
 

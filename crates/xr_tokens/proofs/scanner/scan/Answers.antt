@@ -1,7 +1,7 @@
 use Rattle.std.proofs.Common.{◌≡◌, sym, subst, arith, ◌∙◌, IsUtf8}
 use Rattle.std.proofs.lemmas.Str.{IsUtf8-drop}
-use Rattle.xr_defs.specs.declared.scan.Front.TheVariants as front
-use Rattle.xr_defs.specs.Tokens.{front_of, tokens_of}
+use Rattle.xr_syntax.specs.declared.scan.Front.TheVariants as front
+use Rattle.xr_syntax.specs.Tokens.{front_of, tokens_of}
 use Rattle.xr_tokens.proofs.Fits.{Fits, FrontFits, front_fits}
 use Rattle.xr_tokens.proofs.Steps.{at_end, at_bad, behind_blank, behind_line, behind_token, deeper_by_one}
 use Rattle.xr_tokens.proofs.scanner.scan.Goals as goal

@@ -1,5 +1,5 @@
 use Rattle.std.proofs.Common.{◌≡◌, ◌≤◌, ◌+◌, length, IsUtf8}
-use Rattle.xr_defs.specs.Tokens.{scan_from, tokens_of}
+use Rattle.xr_syntax.specs.Tokens.{scan_from, tokens_of}
 use Rattle.xr_tokens.proofs.Steps.{onto}
 use Rattle.xr_tokens.proofs.scanner.scan.Given as goal
 

@@ -1,5 +1,5 @@
 use Rattle.std.proofs.Common.{rules, ◌≡◌, [], ◌∷◌, ◌++◌}
-use Rattle.xr_defs.proofs.Trees.{all_entered}
+use Rattle.xr_syntax.proofs.Trees.{all_entered}
 use Rattle.xr_tree.proofs.build.push_entry.Goals as goal
 
 pub returns : goal.returns

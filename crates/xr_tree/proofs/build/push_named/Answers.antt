@@ -1,5 +1,5 @@
 use Rattle.std.proofs.Common.{rules, ◌≡◌, [], ◌∷◌, ◌++◌, Some}
-use Rattle.xr_defs.proofs.Trees.{all_keyed}
+use Rattle.xr_syntax.proofs.Trees.{all_keyed}
 use Rattle.xr_tree.proofs.build.push_named.Goals as goal
 
 pub returns : goal.returns

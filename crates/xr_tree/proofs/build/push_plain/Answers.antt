@@ -1,5 +1,5 @@
 use Rattle.std.proofs.Common.{rules, ◌≡◌, [], ◌∷◌, ◌++◌, None}
-use Rattle.xr_defs.proofs.Trees.{all_plain}
+use Rattle.xr_syntax.proofs.Trees.{all_plain}
 use Rattle.xr_tree.proofs.build.push_plain.Goals as goal
 
 pub returns : goal.returns

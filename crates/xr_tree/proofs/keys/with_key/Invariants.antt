@@ -1,5 +1,5 @@
 use Rattle.std.proofs.Common.{◌≡◌, drop}
-use Rattle.xr_defs.specs.Syntax.{has_key}
+use Rattle.xr_syntax.specs.Syntax.{has_key}
 use Rattle.xr_tree.proofs.keys.with_key.Given as goal
 
 abbrev pub invariant-loop-entry : goal.invariant-loop-entry

@@ -1,5 +1,5 @@
 use Rattle.std.proofs.Common.{◌≡◌, drop}
-use Rattle.xr_defs.specs.Syntax.{no_names}
+use Rattle.xr_syntax.specs.Syntax.{no_names}
 use Rattle.xr_tree.proofs.keys.without_names.Given as goal
 
 abbrev pub invariant-loop-arg : goal.invariant-loop-arg

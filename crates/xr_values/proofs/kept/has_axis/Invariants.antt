@@ -1,6 +1,6 @@
 use Rattle.std.proofs.Common.{◌≡◌, drop}
-use Rattle.xr_defs.specs.Classic.{among}
-use Rattle.xr_defs.specs.Values.{axis_names}
+use Rattle.xr_types.specs.Names.{among}
+use Rattle.xr_types.specs.Names.{axis_names}
 use Rattle.xr_values.proofs.kept.has_axis.Given as goal
 
 abbrev pub invariant-loop-axis : goal.invariant-loop-axis

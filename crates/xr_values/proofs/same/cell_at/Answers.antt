@@ -1,6 +1,6 @@
 use Rattle.std.proofs.Common.{◌≡◌, ◌∙◌, Some, ap, sym, get_or}
 use Rattle.std.proofs.lemmas.Int.{to_z-of_z}
-use Rattle.xr_defs.specs.Arrays.{cell}
+use Rattle.xr_arrays.specs.Arrays.{cell}
 use Rattle.xr_values.proofs.Equal.{masked, masked_off, unmasked}
 use Rattle.xr_values.proofs.same.cell_at.Goals as goal
 use mir.Syntax.{w128}

@@ -1,5 +1,5 @@
 use Rattle.std.proofs.Common.{◌∙◌, map, sym, arith}
-use Rattle.xr_defs.specs.Arrays.{hidden}
+use Rattle.xr_arrays.specs.Arrays.{hidden}
 use Rattle.xr_values.proofs.Equal.{of_mask, hidden_long, other_length, same_on, same_all}
 use Rattle.xr_values.proofs.same.same_typed.Goals as goal
 

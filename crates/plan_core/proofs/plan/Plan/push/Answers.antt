@@ -1,6 +1,6 @@
 use Rattle.std.proofs.Common.{sym, subst, ap, [], length, List, ℕ}
-use Rattle.xr_defs.specs.Nodes.{AllFit, IsNode, values, Pushes}
-use Rattle.xr_defs.specs.declared.node.Node.{Node}
+use Rattle.xr_arrays.specs.Nodes.{AllFit, IsNode, values, Pushes}
+use Rattle.xr_arrays.specs.declared.node.Node.{Node}
 use Rattle.plan_core.proofs.Plans.{all_fit, pushed}
 use Rattle.plan_core.proofs.plan.Plan.push.Goals as goal
 

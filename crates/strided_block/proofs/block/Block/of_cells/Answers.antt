@@ -1,6 +1,6 @@
 use Rattle.std.proofs.Common.{map, get_or, ap, ◌∙◌}
 use Rattle.std.specs.Prelude.{Some, None}
-use Rattle.xr_defs.specs.Points.{place}
+use Rattle.xr_types.specs.Points.{place}
 use Rattle.strided_block.specs.Typed.{number_or_zero}
 use Rattle.strided_block.proofs.Puts.{made_kept}
 use Rattle.strided_block.proofs.block.Block.of_cells.Goals as goal

@@ -1,6 +1,6 @@
 use Rattle.std.proofs.Common.{◌<◌, length, get_or, sym, ap, subst, ◌∙◌, arith}
 use Rattle.std.specs.Prelude.{Some, None}
-use Rattle.xr_defs.specs.Points.{place, IsPoint}
+use Rattle.xr_types.specs.Points.{place, IsPoint}
 use Rattle.strided_block.proofs.Boxes.{place_below}
 use Rattle.strided_block.proofs.CellLaws.{shown_cell}
 use Rattle.strided_block.proofs.cells.CellBlock.from_slice.Goals as goal

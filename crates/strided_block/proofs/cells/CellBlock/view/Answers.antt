@@ -1,5 +1,5 @@
 use Rattle.std.proofs.Common.{sym, ap, subst, ◌∙◌}
-use Rattle.xr_defs.specs.Points.{IsPoint}
+use Rattle.xr_types.specs.Points.{IsPoint}
 use Rattle.strided_block.specs.Typed.{unless_hidden}
 use Rattle.strided_block.proofs.Puts.{seen_kept}
 use Rattle.strided_block.proofs.cells.CellBlock.view.Goals as goal

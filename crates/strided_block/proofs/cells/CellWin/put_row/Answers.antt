@@ -1,6 +1,6 @@
 use Rattle.std.proofs.Common.{length, get_or, sym, ap, subst, ◌∙◌}
 use Rattle.std.specs.Prelude.{Some, None}
-use Rattle.xr_defs.specs.Points.{IsPoint}
+use Rattle.xr_types.specs.Points.{IsPoint}
 use Rattle.strided_block.specs.Boxes.{plus, along}
 use Rattle.strided_block.specs.Typed.{unless_hidden, number_held}
 use Rattle.strided_block.proofs.CellLaws.{shown_cell, neither, row_stays_clear}

@@ -2,8 +2,8 @@ use Rattle.std.proofs.Common.{◌≡◌, ◌<◌, ℕ, ℤ, List, pos, unsigned_
 use Rattle.std.specs.Prelude.{Option, All}
 use Rattle.xr_types.specs.Kinds.{wrap_to}
 use Rattle.xr_types.specs.declared.kind.DType.TheVariants.{Bool, Char}
-use Rattle.xr_defs.specs.Arrays.{IsCell}
-use Rattle.xr_defs.specs.Points.{size, place, IsPoint}
+use Rattle.xr_arrays.specs.Arrays.{IsCell}
+use Rattle.xr_types.specs.Points.{size, place, IsPoint}
 use Rattle.strided_block.specs.Typed.{truth}
 use Rattle.strided_block.proofs.Boxes.{place_below}
 use Rattle.strided_block.proofs.Puts.{again_bool, again_text, again_number, at_int8, at_int16, at_int32, at_int64}

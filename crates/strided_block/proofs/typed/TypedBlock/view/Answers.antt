@@ -1,6 +1,6 @@
 use Rattle.std.proofs.Common.{◌≡◌, ℕ, ℤ, List, pos, sym, ap, subst}
 use Rattle.std.specs.Prelude.{Option, option_map}
-use Rattle.xr_defs.specs.Points.{IsPoint}
+use Rattle.xr_types.specs.Points.{IsPoint}
 use Rattle.strided_block.specs.Views.{shown}
 use Rattle.strided_block.specs.Typed.{truth, block_shape, number_kept}
 use Rattle.strided_block.specs.declared.typed.TypedBlock.{TypedBlock}

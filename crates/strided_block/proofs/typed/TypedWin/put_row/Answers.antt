@@ -2,8 +2,8 @@ use Rattle.std.proofs.Common.{◌≡◌, ◌<◌, ℕ, ℤ, List, pos, unsigned_
 use Rattle.std.specs.Prelude.{Option, Some, None, option_map, All}
 use Rattle.xr_types.specs.Kinds.{wrap_to}
 use Rattle.xr_types.specs.declared.kind.DType.TheVariants.{Bool, Char}
-use Rattle.xr_defs.specs.Arrays.{IsCell}
-use Rattle.xr_defs.specs.Points.{IsPoint}
+use Rattle.xr_arrays.specs.Arrays.{IsCell}
+use Rattle.xr_types.specs.Points.{IsPoint}
 use Rattle.strided_block.specs.Boxes.{plus, along}
 use Rattle.strided_block.specs.Views.{held}
 use Rattle.strided_block.specs.Typed.{truth, win_kind, win_box, number_held}

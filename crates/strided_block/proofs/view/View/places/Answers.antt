@@ -1,5 +1,5 @@
 use Rattle.std.proofs.Common.{length, sym, ap, subst, ◌∙◌, arith}
-use Rattle.xr_defs.specs.Points.{place, IsPoint}
+use Rattle.xr_types.specs.Points.{place, IsPoint}
 use Rattle.strided_block.specs.Boxes.{plus}
 use Rattle.strided_block.proofs.Lines.{step_is, view_starts, view_axis, view_small, view_cells, view_within}
 use Rattle.strided_block.proofs.view.View.places.Goals as goal

@@ -1,6 +1,6 @@
 use Rattle.std.proofs.Common.{◌≡◌, ℕ, List, min, length, drop, take, get_or, sym, ap, ◌∙◌, arith, length-take, length-drop}
 use Rattle.std.specs.Prelude.{Some}
-use Rattle.xr_defs.specs.Points.{size, place}
+use Rattle.xr_types.specs.Points.{size, place}
 use Rattle.strided_block.proofs.Leads.{lead_within, run_size, run_inside, run_within, run_none, run_cell}
 use Rattle.strided_block.proofs.view.View.run.Goals as goal
 

@@ -1,0 +1,123 @@
+-- Worked files as datasets, computed: each was decided from the conventions' text.
+use Rattle.std.proofs.Common.{◌≡◌, ℕ, List, [], ◌∷◌, Some, None, Ok, refl}
+use Rattle.std.specs.Prelude.{codes, pos, negsuc, true, false, replicate}
+use Rattle.std.specs.Str.{is_utf8, chars}
+use Rattle.std.specs.Fmt.{digits}
+use lib.Utf8
+use Rattle.xr_types.specs.declared.attr.Attr.{Attr}
+use Rattle.xr_types.specs.declared.attr.NcType.{NcType}
+use Rattle.xr_types.specs.declared.attr.NcType.TheVariants.{Byte, Char, Short, Int, Float}
+use Rattle.xr_types.specs.declared.axis.Axis.{Axis}
+use Rattle.xr_types.specs.declared.axis.LabelList.TheVariants.{Numbers, Texts}
+use Rattle.xr_types.specs.declared.kind.DType.TheVariants as kinds
+use Rattle.xr_files.specs.declared.file.CdfDim.{CdfDim}
+use Rattle.xr_files.specs.declared.file.CdfFile.{CdfFile}
+use Rattle.xr_defs.specs.declared.value.Content.TheVariants as contents
+use Rattle.xr_types.specs.Results.{unless}
+use Rattle.xr_defs.specs.Values.{Dataset}
+use Rattle.xr_defs.specs.Decoding.{set_of, is_skipped, labels_in, is_index, is_coordinate, check_count}
+
+abbrev dim : List ℕ → ℕ → CdfDim
+dim name len = record { name = name; len = len }
+
+abbrev attr : List ℕ → NcType → List ℕ → Attr
+attr name kind raw = record { name = name; kind = kind; raw = raw }
+
+abbrev bare : List ℕ → ℕ → Axis
+bare name n = record { name = name; size = n; labels = None }
+
+-- nothing
+nothing : set_of (record { version = 1; numrecs = 0; dims = []; attrs = []; vars = [] }) false ≡ Ok (record { axes = []; coords = []; vars = []; attrs = []; skipped = [] })
+unfolding set_of check_count unless is_skipped labels_in is_index is_coordinate
+nothing = refl
+
+-- texts as labels, without their trailing NULs, and truth values
+abbrev texts_file : CdfFile
+texts_file =
+    record {
+      version = 1;
+      numrecs = 0;
+      attrs = [];
+      dims = dim (codes "s") 2 ∷ dim (codes "string2") 2 ∷ [];
+      vars = record { name = codes "s"; dims = 0 ∷ 1 ∷ []; attrs = []; kind = Char; raw = 97 ∷ 98 ∷ 99 ∷ 0 ∷ [] }
+          ∷ record { name = codes "b"; dims = 0 ∷ []; attrs = attr (codes "dtype") Char (codes "bool") ∷ []; kind = Byte; raw = 0 ∷ 2 ∷ [] }
+          ∷ [];
+    }
+
+abbrev texts_set : Dataset
+texts_set =
+    record {
+      axes = record { name = codes "s"; size = 2; labels = Some (record { list = Texts (codes "ab" ∷ codes "c" ∷ []); attrs = [] }) } ∷ [];
+      coords = [];
+      attrs = [];
+      skipped = [];
+      vars = record { name = codes "b"; dims = codes "s" ∷ []; attrs = []; kind = kinds.Bool; masked = false; cells = Some (pos 0) ∷ Some (pos 1) ∷ [] } ∷ [];
+    }
+
+texts : set_of texts_file false ≡ Ok texts_set
+unfolding set_of check_count unless is_skipped labels_in is_index is_coordinate is_utf8 chars Utf8.encode
+texts = refl
+
+-- the record dimension with an index, floats that are skipped, a fill number that is missing; the index isn't masked
+abbrev fill : Attr
+fill = attr (codes "_FillValue") Short (252 ∷ 25 ∷ [])
+
+abbrev records_file : CdfFile
+records_file =
+    record {
+      version = 1;
+      numrecs = 2;
+      attrs = [];
+      dims = dim (codes "time") 0 ∷ dim (codes "lat") 2 ∷ [];
+      vars = record { name = codes "lat"; dims = 1 ∷ []; attrs = []; kind = Float; raw = replicate 8 0 }
+          ∷ record { name = codes "time"; dims = 0 ∷ []; attrs = attr (codes "_FillValue") Int (0 ∷ 0 ∷ 0 ∷ 15 ∷ []) ∷ []; kind = Int; raw = 0 ∷ 0 ∷ 0 ∷ 0 ∷ 0 ∷ 0 ∷ 0 ∷ 15 ∷ [] }
+          ∷ record { name = codes "t"; dims = 0 ∷ 1 ∷ []; attrs = fill ∷ []; kind = Short; raw = 0 ∷ 1 ∷ 252 ∷ 25 ∷ 0 ∷ 3 ∷ 255 ∷ 255 ∷ [] }
+          ∷ [];
+    }
+
+abbrev records_set : Dataset
+records_set =
+    record {
+      axes = record { name = codes "time"; size = 2; labels = Some (record { list = Numbers kinds.Int32 (pos 0 ∷ pos 15 ∷ []); attrs = attr (codes "_FillValue") Int (0 ∷ 0 ∷ 0 ∷ 15 ∷ []) ∷ [] }) } ∷ bare (codes "lat") 2 ∷ [];
+      coords = [];
+      attrs = [];
+      skipped = codes "lat" ∷ [];
+      vars = record { name = codes "t"; dims = codes "time" ∷ codes "lat" ∷ []; attrs = fill ∷ []; kind = kinds.Int16; masked = true; cells = Some (pos 1) ∷ None ∷ Some (pos 3) ∷ Some (negsuc 0) ∷ [] } ∷ [];
+    }
+
+records : set_of records_file true ≡ Ok records_set
+unfolding set_of check_count unless is_skipped labels_in is_index is_coordinate
+records = refl
+
+-- coordinates that attributes list: one over the dimension, one a scalar text; a bare axis that only the text had is gone
+abbrev listing : Attr
+listing = attr (codes "coordinates") Char (codes " c  k none")
+
+abbrev listed_file : CdfFile
+listed_file =
+    record {
+      version = 2;
+      numrecs = 0;
+      attrs = [];
+      dims = dim (codes "x") 2 ∷ dim (codes "string3") 3 ∷ [];
+      vars = record { name = codes "v"; dims = 0 ∷ []; attrs = listing ∷ []; kind = Byte; raw = 1 ∷ 255 ∷ [] }
+          ∷ record { name = codes "c"; dims = 0 ∷ []; attrs = []; kind = Byte; raw = 7 ∷ 8 ∷ [] }
+          ∷ record { name = codes "k"; dims = 1 ∷ []; attrs = []; kind = Char; raw = 97 ∷ 98 ∷ 0 ∷ [] }
+          ∷ [];
+    }
+
+abbrev listed_set : Dataset
+listed_set =
+    record {
+      axes = bare (codes "x") 2 ∷ [];
+      coords = record { name = codes "c"; axes = bare (codes "x") 2 ∷ []; attrs = []; content = contents.Cells (record { kind = kinds.Int8; shape = 2 ∷ []; cells = Some (pos 7) ∷ Some (pos 8) ∷ [] }) false }
+          ∷ record { name = codes "k"; axes = []; attrs = []; content = contents.Text (codes "ab") }
+          ∷ [];
+      attrs = [];
+      skipped = [];
+      vars = record { name = codes "v"; dims = codes "x" ∷ []; attrs = []; kind = kinds.Int8; masked = false; cells = Some (pos 1) ∷ Some (negsuc 0) ∷ [] } ∷ [];
+    }
+
+listed : set_of listed_file false ≡ Ok listed_set
+unfolding set_of check_count unless is_skipped labels_in is_index is_coordinate is_utf8 chars Utf8.encode digits
+listed = refl

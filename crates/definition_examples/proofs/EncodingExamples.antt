@@ -1,0 +1,157 @@
+-- Worked datasets as files, and as they are printed, computed.
+use Rattle.std.proofs.Common.{◌≡◌, ℕ, List, [], ◌∷◌, Some, None, Ok, Err, refl}
+use Rattle.std.specs.Prelude.{codes, ℤ, pos, negsuc, true, false}
+use Rattle.std.specs.Str.{is_utf8, chars}
+use Rattle.std.specs.Fmt.{digits}
+use lib.Utf8
+use Rattle.xr_types.specs.declared.fault.Fault.TheVariants.{NoFill, FillCollides, CannotHold, DoesNotFit, NoDimension}
+use Rattle.xr_types.specs.declared.attr.Attr.{Attr}
+use Rattle.xr_types.specs.declared.attr.NcType.TheVariants.{Byte, Char, Short, Int}
+use Rattle.xr_types.specs.declared.axis.Axis.{Axis}
+use Rattle.xr_types.specs.declared.axis.LabelList.TheVariants.{Texts}
+use Rattle.xr_types.specs.declared.kind.DType.TheVariants as kinds
+use Rattle.xr_files.specs.declared.file.CdfFile.{CdfFile}
+use Rattle.xr_defs.specs.declared.value.Content.TheVariants as contents
+use Rattle.xr_defs.specs.declared.write_options.WriteOptions.{WriteOptions}
+use Rattle.xr_types.specs.Results.{unless}
+use Rattle.xr_files.specs.Canonical.{canonical}
+use Rattle.xr_defs.specs.Values.{Dataset, Variable}
+use Rattle.xr_defs.specs.Decoding.{set_of, is_skipped, labels_in, is_index, is_coordinate, check_count}
+use Rattle.xr_defs.specs.Encoding.{file_of, check_unlimited, check_names, check_records, check_fill, check_fit, check_cells}
+use Rattle.xr_defs.specs.Printing.{set_text}
+
+abbrev plainly : WriteOptions
+plainly = record { version = 1; fill = None; unlimited = None }
+
+abbrev filled : ℤ → WriteOptions
+filled n = record { version = 1; fill = Some n; unlimited = None }
+
+abbrev along : List ℕ → WriteOptions
+along d = record { version = 1; fill = None; unlimited = Some d }
+
+abbrev bare : List ℕ → ℕ → Axis
+bare name n = record { name = name; size = n; labels = None }
+
+abbrev one_variable : List Axis → Variable → Dataset
+one_variable axes v = record { axes = axes; coords = []; vars = v ∷ []; attrs = []; skipped = [] }
+
+-- 1 and a missing cell
+abbrev hole : List Attr → Dataset
+hole attrs = one_variable (bare (codes "x") 2 ∷ []) (record { name = codes "v"; dims = codes "x" ∷ []; kind = kinds.Int16; masked = true; attrs = attrs; cells = Some (pos 1) ∷ None ∷ [] })
+
+no_fill : file_of (hole []) plainly ≡ Err NoFill
+unfolding file_of check_unlimited check_names check_records check_fill check_fit check_cells unless digits
+no_fill = refl
+
+fill_collides : file_of (hole []) (filled (pos 1)) ≡ Err FillCollides
+unfolding file_of check_unlimited check_names check_records check_fill check_fit check_cells unless digits
+fill_collides = refl
+
+does_not_fit : file_of (hole []) (filled (pos 32768)) ≡ Err DoesNotFit
+unfolding file_of check_unlimited check_names check_records check_fill check_fit check_cells unless digits
+does_not_fit = refl
+
+abbrev hole_file : CdfFile
+hole_file =
+    record {
+      version = 1;
+      numrecs = 0;
+      attrs = [];
+      dims = record { name = codes "x"; len = 2 } ∷ [];
+      vars = record { name = codes "v"; dims = 0 ∷ []; attrs = record { name = codes "_FillValue"; kind = Short; raw = 255 ∷ 255 ∷ [] } ∷ []; kind = Short; raw = 0 ∷ 1 ∷ 255 ∷ 255 ∷ [] } ∷ [];
+    }
+
+by_the_option : file_of (hole []) (filled (negsuc 0)) ≡ Ok hole_file
+unfolding file_of check_unlimited check_names check_records check_fill check_fit check_cells unless digits canonical
+by_the_option = refl
+
+-- and it reads again as it was, with the attribute that the writer added
+read_again : set_of hole_file true ≡ Ok (hole (record { name = codes "_FillValue"; kind = Short; raw = 255 ∷ 255 ∷ [] } ∷ []))
+unfolding set_of check_count unless is_skipped labels_in is_index is_coordinate
+read_again = refl
+
+-- the variable's own number is in use, and the option isn't
+own_number : file_of (hole (record { name = codes "_FillValue"; kind = Int; raw = 0 ∷ 0 ∷ 0 ∷ 7 ∷ [] } ∷ [])) (filled (pos 1))
+    ≡ Ok (record hole_file { vars = record { name = codes "v"; dims = 0 ∷ []; attrs = record { name = codes "_FillValue"; kind = Short; raw = 0 ∷ 7 ∷ [] } ∷ []; kind = Short; raw = 0 ∷ 1 ∷ 0 ∷ 7 ∷ [] } ∷ [] })
+unfolding file_of check_unlimited check_names check_records check_fill check_fit check_cells unless digits canonical
+own_number = refl
+
+-- two empty axes
+two_empty : file_of (record { axes = bare (codes "x") 0 ∷ bare (codes "y") 0 ∷ []; coords = []; attrs = []; skipped = []; vars = record { name = codes "p"; dims = codes "x" ∷ []; kind = kinds.Int64; masked = false; attrs = []; cells = [] } ∷ [] }) plainly ≡ Err CannotHold
+unfolding file_of check_unlimited check_names check_records check_fill check_fit check_cells unless digits
+two_empty = refl
+
+-- a number that type int doesn't hold
+too_wide : file_of (one_variable [] (record { name = codes "v"; dims = []; kind = kinds.Int64; masked = false; attrs = []; cells = Some (pos 4000000000) ∷ [] })) plainly ≡ Err CannotHold
+unfolding file_of check_unlimited check_names check_records check_fill check_fit check_cells unless digits
+too_wide = refl
+
+no_such_dimension : file_of (hole []) (along (codes "t")) ≡ Err (NoDimension (codes "t"))
+unfolding file_of check_unlimited check_names check_records check_fill check_fit check_cells unless digits
+no_such_dimension = refl
+
+-- truth values over texts, there and back
+abbrev truths : Dataset
+truths =
+    record {
+      axes = record { name = codes "s"; size = 2; labels = Some (record { list = Texts (codes "ab" ∷ codes "c" ∷ []); attrs = [] }) } ∷ [];
+      coords = [];
+      attrs = [];
+      skipped = [];
+      vars = record { name = codes "b"; dims = codes "s" ∷ []; attrs = []; kind = kinds.Bool; masked = false; cells = Some (pos 0) ∷ Some (pos 1) ∷ [] } ∷ [];
+    }
+
+abbrev truths_file : CdfFile
+truths_file =
+    record {
+      version = 1;
+      numrecs = 0;
+      attrs = [];
+      dims = record { name = codes "s"; len = 2 } ∷ record { name = codes "string2"; len = 2 } ∷ [];
+      vars = record { name = codes "s"; dims = 0 ∷ 1 ∷ []; attrs = []; kind = Char; raw = 97 ∷ 98 ∷ 99 ∷ 0 ∷ [] }
+          ∷ record { name = codes "b"; dims = 0 ∷ []; attrs = record { name = codes "dtype"; kind = Char; raw = codes "bool" } ∷ []; kind = Byte; raw = 0 ∷ 1 ∷ [] }
+          ∷ [];
+    }
+
+truths_written : file_of truths plainly ≡ Ok truths_file
+unfolding file_of check_unlimited check_names check_records check_fill check_fit check_cells unless digits canonical
+truths_written = refl
+
+truths_read : set_of truths_file false ≡ Ok truths
+unfolding set_of check_count unless is_skipped labels_in is_index is_coordinate is_utf8 chars Utf8.encode digits
+truths_read = refl
+
+truths_printed : set_text truths ≡ codes "Dataset\ndim s: 2\ncoord s text (s): \"ab\" \"c\"\nvar b bool (s)\n"
+unfolding digits
+truths_printed = refl
+
+-- a coordinate over a variable's dimension, and a scalar text, which the variable lists in this order; and a record dimension
+abbrev listed : Dataset
+listed =
+    record {
+      axes = bare (codes "x") 1 ∷ [];
+      coords = record { name = codes "k"; axes = []; attrs = []; content = contents.Text (codes "ab") }
+          ∷ record { name = codes "c"; axes = bare (codes "x") 1 ∷ []; attrs = []; content = contents.Cells (record { kind = kinds.Int8; shape = 1 ∷ []; cells = Some (pos 7) ∷ [] }) false }
+          ∷ [];
+      attrs = [];
+      skipped = [];
+      vars = record { name = codes "v"; dims = codes "x" ∷ []; kind = kinds.Int8; masked = false; attrs = []; cells = Some (negsuc 0) ∷ [] } ∷ [];
+    }
+
+listed_written : file_of listed (along (codes "x"))
+    ≡ Ok (record {
+      version = 1;
+      numrecs = 1;
+      attrs = [];
+      dims = record { name = codes "x"; len = 0 } ∷ record { name = codes "string2"; len = 2 } ∷ [];
+      vars = record { name = codes "c"; dims = 0 ∷ []; attrs = []; kind = Byte; raw = 7 ∷ [] }
+          ∷ record { name = codes "k"; dims = 1 ∷ []; attrs = []; kind = Char; raw = codes "ab" }
+          ∷ record { name = codes "v"; dims = 0 ∷ []; attrs = record { name = codes "coordinates"; kind = Char; raw = codes "c k" } ∷ []; kind = Byte; raw = 255 ∷ [] }
+          ∷ [];
+    })
+unfolding file_of check_unlimited check_names check_records check_fill check_fit check_cells unless digits canonical
+listed_written = refl
+
+listed_printed : set_text listed ≡ codes "Dataset\ndim x: 1\ncoord c int8 (x): 7\ncoord k text (): \"ab\"\nvar v int8 (x)\n"
+unfolding digits
+listed_printed = refl

@@ -1,0 +1,11 @@
+mod TokenExamples
+mod FileExamples
+mod CanonicalExamples
+mod LabelRows
+mod ElementRows
+mod FoldExamples
+mod TimeRows
+mod DecodingExamples
+mod EncodingExamples
+mod DatasetExamples
+mod CallExamples

@@ -1,0 +1,10 @@
+pub mod Arrays
+pub mod Numbers
+pub mod Stored
+pub mod Forms
+pub mod Labels
+pub mod Times
+pub mod Folds
+pub mod Elements
+pub mod Nodes
+pub mod Added

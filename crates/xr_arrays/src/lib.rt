@@ -1,0 +1,16 @@
+//! Arrays: cells, element operations, folds, nodes of plans, labels and times, and in `specs/` what each stands for.
+#![tactic(auto)]
+
+mod array;
+mod node;
+mod search;
+mod stored;
+mod time;
+mod typed;
+
+pub use array::{ArrayValue, Form};
+pub use node::{Feed, Node, Sources};
+pub use search::{Direction, Span};
+pub use stored::{StoredArray, StoredParts};
+pub use time::{Field, Freq, Period};
+pub use typed::{Cells, TypedArray};

@@ -1,0 +1,4 @@
+pub mod FormatLaws
+pub mod HeaderLaws
+pub mod FileLaws
+pub mod RecordLaws

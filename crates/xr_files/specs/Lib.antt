@@ -1,0 +1,4 @@
+pub mod Format
+pub mod Classic
+pub mod Files
+pub mod Canonical
