@@ -7,7 +7,7 @@ use Rattle.std.proofs.Math.IntN.{suc_ℤ, suc_ℤ-*ℤ}
 use Rattle.std.proofs.lemmas.Bool.{cases_lt}
 use Rattle.xr_types.specs.Kinds.{IsWrapped, wrap_to, low, high, count_of}
 use Rattle.xr_types.specs.declared.kind.DType.{DType}
-use Rattle.xr_types.specs.declared.kind.DType.TheVariants.{Bool, Char, Int8, Int16, Int32, Int64}
+use Rattle.xr_types.specs.declared.kind.DType.TheVariants.{Bool, Char, Int8, Int16, Int32, Int64, UInt8, UInt16, UInt32, UInt64}
 
 -- a number as a remainder and so many times the divisor
 pub record Splits (n : ℤ) (m : ℕ) : Type 0 where
@@ -88,6 +88,10 @@ wrapped_is Int8 n = wrapped_8 n (splits n 256 (omega arith))
 wrapped_is Int16 n = wrapped_16 n (splits n 65536 (omega arith))
 wrapped_is Int32 n = wrapped_32 n (splits n 4294967296 (omega arith))
 wrapped_is Int64 n = wrapped_64 n (splits n 18446744073709551616 (omega arith))
+wrapped_is UInt8 n = wrapped_rest UInt8 n 256 (splits n 256 (omega arith)) refl refl refl
+wrapped_is UInt16 n = wrapped_rest UInt16 n 65536 (splits n 65536 (omega arith)) refl refl refl
+wrapped_is UInt32 n = wrapped_rest UInt32 n 4294967296 (splits n 4294967296 (omega arith)) refl refl refl
+wrapped_is UInt64 n = wrapped_rest UInt64 n 18446744073709551616 (splits n 18446744073709551616 (omega arith)) refl refl refl
 
 -- two numbers of a kind that are congruent to one are one
 pub wrapped_only : (t : DType) (n m : ℤ) → IsWrapped t n m → m ≡ wrap_to t n
@@ -97,3 +101,7 @@ wrapped_only Int8 n m h = let w = wrapped_is Int8 n in omega (arith, ints, h.con
 wrapped_only Int16 n m h = let w = wrapped_is Int16 n in omega (arith, ints, h.congruent, w.congruent, h.in_range, w.in_range)
 wrapped_only Int32 n m h = let w = wrapped_is Int32 n in omega (arith, ints, h.congruent, w.congruent, h.in_range, w.in_range)
 wrapped_only Int64 n m h = let w = wrapped_is Int64 n in omega (arith, ints, h.congruent, w.congruent, h.in_range, w.in_range)
+wrapped_only UInt8 n m h = let w = wrapped_is UInt8 n in omega (arith, ints, h.congruent, w.congruent, h.in_range, w.in_range)
+wrapped_only UInt16 n m h = let w = wrapped_is UInt16 n in omega (arith, ints, h.congruent, w.congruent, h.in_range, w.in_range)
+wrapped_only UInt32 n m h = let w = wrapped_is UInt32 n in omega (arith, ints, h.congruent, w.congruent, h.in_range, w.in_range)
+wrapped_only UInt64 n m h = let w = wrapped_is UInt64 n in omega (arith, ints, h.congruent, w.congruent, h.in_range, w.in_range)

@@ -18,7 +18,16 @@ again_int32 x a b = int_wrap_fits w32 x (omega (arith, ints))
 pub again_int64 : (x : ℤ) → negsuc 9223372036854775807 ≤ℤ x → x ≤ℤ pos 9223372036854775807 → int_wrap w64 x ≡ x
 again_int64 x a b = int_wrap_fits w64 x (omega (arith, ints))
 
+pub again_uint16 : (x : ℕ) → pos 0 ≤ℤ pos x → pos x ≤ℤ pos 65535 → x % 65536 ≡ x
+again_uint16 x a b = let small : x < 65536 = omega (arith, ints) in omega arith
+
+pub again_uint32 : (x : ℕ) → pos 0 ≤ℤ pos x → pos x ≤ℤ pos 4294967295 → x % 4294967296 ≡ x
+again_uint32 x a b = let small : x < 4294967296 = omega (arith, ints) in omega arith
+
+pub again_uint64 : (x : ℕ) → pos 0 ≤ℤ pos x → pos x ≤ℤ pos 18446744073709551615 → x % 18446744073709551616 ≡ x
+again_uint64 x a b = let small : x < 18446744073709551616 = omega (arith, ints) in omega arith
+
 -- a remainder isn't negative
-pub rest_is_natural : (n : ℤ) → pos (unsigned_abs (int_rem_euclid n (pos 256))) ≡ int_rem_euclid n (pos 256)
-rest_is_natural (pos n) = refl
-rest_is_natural (negsuc n) = refl
+pub rest_is_natural : (m : ℕ) (n : ℤ) → pos (unsigned_abs (int_rem_euclid n (pos m))) ≡ int_rem_euclid n (pos m)
+rest_is_natural m (pos n) = refl
+rest_is_natural m (negsuc n) = refl

@@ -5,7 +5,8 @@ use crate::items::{ByteList, DeepCopy, Items};
 use crate::text::Name;
 use std::alloc::{AllocError, Global};
 
-/// A type of values in a classic file (Unidata, "The NetCDF Classic Format Specification").
+/// A type of values in a classic file (Unidata, "The NetCDF Classic Format Specification"). Those from `UByte` on stand in
+/// version 5 alone.
 #[derive(Clone, Copy, PartialEq, Eq)]
 pub enum NcType {
     Byte,
@@ -14,6 +15,11 @@ pub enum NcType {
     Int,
     Float,
     Double,
+    UByte,
+    UShort,
+    UInt,
+    Int64,
+    UInt64,
 }
 
 /// An attribute: its values as their bytes, big-endian and without padding.

@@ -2,10 +2,10 @@
 ghost use Rattle.std.specs.Prelude.{◌≡◌, ℤ, pos, unsigned_abs, ◌≤ℤ◌, refl};
 ghost use Rattle.xr_types.specs.Kinds.{low, high, wrap_to};
 ghost use Rattle.xr_types.specs.declared.kind.DType.{DType};
-ghost use Rattle.xr_types.specs.declared.kind.DType.TheVariants.{Char, Int8, Int16, Int32, Int64};
-ghost use Rattle.xr_types.specs.Cells.{rest_is_natural, again_char, again_int8, again_int16, again_int32, again_int64};
+ghost use Rattle.xr_types.specs.declared.kind.DType.TheVariants.{Char, Int8, Int16, Int32, Int64, UInt16, UInt32, UInt64};
+ghost use Rattle.xr_types.specs.Cells.{rest_is_natural, again_char, again_int8, again_int16, again_int32, again_int64, again_uint16, again_uint32, again_uint64};
 
-/// A cell's type: the numbers of one kind. `u8` is that of `char`; cells of `bool` and masks are kept as `u8` too.
+/// A cell's type: the numbers of one kind. `u8` is that of `char`; cells of `uint8` and `bool`, and masks, are kept as `u8` too.
 pub trait Elem: Copy {
     /// The kind whose numbers the type holds.
     ghost kind: { DType };
@@ -160,7 +160,7 @@ impl Elem for u8 {
 
     ghost of = { λ n. unsigned_abs (wrap_to Char n) };
 
-    ghost number_of = { rest_is_natural };
+    ghost number_of = { rest_is_natural 256 };
 
     ghost of_number = { again_char };
 
@@ -178,5 +178,89 @@ impl Elem for u8 {
 
     fn wrap_from(n: i128) -> u8 {
         n.rem_euclid(1 << 8) as u8
+    }
+}
+
+impl Elem for u16 {
+    ghost kind = { UInt16 };
+
+    ghost number = { λ x. pos x };
+
+    ghost of = { λ n. unsigned_abs (wrap_to UInt16 n) };
+
+    ghost number_of = { rest_is_natural 65536 };
+
+    ghost of_number = { again_uint16 };
+
+    fn least() -> u16 {
+        u16::MIN
+    }
+
+    fn greatest() -> u16 {
+        u16::MAX
+    }
+
+    fn widen(self) -> i128 {
+        i128::from(self)
+    }
+
+    fn wrap_from(n: i128) -> u16 {
+        n.rem_euclid(1 << 16) as u16
+    }
+}
+
+impl Elem for u32 {
+    ghost kind = { UInt32 };
+
+    ghost number = { λ x. pos x };
+
+    ghost of = { λ n. unsigned_abs (wrap_to UInt32 n) };
+
+    ghost number_of = { rest_is_natural 4294967296 };
+
+    ghost of_number = { again_uint32 };
+
+    fn least() -> u32 {
+        u32::MIN
+    }
+
+    fn greatest() -> u32 {
+        u32::MAX
+    }
+
+    fn widen(self) -> i128 {
+        i128::from(self)
+    }
+
+    fn wrap_from(n: i128) -> u32 {
+        n.rem_euclid(1 << 32) as u32
+    }
+}
+
+impl Elem for u64 {
+    ghost kind = { UInt64 };
+
+    ghost number = { λ x. pos x };
+
+    ghost of = { λ n. unsigned_abs (wrap_to UInt64 n) };
+
+    ghost number_of = { rest_is_natural 18446744073709551616 };
+
+    ghost of_number = { again_uint64 };
+
+    fn least() -> u64 {
+        u64::MIN
+    }
+
+    fn greatest() -> u64 {
+        u64::MAX
+    }
+
+    fn widen(self) -> i128 {
+        i128::from(self)
+    }
+
+    fn wrap_from(n: i128) -> u64 {
+        n.rem_euclid(1 << 64) as u64
     }
 }

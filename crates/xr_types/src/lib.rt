@@ -18,7 +18,7 @@ pub use axis::{Axis, Label, LabelList, Labels, TimeCoding, TimeUnit, Units};
 pub use elem::Elem;
 pub use fault::{CallFault, CdfKind, ComputeFault, Fault, NoMemory, NodeId};
 pub use items::{ByteList, DeepCopy, Items, copy_all};
-pub use kind::{DType, promote, wrap, wrap_is_the_one};
+pub use kind::{DType, is_unsigned, promote, wrap, wrap_is_the_one};
 pub use limits::{
     MOST_CELLS, MOST_CHUNKS, MOST_DIMENSIONS, MOST_FILE_BYTES, MOST_OPEN_BRACKETS,
     MOST_SCRIPT_BYTES, MOST_STATEMENT_ELEMENTS, MOST_STATEMENTS, MOST_VARIABLES, MOST_WORKERS,
