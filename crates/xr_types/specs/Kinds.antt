@@ -1,6 +1,6 @@
 -- The kinds of cells: their ranges, what a kind leaves of a number, and promotion.
 -- NumPy, "Data types" and "Data type promotion in NumPy".
-use Rattle.std.specs.Prelude.{◌≡◌, ◌==◌, ℕ, ℤ, pos, negsuc, ◌+ℤ◌, ◌*ℤ◌, ◌≤ℤ◌, Bool, true, false, List, Option, Some, None, codes, max, nat_le, if◌then◌else◌}
+use Rattle.std.specs.Prelude.{◌≡◌, ◌==◌, ◌&&◌, ℕ, ℤ, pos, negsuc, ◌+ℤ◌, ◌*ℤ◌, ◌≤ℤ◌, int_le, Bool, true, false, List, Option, Some, None, codes, max, nat_le, if◌then◌else◌}
 use Rattle.std.specs.Int.{int_wrap, int_rem_euclid, w8, w16, w32, w64}
 use Rattle.xr_types.specs.declared.kind.DType.{DType}
 use Rattle.xr_types.specs.declared.kind.DType.TheVariants as kinds
@@ -35,6 +35,10 @@ high UInt64 = pos 18446744073709551615
 -- a number of the kind
 abbrev pub InRange : DType → ℤ → Type 0
 InRange t n = (low t ≤ℤ n) × (n ≤ℤ high t)
+
+-- whether a number is one of the kind
+abbrev pub in_range : DType → ℤ → Bool
+in_range t n = int_le (low t) n && int_le n (high t)
 
 -- how many numbers a kind has
 abbrev pub count_of : DType → ℕ
