@@ -1,1 +1,2 @@
 pub mod Wrapping
+mod Numbers

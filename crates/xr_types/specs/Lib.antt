@@ -5,3 +5,4 @@ pub mod Points
 pub mod Results
 pub mod Names
 pub mod Widths
+pub mod Integers

@@ -2,8 +2,10 @@
 ghost use Rattle.std.specs.Prelude.{◌≡◌};
 
 use crate::attr::Attr;
+use crate::integers::Integers;
 use crate::items::{DeepCopy, Items};
 use crate::kind::DType;
+use crate::shared::Shared;
 use crate::text::{Name, TextBytes};
 use std::alloc::{AllocError, Global};
 
@@ -24,12 +26,21 @@ pub enum TimeUnit {
     Seconds,
 }
 
+/// The calendar of times (CF Conventions, "Calendar"): that of civil dates, years of 365 days, or months of 30 days.
+#[derive(Clone, Copy, PartialEq, Eq)]
+pub enum Calendar {
+    Civil,
+    NoLeap,
+    Days360,
+}
+
 /// What a CF `units` text says with its calendar: the unit, the reference time in seconds from
-/// 1970-01-01T00:00:00, and whether labels before 1582-10-15 are decoded.
+/// 1970-01-01T00:00:00 of its calendar, the calendar, and whether labels before 1582-10-15 are decoded.
 #[derive(Clone, Copy, PartialEq, Eq)]
 pub struct Units {
     pub unit: TimeUnit,
     pub reference: i64,
+    pub calendar: Calendar,
     pub early: bool,
 }
 
@@ -41,14 +52,14 @@ pub struct TimeCoding {
     pub calendar_text: Option<TextBytes>,
 }
 
-/// Labels of one kind, in the order of their positions.
+/// Labels of one kind, in the order of their positions. A copy shares them.
 #[derive(Drop)]
 pub enum LabelList {
     /// Whole numbers of an integer kind.
-    Numbers(DType, Items<i64>),
+    Numbers(DType, Integers),
     /// Times in seconds.
-    Times(TimeCoding, Items<i64>),
-    Texts(Items<TextBytes>),
+    Times(TimeCoding, Shared<i64>),
+    Texts(Shared<TextBytes>),
 }
 
 /// The index of an axis: its labels, and the attributes of the variable that holds them.
@@ -79,13 +90,12 @@ impl DeepCopy for TimeCoding {
 impl DeepCopy for LabelList {
     fn deep_copy(&self, alloc: Global) -> Result<LabelList, AllocError> {
         match self {
-            LabelList::Numbers(kind, list) => Ok(LabelList::Numbers(
-                *kind,
-                Items::from_slice(alloc, list.as_slice())?,
-            )),
+            LabelList::Numbers(kind, list) => {
+                Ok(LabelList::Numbers(*kind, list.deep_copy(alloc)?))
+            }
             LabelList::Times(coding, list) => Ok(LabelList::Times(
                 coding.deep_copy(alloc)?,
-                Items::from_slice(alloc, list.as_slice())?,
+                list.deep_copy(alloc)?,
             )),
             LabelList::Texts(list) => Ok(LabelList::Texts(list.deep_copy(alloc)?)),
         }
