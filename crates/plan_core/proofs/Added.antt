@@ -1,19 +1,12 @@
 -- What nodes that are added to a plan come to.
-use Rattle.std.proofs.Common.{◌≡◌, ◌≤◌, ◌+◌, ◌*◌, ℕ, true, List, [], ◌∷◌, ◌++◌, ap, ◌∙◌, arith}
-use Rattle.std.proofs.lemmas.List.{append-nil}
-use Rattle.std.proofs.lemmas.Nat.{mul-le}
+use Rattle.std.proofs.Common.{◌≡◌, ◌≤◌, ◌+◌, ℕ, List, [], ◌∷◌, ◌++◌, ap, ◌∙◌, arith}
 use Rattle.std.proofs.lemmas.List.Sums.{sum_by-append}
 use Rattle.std.specs.List.{sum_by}
 use Rattle.xr_types.specs.Points.{size}
 use Rattle.xr_arrays.specs.Arrays.{Array}
 use Rattle.xr_arrays.specs.Nodes.{node_value, value, values, Pushes}
 use Rattle.xr_arrays.specs.declared.node.Node.{Node}
-use Rattle.xr_types.specs.Names.{are_distinct}
-use Rattle.xr_types.specs.Names.{axis_names, shape_over}
-use Rattle.xr_defs.specs.Values.{DataArray}
 use Rattle.xr_arrays.specs.Added.{cells_of, AddsAtMost}
-use Rattle.xr_defs.specs.Room.{AddsForAny, Portion, count, of_array, room, span}
-use Rattle.xr_defs.proofs.Spans.{back_among, greatest_both, points_above}
 use Rattle.plan_core.proofs.Plans.{values-append}
 
 -- one node comes to the cells of its value
@@ -38,21 +31,3 @@ adds_both a b c m n first second = let one = first.cells in let two = second.cel
 
 pub adds_up : (old new : List Node) (m n : ℕ) → m ≤ n → AddsAtMost old new m → AddsAtMost old new n
 adds_up old new m n le adds = let one = adds.cells in record { cells = omega arith }
-
--- ---- what the operands and the result leave room for
-
--- so many spans
-pub in_room : (old new : List Node) (p q : Portion) (m : ℕ) → m ≤ 256 * (count p + count q) → AddsAtMost old new (m * span (p.axes ++ q.axes)) → AddsAtMost old new (room (p ∷ q ∷ []))
-unfolding room
-in_room old new p q m le adds =
-    let k = sum_by count (p ∷ q ∷ []) in
-    let most : k ≡ count p + count q = omega arith in
-    let all : span (p.axes ++ (q.axes ++ [])) ≡ span (p.axes ++ q.axes) = ap (λ xs. span (p.axes ++ xs)) (append-nil q.axes) in
-    adds_up old new (m * span (p.axes ++ q.axes)) (256 * k * span (p.axes ++ (q.axes ++ []))) (mul-le m (span (p.axes ++ q.axes)) (256 * k) (span (p.axes ++ (q.axes ++ []))) (omega arith) (omega arith)) adds
-
--- one node that is the array's
-pub array_added : (old new : List Node) (node : Node) (place : ℕ) (b : DataArray) → Pushes old new node place → (value new place).shape ≡ shape_over b.axes → are_distinct (axis_names b.axes) ≡ true → AddsForAny old new b
-array_added old new node place b pushes shape d p =
-    let le = points_above b.axes (p.axes ++ b.axes) d (back_among p.axes b.axes) (λ n. let both = greatest_both p.axes b.axes n in omega arith) in
-    let cells : size (value new place).shape ≡ size (shape_over b.axes) = ap size shape in
-    in_room old new p (of_array b) 1 (omega arith) (adds_one old new node place (1 * span (p.axes ++ b.axes)) pushes (omega arith))

@@ -13,7 +13,8 @@ ghost use Rattle.plan_tests.specs.Sources.{AreSources};
 ghost use Rattle.plan_core.specs.Takes.{taking_sizes};
 
 use bytes::Bytes;
-use plan_core::{Compute, Plan, Whole, taken};
+use plan_core::{Compute, Plan};
+use plan_whole::{Whole, taken};
 use std::alloc::{AllocError, Global};
 use std::test::Fail;
 use std::thread::Threads;

@@ -21,7 +21,8 @@ use Rattle.xr_types.specs.Names.{axis_names}
 use Rattle.xr_defs.specs.Values.{Variable, axis_position}
 use Rattle.xr_defs.specs.Selecting.{array_each_selected, axis_called, set_each_selected}
 use Rattle.xr_defs.proofs.Spans.{AreAmong, no_more_names}
-use Rattle.plan_core.proofs.Added.{adds_up, in_room}
+use Rattle.plan_core.proofs.Added.{adds_up}
+use Rattle.xr_values.proofs.Rooms.{in_room}
 use Rattle.xr_values.specs.declared.args.Args.{Args}
 use Rattle.xr_values.specs.declared.data_array.DataArray.{DataArray}
 use Rattle.xr_values.specs.declared.dataset.Dataset.{Dataset}

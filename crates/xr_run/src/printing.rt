@@ -10,7 +10,8 @@ ghost use Rattle.xr_run.specs.Answers.{Gives};
 
 use crate::stopped::Stopped;
 use itoa::Buffer;
-use plan_core::{Compute, Whole};
+use plan_core::Compute;
+use plan_whole::Whole;
 use std::alloc::{AllocError, Global};
 use std::thread::Threads;
 use xr_print::{array_text, set_text};

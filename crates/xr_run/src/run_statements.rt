@@ -8,7 +8,8 @@ ghost use Rattle.xr_run.specs.Ends.{Ends, StatementsKeep, StatusTallied, Untouch
 use crate::names::NameMap;
 use crate::step::step;
 use crate::stopped::Stopped;
-use plan_core::{Plan, Whole};
+use plan_core::Plan;
+use plan_whole::Whole;
 use std::alloc::Global;
 use std::thread::Threads;
 use xr_syntax::Statement;

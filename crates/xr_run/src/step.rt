@@ -14,7 +14,7 @@ use crate::names::NameMap;
 use crate::printing::printed;
 use crate::stopped::Stopped;
 use crate::writing::written;
-use plan_core::Whole;
+use plan_whole::Whole;
 use std::alloc::Global;
 use std::thread::Threads;
 use xr_syntax::{Argument, Expr, Statement};

@@ -13,7 +13,7 @@ use crate::stopped::Stopped;
 use bytes::BytesQueue;
 use cdf_writer::write_pieces;
 use dataset_core::write_request;
-use plan_core::Whole;
+use plan_whole::Whole;
 use std::alloc::Global;
 use std::thread::Threads;
 use xr_files::CdfFile;

@@ -8,3 +8,4 @@ pub mod Carried
 pub mod Carries
 pub mod CarryExamples
 pub mod Places
+pub mod Rooms

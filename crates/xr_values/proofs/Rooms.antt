@@ -1,63 +1,30 @@
--- What nodes come to that are added to a plan, and the sizes of axes by their names.
-use Rattle.std.proofs.Common.{◌≡◌, ◌≤◌, ◌+◌, ◌||◌, ℕ, suc, Bool, true, false, cond, max, List, [], ◌∷◌, map, get_or, Option, Some, None, option_map, refl, sym, ap, subst, arith, if◌then◌else◌}
-use Rattle.std.proofs.lemmas.Bool.{true≢false}
-use Rattle.std.proofs.lemmas.Slice.Eq.{bytes_eq-Decides}
-use Rattle.std.specs.List.{AllByRecursion}
-use Rattle.std.specs.Str.{bytes_eq}
-use Rattle.xr_types.specs.declared.axis.Axis.{Axis}
-use Rattle.xr_types.specs.declared.kind.DType.{DType}
+-- What a call's operands and its result leave room for.
+use Rattle.std.proofs.Common.{◌≡◌, ◌≤◌, ◌+◌, ◌*◌, ℕ, true, List, [], ◌∷◌, ◌++◌, ap, arith}
+use Rattle.std.proofs.lemmas.List.{append-nil}
+use Rattle.std.proofs.lemmas.Nat.{mul-le}
+use Rattle.std.specs.List.{sum_by}
 use Rattle.xr_types.specs.Points.{size}
-use Rattle.xr_arrays.specs.Nodes.{Pushes, value}
-use Rattle.xr_types.specs.Names.{are_distinct}
-use Rattle.xr_types.specs.Names.{among}
+use Rattle.xr_types.specs.Names.{are_distinct, axis_names, shape_over}
 use Rattle.xr_arrays.specs.Added.{AddsAtMost}
-use Rattle.xr_defs.specs.Room.{greatest, span, AddsForAny}
-use Rattle.xr_defs.specs.Selecting.{axis_called}
-use Rattle.xr_types.specs.Names.{axis_names}
-use Rattle.xr_defs.specs.Values.{axis_position, no_axis}
+use Rattle.xr_arrays.specs.Nodes.{value, Pushes}
 use Rattle.xr_arrays.specs.declared.node.Node.{Node}
-use Rattle.xr_defs.proofs.Spans.{AreAmong, span_above}
-use Rattle.plan_core.proofs.Added.{adds_one, array_added}
-use Rattle.xr_values.specs.declared.data_array.DataArray.{DataArray}
-use Rattle.xr_values.specs.Stands.{array_in, IsArrayIn, IsNodeOf}
-use Rattle.xr_values.proofs.Named.{bytes_eq_swap}
+use Rattle.xr_defs.specs.Values.{DataArray}
+use Rattle.xr_defs.specs.Room.{AddsForAny, Portion, count, of_array, room, span}
+use Rattle.xr_defs.proofs.Spans.{back_among, greatest_both, points_above}
+use Rattle.plan_core.proofs.Added.{adds_one, adds_up}
 
-pub node_added : (old new : List Node) (node : Node) (b : DataArray) → Pushes old new node b.node → IsArrayIn new b → AddsForAny old new (array_in new b)
-node_added old new node b pushes is = array_added old new node b.node (array_in new b) pushes is.node.has_shape is.formed.axes.distinct
+-- so many spans
+pub in_room : (old new : List Node) (p q : Portion) (m : ℕ) → m ≤ 256 * (count p + count q) → AddsAtMost old new (m * span (p.axes ++ q.axes)) → AddsAtMost old new (room (p ∷ q ∷ []))
+unfolding room
+in_room old new p q m le adds =
+    let k = sum_by count (p ∷ q ∷ []) in
+    let most : k ≡ count p + count q = omega arith in
+    let all : span (p.axes ++ (q.axes ++ [])) ≡ span (p.axes ++ q.axes) = ap (λ xs. span (p.axes ++ xs)) (append-nil q.axes) in
+    adds_up old new (m * span (p.axes ++ q.axes)) (256 * k * span (p.axes ++ (q.axes ++ []))) (mul-le m (span (p.axes ++ q.axes)) (256 * k) (span (p.axes ++ (q.axes ++ []))) (omega arith) (omega arith)) adds
 
-pub node_cells : (old new : List Node) (node : Node) (id : ℕ) (shape : List ℕ) (kind : DType) → Pushes old new node id → IsNodeOf new id shape kind → AddsAtMost old new (size shape)
-node_cells old new node id shape kind pushes is = let cells : size (value new id).shape ≡ size shape = ap size is.has_shape in adds_one old new node id (size shape) pushes (omega arith)
-
--- ---- axes that are named
-
-abbrev placed : List Axis → Option ℕ → Axis
-placed axes o = elim o [ None ↦ no_axis | Some k ↦ get_or axes k no_axis ]
-
-abbrev placed_size : List Axis → Option ℕ → ℕ
-placed_size axes o = (placed axes o).size
-
-size_next : (x : Axis) (xs : List Axis) (o : Option ℕ) → placed_size (x ∷ xs) (option_map (λ n. n + 1) o) ≡ placed_size xs o
-size_next x xs None = refl
-size_next x xs (Some k) = let e : k + 1 ≡ suc k = omega arith in ap (λ n. (get_or (x ∷ xs) n no_axis).size) e
-
-called_below : (axes : List Axis) (d : List ℕ) → (axis_called axes d).size ≤ greatest axes d
-called_below [] d = omega arith
-called_below (x ∷ xs) d =
-    subst (λ b. (axis_called (x ∷ xs) d).size ≤ (if b then max x.size (greatest xs d) else greatest xs d)) (bytes_eq_swap x.name d) (by (bytes_eq x.name d) (called_below xs d))
-  where
-    by : (b : Bool) → placed_size xs (axis_position d xs) ≤ greatest xs d
-        → placed_size (x ∷ xs) (cond b (Some 0) (option_map (λ n. n + 1) (axis_position d xs))) ≤ (if b then max x.size (greatest xs d) else greatest xs d)
-    by true rest = omega arith
-    by false rest = let same = size_next x xs (axis_position d xs) in omega arith
-
-each_among : (names dims : List (List ℕ)) → AllByRecursion (λ d. among names d ≡ true) dims → AreAmong dims names
-each_among names [] all n e = absurd (true≢false (sym e))
-each_among names (d ∷ ds) all n e = by (each_among names ds all.1 n) (bytes_eq n d) refl e
-  where
-    by : (among ds n ≡ true → among names n ≡ true) → (b : Bool) → bytes_eq n d ≡ b → (b || among ds n) ≡ true → among names n ≡ true
-    by rest true same e = subst (λ a. among names a ≡ true) (sym ((bytes_eq-Decides n d).0 same)) all.0
-    by rest false same e = rest e
-
--- the points over axes that are named, each once, are within the span of all
-pub named_within : (axes : List Axis) (dims : List (List ℕ)) → are_distinct dims ≡ true → AllByRecursion (λ d. among (axis_names axes) d ≡ true) dims → size (map (λ d. (axis_called axes d).size) dims) ≤ span axes
-named_within axes dims distinct over = span_above (λ d. (axis_called axes d).size) dims axes distinct (each_among (axis_names axes) dims over) (called_below axes)
+-- one node that is the array's
+pub array_added : (old new : List Node) (node : Node) (place : ℕ) (b : DataArray) → Pushes old new node place → (value new place).shape ≡ shape_over b.axes → are_distinct (axis_names b.axes) ≡ true → AddsForAny old new b
+array_added old new node place b pushes shape d p =
+    let le = points_above b.axes (p.axes ++ b.axes) d (back_among p.axes b.axes) (λ n. let both = greatest_both p.axes b.axes n in omega arith) in
+    let cells : size (value new place).shape ≡ size (shape_over b.axes) = ap size shape in
+    in_room old new p (of_array b) 1 (omega arith) (adds_one old new node place (1 * span (p.axes ++ b.axes)) pushes (omega arith))
