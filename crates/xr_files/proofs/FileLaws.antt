@@ -17,18 +17,22 @@ use Rattle.xr_files.proofs.HeaderLaws.{header-sound}
 
 -- ---- versions
 
-neither : (a b : Bool) → a ≡ false → b ≡ false → (a || b) ≡ true → ⊥
-neither true b p q h = absurd cc
-neither false true p q h = absurd cc
-neither false false p q h = absurd cc
+neither : (a b c : Bool) → a ≡ false → b ≡ false → c ≡ false → (a || b || c) ≡ true → ⊥
+neither true b c p q r h = absurd cc
+neither false true c p q r h = absurd cc
+neither false false true p q r h = absurd cc
+neither false false false p q r h = absurd cc
 
-pub version_cases : (v : ℕ) → is_version v ≡ true → (v ≡ 1) ⊎ (v ≡ 2)
+pub version_cases : (v : ℕ) → is_version v ≡ true → (v ≡ 1) ⊎ (v ≡ 2) ⊎ (v ≡ 5)
 version_cases v h =
     elim (eqb_tells v 1) [
       | inl y ↦ inl y.1
       | inr n ↦ elim (eqb_tells v 2) [
-        | inl y ↦ inr y.1
-        | inr m ↦ absurd (neither (v == 1) (v == 2) n.0 m.0 h)
+        | inl y ↦ inr (inl y.1)
+        | inr m ↦ elim (eqb_tells v 5) [
+          | inl y ↦ inr (inr y.1)
+          | inr k ↦ absurd (neither (v == 1) (v == 2) (v == 5) n.0 m.0 k.0 h)
+        ]
       ]
     ]
 
@@ -36,7 +40,8 @@ version_at : (v : ℕ) (rest : List ℕ) → is_version v ≡ true → version_i
 version_at v rest h =
     elim (version_cases v h) [
       | inl e ↦ rw e refl
-      | inr e ↦ rw e refl
+      | inr (inl e) ↦ rw e refl
+      | inr (inr e) ↦ rw e refl
     ]
 
 -- the version that stands in the bytes' magic
@@ -51,17 +56,19 @@ has_magic bytes (Some v) = HasMagic bytes v
 magic_with : (bytes : List ℕ) (v : ℕ) → is_version v ≡ true → take 4 bytes ≡ magic v → HasMagic bytes v
 magic_with bytes v known e = record { known = known; parts = sym (take-append-drop 4 bytes) ∙ ap (λ (t : List ℕ). t ++ drop 4 bytes) e }
 
-tells : (bytes : List ℕ) (a b : Bool) → Decides a (take 4 bytes ≡ magic 1) → Decides b (take 4 bytes ≡ magic 2) → has_magic bytes (if a then Some 1 else if b then Some 2 else None)
-tells bytes true b da db = magic_with bytes 1 refl (da.0 refl)
-tells bytes false true da db = magic_with bytes 2 refl (db.0 refl)
-tells bytes false false da db = λ v known e.
+tells : (bytes : List ℕ) (a b c : Bool) → Decides a (take 4 bytes ≡ magic 1) → Decides b (take 4 bytes ≡ magic 2) → Decides c (take 4 bytes ≡ magic 5) → has_magic bytes (if a then Some 1 else if b then Some 2 else if c then Some 5 else None)
+tells bytes true b c da db dc = magic_with bytes 1 refl (da.0 refl)
+tells bytes false true c da db dc = magic_with bytes 2 refl (db.0 refl)
+tells bytes false false true da db dc = magic_with bytes 5 refl (dc.0 refl)
+tells bytes false false false da db dc = λ v known e.
     elim (version_cases v known) [
       | inl one ↦ let h : take 4 bytes ≡ magic 1 = e ∙ ap magic one in let f = da.1 h in absurd cc
-      | inr two ↦ let h : take 4 bytes ≡ magic 2 = e ∙ ap magic two in let f = db.1 h in absurd cc
+      | inr (inl two) ↦ let h : take 4 bytes ≡ magic 2 = e ∙ ap magic two in let f = db.1 h in absurd cc
+      | inr (inr five) ↦ let h : take 4 bytes ≡ magic 5 = e ∙ ap magic five in let f = dc.1 h in absurd cc
     ]
 
 pub magic_told : (bytes : List ℕ) → has_magic bytes (version_in bytes)
-magic_told bytes = tells bytes _ _ (bytes_eq-Decides (take 4 bytes) (magic 1)) (bytes_eq-Decides (take 4 bytes) (magic 2))
+magic_told bytes = tells bytes _ _ _ (bytes_eq-Decides (take 4 bytes) (magic 1)) (bytes_eq-Decides (take 4 bytes) (magic 2)) (bytes_eq-Decides (take 4 bytes) (magic 5))
 
 none_told : (bytes : List ℕ) (o : Option ℕ) → has_magic bytes o → ((v : ℕ) → is_version v ≡ true → take 4 bytes ≢ magic v) → o ≡ None
 none_told bytes None h none = refl

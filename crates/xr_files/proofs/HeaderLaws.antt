@@ -1,65 +1,77 @@
 -- The laws of the formats of a header, a line for each.
-use Rattle.std.proofs.Common.{◌==◌, if◌then◌else◌, ◌*◌, ℕ, true, false, List, []}
-use Rattle.std.specs.Int.{w32, w64}
+use Rattle.std.proofs.Common.{◌==◌, if◌then◌else◌, ◌*◌, ℕ, Bool, true, false, List, []}
+use Rattle.std.specs.Int.{Width, w32, w64}
 use Rattle.xr_types.specs.declared.fault.CdfKind.TheVariants.{BadTag, BadName, Repeated, BadDimension, BadType}
 use Rattle.xr_types.specs.declared.attr.Attr.{Attr}
 use Rattle.xr_files.specs.declared.file.CdfDim.{CdfDim}
 use Rattle.xr_files.specs.declared.file.VarHead.{VarHead}
 use Rattle.xr_files.specs.Format.{Format, chars, number}
 use Rattle.xr_types.specs.Widths.{width}
-use Rattle.xr_files.specs.Classic.{word, place_width, padding, is_name, name, new_name, nc_type, list, dimension, values, attribute, dim_number, var_head, variable, header}
+use Rattle.xr_files.specs.Classic.{word, count, counted, place_width, padding, is_name, name, new_name, nc_type, list, dimension, values, attribute, dim_number, var_head, variable, header}
 use Rattle.xr_files.proofs.FormatLaws.{Sound, exact_32, exact_64, chars-sound, number-sound, chain-sound, rule-sound, via-sound, each-sound}
 
 word-sound : Sound word
 word-sound = number-sound w32 exact_32
 
+width-sound : (long : Bool) (w v : Width) → Sound (number w) → Sound (number v) → Sound (number (if long then w else v))
+width-sound true w v a b = a
+width-sound false w v a b = b
+
 place-sound : (version : ℕ) → Sound (number (place_width version))
-place-sound version = elim (version == 1) as (λ v. Sound (number (if v then w32 else w64))) [ true ↦ number-sound w32 exact_32 | false ↦ number-sound w64 exact_64 ]
+place-sound version = width-sound (version == 1) w32 w64 (number-sound w32 exact_32) (number-sound w64 exact_64)
 
-pub name-sound : Sound name
+count-sound : (version : ℕ) → Sound (count version)
+count-sound version = width-sound (version == 5) w64 w32 (number-sound w64 exact_64) (number-sound w32 exact_32)
+
+pub name-sound : (version : ℕ) → Sound (name version)
 unfolding name
-name-sound = rule-sound BadName is_name _ (chain-sound word _ word-sound (λ n. chain-sound (chars n) _ (chars-sound n) (λ text. via-sound _ _ (chars-sound (padding n)))))
+name-sound version = rule-sound BadName is_name _ (chain-sound (count version) _ (count-sound version) (λ n. chain-sound (chars n) _ (chars-sound n) (λ text. via-sound _ _ (chars-sound (padding n)))))
 
-pub new_name-sound : (names : List (List ℕ)) → Sound (new_name names)
+pub new_name-sound : (version : ℕ) (names : List (List ℕ)) → Sound (new_name version names)
 unfolding new_name
-new_name-sound names = rule-sound Repeated _ name name-sound
+new_name-sound version names = rule-sound Repeated _ (name version) (name-sound version)
 
-nc_type-sound : Sound nc_type
+nc_type-sound : (version : ℕ) → Sound (nc_type version)
 unfolding nc_type
-nc_type-sound = via-sound _ _ (rule-sound BadType _ word word-sound)
+nc_type-sound version = via-sound _ _ (rule-sound BadType _ word word-sound)
 
-list-sound : {A : Type 0} (tag : ℕ) (entry : List A → Format A) → ((seen : List A) → Sound (entry seen)) → Sound (list tag entry)
+list-sound : {A : Type 0} (version tag : ℕ) (entry : List A → Format A) → ((seen : List A) → Sound (entry seen)) → Sound (list version tag entry)
 unfolding list
-list-sound tag entry s = chain-sound _ _ (rule-sound BadTag _ word word-sound) (λ t. chain-sound _ _ (rule-sound BadTag _ word word-sound) (λ n. each-sound n entry [] s))
+list-sound version tag entry s = chain-sound _ _ (rule-sound BadTag _ word word-sound) (λ t. chain-sound _ _ (rule-sound BadTag _ (count version) (count-sound version)) (λ n. each-sound n entry [] s))
 
-dimension-sound : (seen : List CdfDim) → Sound (dimension seen)
+dimension-sound : (version : ℕ) (seen : List CdfDim) → Sound (dimension version seen)
 unfolding dimension
-dimension-sound seen = chain-sound _ _ (new_name-sound _) (λ text. via-sound _ _ (rule-sound BadDimension _ word word-sound))
+dimension-sound version seen = chain-sound _ _ (new_name-sound version _) (λ text. via-sound _ _ (rule-sound BadDimension _ (count version) (count-sound version)))
 
-values-sound : (text : List ℕ) → Sound (values text)
+values-sound : (version : ℕ) (text : List ℕ) → Sound (values version text)
 unfolding values
-values-sound text = chain-sound nc_type _ nc_type-sound (λ kind. chain-sound word _ word-sound (λ n. chain-sound (chars (n * width kind)) _ (chars-sound (n * width kind)) (λ raw. via-sound _ _ (chars-sound (padding (n * width kind))))))
+values-sound version text =
+    chain-sound (nc_type version) _ (nc_type-sound version) (λ kind. chain-sound (count version) _ (count-sound version) (λ n.
+    chain-sound (chars (n * width kind)) _ (chars-sound (n * width kind)) (λ raw. via-sound _ _ (chars-sound (padding (n * width kind))))))
 
-attribute-sound : (seen : List Attr) → Sound (attribute seen)
+attribute-sound : (version : ℕ) (seen : List Attr) → Sound (attribute version seen)
 unfolding attribute
-attribute-sound seen = chain-sound _ values (new_name-sound _) values-sound
+attribute-sound version seen = chain-sound _ (values version) (new_name-sound version _) (values-sound version)
 
-dim_number-sound : (dims : List CdfDim) (seen : List ℕ) → Sound (dim_number dims seen)
+dim_number-sound : (version : ℕ) (dims : List CdfDim) (seen : List ℕ) → Sound (dim_number version dims seen)
 unfolding dim_number
-dim_number-sound dims seen = rule-sound BadDimension _ word word-sound
+dim_number-sound version dims seen = rule-sound BadDimension _ (count version) (count-sound version)
+
+attributes-sound : (version : ℕ) → Sound (list version 12 (attribute version))
+attributes-sound version = list-sound version 12 (attribute version) (attribute-sound version)
 
 var_head-sound : (version : ℕ) (dims : List CdfDim) (text : List ℕ) → Sound (var_head version dims text)
 unfolding var_head
 var_head-sound version dims text =
-    chain-sound word _ word-sound (λ rank. chain-sound _ _ (each-sound rank (dim_number dims) [] (dim_number-sound dims)) (λ ids. chain-sound _ _ (list-sound 12 attribute attribute-sound) (λ attrs.
-    chain-sound nc_type _ nc_type-sound (λ kind. chain-sound word _ word-sound (λ vsize. via-sound _ _ (place-sound version))))))
+    chain-sound (count version) _ (count-sound version) (λ rank. chain-sound _ _ (each-sound rank (dim_number version dims) [] (dim_number-sound version dims)) (λ ids. chain-sound _ _ (attributes-sound version) (λ attrs.
+    chain-sound (nc_type version) _ (nc_type-sound version) (λ kind. chain-sound (count version) _ (count-sound version) (λ vsize. via-sound _ _ (place-sound version))))))
 
 variable-sound : (version : ℕ) (dims : List CdfDim) (seen : List VarHead) → Sound (variable version dims seen)
 unfolding variable
-variable-sound version dims seen = chain-sound _ _ (new_name-sound _) (var_head-sound version dims)
+variable-sound version dims seen = chain-sound _ _ (new_name-sound version _) (var_head-sound version dims)
 
 pub header-sound : (version : ℕ) → Sound (header version)
 unfolding header
 header-sound version =
-    chain-sound word _ word-sound (λ numrecs. chain-sound _ _ (list-sound 10 dimension dimension-sound) (λ dims. chain-sound _ _ (list-sound 12 attribute attribute-sound) (λ attrs.
-    via-sound _ _ (list-sound 11 (variable version dims) (variable-sound version dims)))))
+    chain-sound _ _ (via-sound (counted version) (count version) (count-sound version)) (λ numrecs. chain-sound _ _ (list-sound version 10 (dimension version) (dimension-sound version)) (λ dims. chain-sound _ _ (attributes-sound version) (λ attrs.
+    via-sound _ _ (list-sound version 11 (variable version dims) (variable-sound version dims)))))

@@ -1,18 +1,18 @@
 -- The number of records of a streamed file is the greatest whose records all lie in the file.
-use Rattle.std.proofs.Common.{◌≡◌, ◌==◌, ◌≤◌, ◌<◌, ◌+◌, ◌-◌, ◌*◌, ◌/◌, ◌∙◌, ℕ, zero, suc, true, false, cond, List, [], ◌∷◌, length, map, refl, arith, inl, inr, ltb}
+use Rattle.std.proofs.Common.{◌≡◌, ◌==◌, ◌≤◌, ◌<◌, ◌+◌, ◌-◌, ◌*◌, ◌/◌, ◌∙◌, ℕ, zero, suc, true, false, cond, List, [], ◌∷◌, length, map, None, refl, arith, inl, inr, ltb}
 use Rattle.std.specs.List.{sum, fold, All, AllByRecursion}
 use Rattle.std.proofs.lemmas.List.Elements.{recursion_from_All, All-from_recursion}
 use Rattle.std.proofs.Math.Nat.{le-div_iff_mul-le}
 use Rattle.std.proofs.lemmas.Bool.Decides.{eqb_tells}
 use Rattle.std.proofs.lemmas.Bool.{cases_lt, lt-ltb, le-ltb}
 use Rattle.xr_types.specs.declared.attr.NcType.{NcType}
-use Rattle.xr_types.specs.declared.attr.NcType.TheVariants.{Byte, Char, Short, Int, Float, Double}
+use Rattle.xr_types.specs.declared.attr.NcType.TheVariants.{Byte, Char, Short, Int, Float, Double, UByte, UShort, UInt, Int64, UInt64}
 use Rattle.xr_files.specs.declared.file.CdfDim.{CdfDim}
 use Rattle.xr_files.specs.declared.file.VarHead.{VarHead}
 use Rattle.xr_types.specs.Points.{size}
 use Rattle.xr_types.specs.Widths.{width}
 use Rattle.xr_files.specs.Classic.{Header, dim_at}
-use Rattle.xr_files.specs.Files.{shape_of, padded, head_size, record_vars, sizes_together, recsize, RecordsLie, records_in, least, records_of, streaming}
+use Rattle.xr_files.specs.Files.{shape_of, padded, head_size, record_vars, sizes_together, recsize, RecordsLie, records_in, least, records_of}
 
 -- ---- each variable has a cell in each record, and so takes some bytes
 
@@ -23,6 +23,11 @@ width_some Short = omega arith
 width_some Int = omega arith
 width_some Float = omega arith
 width_some Double = omega arith
+width_some UByte = omega arith
+width_some UShort = omega arith
+width_some UInt = omega arith
+width_some Int64 = omega arith
+width_some UInt64 = omega arith
 
 some_times : (a b : ℕ) → 0 < a → 0 < b → 0 < a * b
 some_times a b x y = grind arith
@@ -112,13 +117,13 @@ some_record : (h : Header) (vs : List VarHead) → record_vars h.dims h.vars ≡
 some_record h [] e some = absurd (omega (arith, some))
 some_record h (v ∷ vs) e some = rw e (distance_some h.dims v vs)
 
-counted : (h : Header) (bytes : ℕ) → h.numrecs ≡ streaming → records_of h bytes ≡ least (map (records_in h bytes) (record_vars h.dims h.vars))
+counted : (h : Header) (bytes : ℕ) → h.numrecs ≡ None → records_of h bytes ≡ least (map (records_in h bytes) (record_vars h.dims h.vars))
 counted h bytes e = rw e refl
 
 none_least : (h : Header) (bytes : ℕ) (vs : List VarHead) → vs ≡ [] → least (map (records_in h bytes) vs) ≡ 0
 none_least h bytes vs e = rw e refl
 
-pub no_records : (h : Header) (bytes : ℕ) → h.numrecs ≡ streaming → record_vars h.dims h.vars ≡ [] → records_of h bytes ≡ 0
+pub no_records : (h : Header) (bytes : ℕ) → h.numrecs ≡ None → record_vars h.dims h.vars ≡ [] → records_of h bytes ≡ 0
 no_records h bytes streamed e = counted h bytes streamed ∙ none_least h bytes (record_vars h.dims h.vars) e
 
 lie_among : (h : Header) (bytes r : ℕ) (vs : List VarHead) → record_vars h.dims h.vars ≡ vs → r ≤ least (map (records_in h bytes) vs) → AllByRecursion (RecordsLie h bytes r) vs
@@ -126,7 +131,7 @@ lie_among h bytes r [] e le = tt
 lie_among h bytes r (v ∷ vs) e le = all_lie h bytes r (some_record h (v ∷ vs) e (omega arith)) (v ∷ vs) le
 
 -- the first r records lie in the file
-pub records_lie : (h : Header) (bytes r : ℕ) → h.numrecs ≡ streaming → r ≤ records_of h bytes → All (RecordsLie h bytes r) (record_vars h.dims h.vars)
+pub records_lie : (h : Header) (bytes r : ℕ) → h.numrecs ≡ None → r ≤ records_of h bytes → All (RecordsLie h bytes r) (record_vars h.dims h.vars)
 records_lie h bytes r streamed le =
     let vs = record_vars h.dims h.vars in
     All-from_recursion (RecordsLie h bytes r) vs (lie_among h bytes r vs refl (rw (counted h bytes streamed) at le))
@@ -136,7 +141,7 @@ most_among h bytes r [] e some all = absurd (omega (arith, some))
 most_among h bytes r (v ∷ vs) e some all = lie_most h bytes r (some_record h (v ∷ vs) e some) v vs all
 
 -- and no more of them do
-pub records_most : (h : Header) (bytes r : ℕ) → h.numrecs ≡ streaming → 0 < length (record_vars h.dims h.vars) → All (RecordsLie h bytes r) (record_vars h.dims h.vars) → r ≤ records_of h bytes
+pub records_most : (h : Header) (bytes r : ℕ) → h.numrecs ≡ None → 0 < length (record_vars h.dims h.vars) → All (RecordsLie h bytes r) (record_vars h.dims h.vars) → r ≤ records_of h bytes
 records_most h bytes r streamed some all =
     let vs = record_vars h.dims h.vars in
     rw (counted h bytes streamed) (most_among h bytes r vs refl some (recursion_from_All (RecordsLie h bytes r) vs all))

@@ -1,42 +1,47 @@
 -- The one spelling that the writer gives for a file: an empty list is a tag and a count of 0, padding in the header
 -- is zeros, fixed variables follow the header in order, then the records (Unidata, "The NetCDF Classic Format
 -- Specification"; the padding of values repeats the variable's fill value, as netcdf-c writes it).
-use Rattle.std.specs.Prelude.{◌≡◌, ◌+◌, ◌-◌, ◌*◌, ◌/◌, ◌<◌, ◌^◌, ℕ, Bool, true, not, ◌&&◌, List, [], ◌∷◌, ◌++◌, length, map, flat_map, filter, take, drop, sum, find, replicate, Some, None, nat_le, ◌==◌, if◌then◌else◌, codes}
+use Rattle.std.specs.Prelude.{◌≡◌, ◌+◌, ◌-◌, ◌*◌, ◌/◌, ◌<◌, ◌≤◌, ℕ, Bool, true, not, ◌&&◌, List, [], ◌∷◌, ◌++◌, length, map, flat_map, filter, take, drop, sum, find, replicate, Some, None, nat_le, ◌==◌, if◌then◌else◌, codes}
 use Rattle.std.specs.Str.{bytes_eq}
 use Rattle.std.specs.List.{list_all, range_with_len, AllByRecursion}
 use Rattle.std.specs.Int.{w32, to_be_bytes}
 use Rattle.xr_types.specs.declared.attr.Attr.{Attr}
 use Rattle.xr_types.specs.declared.attr.NcType.{NcType}
-use Rattle.xr_types.specs.declared.attr.NcType.TheVariants.{Byte, Char, Short}
+use Rattle.xr_types.specs.declared.attr.NcType.TheVariants.{Byte, Char, Short, Int, Float, Double, UByte, UShort, UInt, Int64, UInt64}
 use Rattle.xr_files.specs.declared.file.CdfDim.{CdfDim}
 use Rattle.xr_files.specs.declared.file.CdfVar.{CdfVar}
 use Rattle.xr_files.specs.declared.file.CdfFile.{CdfFile}
 use Rattle.xr_types.specs.Points.{size}
 use Rattle.xr_types.specs.Names.{are_distinct}
 use Rattle.xr_types.specs.Widths.{width}
-use Rattle.xr_files.specs.Classic.{number_of, place_width, padding, is_name, is_record_dim, dim_at, dim_names, attr_names}
-use Rattle.xr_files.specs.Files.{most_bytes, magic, is_version, is_record_var, var_size, padded, shape_of, streaming}
+use Rattle.xr_files.specs.Classic.{number_of, has_type, count_width, most_count, place_width, padding, is_name, is_record_dim, dim_at, dim_names, attr_names}
+use Rattle.xr_files.specs.Files.{most_bytes, magic, is_version, is_record_var, var_size, padded, shape_of}
 
 -- ---- the header
 
+-- a tag, a type
 abbrev pub number_text : ℕ → List ℕ
 number_text n = to_be_bytes w32 n
+
+-- a count, a length, a number of a dimension, a size
+abbrev pub count_text : ℕ → ℕ → List ℕ
+count_text version n = to_be_bytes (count_width version) n
 
 abbrev pub zeros : ℕ → List ℕ
 zeros n = replicate n 0
 
-abbrev pub name_text : List ℕ → List ℕ
-name_text text = number_text (length text) ++ (text ++ zeros (padding (length text)))
+abbrev pub name_text : ℕ → List ℕ → List ℕ
+name_text version text = count_text version (length text) ++ (text ++ zeros (padding (length text)))
 
-abbrev pub list_text : {A : Type 0} → ℕ → (A → List ℕ) → List A → List ℕ
-list_text tag entry [] = number_text 0 ++ number_text 0
-list_text tag entry (x ∷ xs) = number_text tag ++ (number_text (length (x ∷ xs)) ++ flat_map entry (x ∷ xs))
+abbrev pub list_text : {A : Type 0} → ℕ → ℕ → (A → List ℕ) → List A → List ℕ
+list_text version tag entry [] = number_text 0 ++ count_text version 0
+list_text version tag entry (x ∷ xs) = number_text tag ++ (count_text version (length (x ∷ xs)) ++ flat_map entry (x ∷ xs))
 
-abbrev pub dim_text : CdfDim → List ℕ
-dim_text d = name_text d.name ++ number_text d.len
+abbrev pub dim_text : ℕ → CdfDim → List ℕ
+dim_text version d = name_text version d.name ++ count_text version d.len
 
-abbrev pub attr_text : Attr → List ℕ
-attr_text a = name_text a.name ++ (number_text (number_of a.kind) ++ (number_text (length a.raw / width a.kind) ++ (a.raw ++ zeros (padding (length a.raw)))))
+abbrev pub attr_text : ℕ → Attr → List ℕ
+attr_text version a = name_text version a.name ++ (number_text (number_of a.kind) ++ (count_text version (length a.raw / width a.kind) ++ (a.raw ++ zeros (padding (length a.raw)))))
 
 -- bytes of a variable's values, of a record variable per record
 abbrev pub slab : List CdfDim → CdfVar → ℕ
@@ -45,12 +50,13 @@ slab dims v = var_size dims v.dims (width v.kind)
 -- a variable with the place at which its values begin
 abbrev pub var_text : ℕ → List CdfDim → CdfVar × ℕ → List ℕ
 var_text version dims x =
-    name_text x.0.name ++ (number_text (length x.0.dims) ++ (flat_map number_text x.0.dims ++ (list_text 12 attr_text x.0.attrs ++
-    (number_text (number_of x.0.kind) ++ (number_text (padded (slab dims x.0)) ++ to_be_bytes (place_width version) x.1)))))
+    name_text version x.0.name ++ (count_text version (length x.0.dims) ++ (flat_map (count_text version) x.0.dims ++ (list_text version 12 (attr_text version) x.0.attrs ++
+    (number_text (number_of x.0.kind) ++ (count_text version (padded (slab dims x.0)) ++ to_be_bytes (place_width version) x.1)))))
 
 abbrev pub header_text : CdfFile → List (CdfVar × ℕ) → List ℕ
 header_text f placed =
-    magic f.version ++ (number_text f.numrecs ++ (list_text 10 dim_text f.dims ++ (list_text 12 attr_text f.attrs ++ list_text 11 (var_text f.version f.dims) placed)))
+    magic f.version ++ (count_text f.version f.numrecs ++ (list_text f.version 10 (dim_text f.version) f.dims ++ (list_text f.version 12 (attr_text f.version) f.attrs ++
+    list_text f.version 11 (var_text f.version f.dims) placed)))
 
 -- places don't change the length of a header
 abbrev pub header_size : CdfFile → ℕ
@@ -88,12 +94,20 @@ placed f = placed_from f f.vars (header_size f) (header_size f + fixed_size f)
 
 -- ---- values
 
--- the fill value of a type: bytes that a program which looks at the padding takes for missing values
+-- the fill value of a type: bytes that a program which looks at the padding takes for missing values; values of four
+-- bytes and of eight have no padding
 abbrev pub default_fill : NcType → List ℕ
 default_fill Byte = 129 ∷ []
 default_fill Char = 0 ∷ []
 default_fill Short = 128 ∷ 1 ∷ []
-default_fill t = []
+default_fill Int = []
+default_fill Float = []
+default_fill Double = []
+default_fill UByte = 255 ∷ []
+default_fill UShort = 255 ∷ 255 ∷ []
+default_fill UInt = []
+default_fill Int64 = []
+default_fill UInt64 = []
 
 -- the `_FillValue` of the variable where it is one value of the variable's type
 abbrev pub is_own_fill : NcType → Attr → Bool
@@ -127,46 +141,51 @@ canonical_size f = header_size f + fixed_size f + f.numrecs * recsize f
 
 -- ---- which files have a spelling
 
-pub record IsName (text : List ℕ) : Type 0 where
+-- a count, a length or a number of a dimension fits the version's field
+abbrev pub Fits : ℕ → ℕ → Type 0
+Fits version n = n ≤ most_count version
+
+pub record IsName (version : ℕ) (text : List ℕ) : Type 0 where
   pub name : is_name text ≡ true
-  pub fits : length text < 2 ^ 32
+  pub fits : Fits version (length text)
 
 -- an attribute's values have their type's width
-pub record IsAttr (a : Attr) : Type 0 where
-  pub name : IsName a.name
+pub record IsAttr (version : ℕ) (a : Attr) : Type 0 where
+  pub name : IsName version a.name
   pub whole : length a.raw ≡ (length a.raw / width a.kind) * width a.kind
-  pub fits : length a.raw / width a.kind < 2 ^ 32
+  pub fits : Fits version (length a.raw / width a.kind)
 
-pub record AreAttrs (attrs : List Attr) : Type 0 where
-  pub each : AllByRecursion IsAttr attrs
+pub record AreAttrs (version : ℕ) (attrs : List Attr) : Type 0 where
+  pub each : AllByRecursion (IsAttr version) attrs
   pub distinct : are_distinct (attr_names attrs) ≡ true
-  pub fits : length attrs < 2 ^ 32
+  pub fits : Fits version (length attrs)
 
-pub record IsDim (d : CdfDim) : Type 0 where
-  pub name : IsName d.name
-  pub fits : d.len < 2 ^ 32
+pub record IsDim (version : ℕ) (d : CdfDim) : Type 0 where
+  pub name : IsName version d.name
+  pub fits : Fits version d.len
 
 -- a variable's values are as many bytes as its shape, the records and its type say
 pub record IsVar (f : CdfFile) (v : CdfVar) : Type 0 where
-  pub name : IsName v.name
+  pub name : IsName f.version v.name
   pub dims : AllByRecursion (λ i. i < length f.dims) v.dims
-  pub rank_fits : length v.dims < 2 ^ 32
-  pub attrs : AreAttrs v.attrs
+  pub rank_fits : Fits f.version (length v.dims)
+  pub attrs : AreAttrs f.version v.attrs
   pub raw : length v.raw ≡ size (shape_of f.dims f.numrecs v.dims) * width v.kind
 
--- the parts of a file fit together, and its counts, lengths and numbers fit the version's fields
+-- the parts of a file fit together, and its counts, lengths and numbers fit the version's fields; the number of records
+-- doesn't have all bits set
 pub record IsFile (f : CdfFile) : Type 0 where
   pub known : is_version f.version ≡ true
-  pub numrecs : f.numrecs < streaming
-  pub dims : AllByRecursion IsDim f.dims
+  pub numrecs : f.numrecs < most_count f.version
+  pub dims : AllByRecursion (IsDim f.version) f.dims
   pub dims_distinct : are_distinct (dim_names f.dims) ≡ true
-  pub dims_fit : length f.dims < 2 ^ 32
-  pub attrs : AreAttrs f.attrs
+  pub dims_fit : Fits f.version (length f.dims)
+  pub attrs : AreAttrs f.version f.attrs
   pub vars : AllByRecursion (IsVar f) f.vars
   pub vars_distinct : are_distinct (map (λ (v : CdfVar). v.name) f.vars) ≡ true
-  pub vars_fit : length f.vars < 2 ^ 32
+  pub vars_fit : Fits f.version (length f.vars)
 
--- the version can hold it: one record dimension at most, and it stands first only
+-- the version can hold it: it has each type, and there is one record dimension at most, which stands first only
 abbrev pub count_record_dims : List CdfDim → ℕ
 count_record_dims dims = length (filter is_record_dim dims)
 
@@ -174,8 +193,14 @@ abbrev pub in_place : List CdfDim → List ℕ → Bool
 in_place dims [] = true
 in_place dims (i ∷ ids) = list_all (λ j. not (is_record_dim (dim_at dims j))) ids
 
+abbrev pub has_types : ℕ → List Attr → Bool
+has_types version attrs = list_all (λ (a : Attr). has_type version a.kind) attrs
+
+abbrev pub can_hold_var : CdfFile → CdfVar → Bool
+can_hold_var f v = has_type f.version v.kind && has_types f.version v.attrs && in_place f.dims v.dims
+
 abbrev pub can_hold : CdfFile → Bool
-can_hold f = nat_le (count_record_dims f.dims) 1 && list_all (λ (v : CdfVar). in_place f.dims v.dims) f.vars
+can_hold f = nat_le (count_record_dims f.dims) 1 && has_types f.version f.attrs && list_all (can_hold_var f) f.vars
 
 -- neither the file nor a record is larger than a file may be
 abbrev pub is_small : CdfFile → Bool

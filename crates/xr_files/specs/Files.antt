@@ -22,7 +22,7 @@ abbrev pub magic : ℕ → List ℕ
 magic version = 67 ∷ 68 ∷ 70 ∷ version ∷ []
 
 abbrev pub is_version : ℕ → Bool
-is_version version = version == 1 || version == 2
+is_version version = version == 1 || version == 2 || version == 5
 
 -- ---- shapes and sizes
 
@@ -62,10 +62,6 @@ recsize h = sizes_together (map (head_size h.dims) (record_vars h.dims h.vars))
 
 -- ---- records
 
--- the number that marks a file whose records nobody counted
-abbrev pub streaming : ℕ
-streaming = 4294967295
-
 -- so many records of a variable lie in a file of so many bytes
 abbrev pub RecordsLie : Header → ℕ → ℕ → VarHead → Type 0
 RecordsLie h bytes r v = 0 < r → v.begin + (r - 1) * recsize h + head_size h.dims v ≤ bytes
@@ -81,7 +77,7 @@ least (n ∷ ns) = if nat_lt n (least ns) then n else least ns
 
 -- the number of records: the counted one, or of a streamed file the greatest whose records all lie in it
 abbrev pub records_of : Header → ℕ → ℕ
-records_of h bytes = if h.numrecs == streaming then least (map (records_in h bytes) (record_vars h.dims h.vars)) else h.numrecs
+records_of h bytes = elim h.numrecs [ None ↦ least (map (records_in h bytes) (record_vars h.dims h.vars)) | Some n ↦ n ]
 
 -- ---- values
 
@@ -137,7 +133,8 @@ pub data Meets (bytes : List ℕ) : CdfKind → ℕ → Type 0 where
 -- ---- the same as one function: the file that the bytes spell, or the fault that the walk meets first
 
 abbrev pub version_in : List ℕ → Option ℕ
-version_in bytes = if bytes_eq (take 4 bytes) (magic 1) then Some 1 else if bytes_eq (take 4 bytes) (magic 2) then Some 2 else None
+version_in bytes =
+    if bytes_eq (take 4 bytes) (magic 1) then Some 1 else if bytes_eq (take 4 bytes) (magic 2) then Some 2 else if bytes_eq (take 4 bytes) (magic 5) then Some 5 else None
 
 abbrev pub filed : ℕ → List ℕ → Result (Header × List ℕ) Stop → Result CdfFile (CdfKind × ℕ)
 filed v bytes (Err s) = Err (s.kind, length bytes - s.left)
