@@ -75,8 +75,8 @@ length_present ((p, None) ∷ cs) = omega (arith, length_present cs)
 length_present ((p, Some x) ∷ cs) = omega (arith, length_present cs)
 
 pub fold_in_kind : (k : FoldKind) (t : DType) (cs : List (ℕ × Option ℤ)) → AreCells t cs → length cs ≤ 2 ^ 62 → IsCell (folded_kind k t) (fold_of k t cs)
-fold_in_kind Sum t cs h few = (wrapped_is Int64 (sum_of (numbers (present cs)))).in_range
-fold_in_kind Prod t cs h few = (wrapped_is Int64 (product_of (numbers (present cs)))).in_range
+fold_in_kind Sum t cs h few = (wrapped_is (folded_kind Sum t) (sum_of (numbers (present cs)))).in_range
+fold_in_kind Prod t cs h few = (wrapped_is (folded_kind Prod t) (product_of (numbers (present cs)))).in_range
 fold_in_kind Min t cs h few = least_in t (present cs) (present_numbers t cs h)
 fold_in_kind Max t cs h few = greatest_in t (present cs) (present_numbers t cs h)
 fold_in_kind First t cs h few = first_in t (present cs) (present_numbers t cs h)

@@ -1,21 +1,22 @@
 -- Folds of nothing, of one cell, and of two lists one after the other.
-use Rattle.std.proofs.Common.{◌≡◌, ◌≢◌, ◌+◌, ℕ, ℤ, pos, ◌+ℤ◌, ◌*ℤ◌, ◌*◌, ◌<ℤ◌, int_le, Bool, true, false, cond, ◌||◌, ◌&&◌, List, [], ◌∷◌, ◌++◌, find, slice_get, Option, Some, None, option_map, option_and_then, MatchOption, ◌⊎◌, inl, inr, length-append, arith, ap, refl, sym, ◌∙◌}
+use Rattle.std.proofs.Common.{◌≡◌, ◌≢◌, ◌+◌, ℕ, ℤ, pos, ◌+ℤ◌, ◌*ℤ◌, ◌*◌, ◌<ℤ◌, int_le, Bool, true, false, cond, ◌||◌, ◌&&◌, List, [], ◌∷◌, ◌++◌, find, slice_get, Option, Some, None, option_map, option_and_then, MatchOption, ◌⊎◌, inl, inr, if◌then◌else◌, ◌%◌, length-append, arith, ap, refl, sym, ◌∙◌}
 use borrow.Author.Differences.{up, down, same_in, product_is}
 use Rattle.std.proofs.lemmas.Bool.{cases_Bool}
 use Rattle.std.proofs.lemmas.Bool.Decides.{Decides-int_eq}
-use Rattle.std.specs.Int.{int_wrap, int_min, int_max, w64}
+use Rattle.std.specs.Int.{int_wrap, int_rem_euclid, cast_unsigned, int_min, int_max, w64}
 use Rattle.std.specs.Ordering.{int_eq}
 use Rattle.std.specs.Option.{option_or}
 use Rattle.std.specs.List.{last_or, list_any, list_all}
-use Rattle.std.proofs.lemmas.Int.{ints, clamps, int_wrap-add_left, int_wrap-add_right, int_wrap-mul_left, int_wrap-mul_right}
+use Rattle.std.proofs.lemmas.Int.{ints, clamps, int_wrap-add_left, int_wrap-add_right, int_wrap-mul_left, int_wrap-mul_right, of_z-to_z}
 use Rattle.std.proofs.lemmas.List.Folds.{find-append, list_any-append, list_all-append}
 use Rattle.std.proofs.lemmas.Int.{by_lt_z}
 use Rattle.std.proofs.lemmas.List.{append-nil}
-use Rattle.xr_types.specs.Kinds.{wrap_to}
+use Rattle.xr_types.specs.Kinds.{wrap_to, is_unsigned}
 use Rattle.xr_types.specs.declared.kind.DType.{DType}
-use Rattle.xr_types.specs.declared.kind.DType.TheVariants.{Int64}
+use Rattle.xr_types.specs.declared.kind.DType.TheVariants.{Int64, UInt64}
 use Rattle.xr_types.specs.declared.operation.FoldKind.TheVariants.{Sum, Prod, Min, Max, First, Last, ArgMin, ArgMax, Count, Any, All}
-use Rattle.xr_arrays.specs.Folds.{present, numbers, sum_of, product_of, of_both, least, greatest, first_place, truth, is_nonzero, fold_of}
+use Rattle.xr_arrays.specs.Folds.{present, numbers, sum_of, product_of, of_both, least, greatest, first_place, truth, is_nonzero, fold_of, total_kind}
+use Rattle.xr_types.proofs.Wrapping.{splits}
 
 -- ---- the present cells
 
@@ -271,21 +272,48 @@ greatest_place-joined a b (Some m) (Some n) e f =
 
 -- ---- folds of two lists, one after the other
 
-pub sum-append : (t : DType) (a b : List (ℕ × Option ℤ)) → fold_of Sum t (a ++ b) ≡ of_both (λ x y. wrap_to Int64 (x +ℤ y)) (fold_of Sum t a) (fold_of Sum t b)
-sum-append t a b =
-    let x = sum_of (numbers (present a)) in
-    let y = sum_of (numbers (present b)) in
-    let again : int_wrap w64 (x +ℤ y) ≡ int_wrap w64 (int_wrap w64 x +ℤ int_wrap w64 y) =
-    sym (int_wrap-add_left w64 x y) ∙ sym (int_wrap-add_right w64 (int_wrap w64 x) y) in
-    rw (present-append a b, numbers-append (present a) (present b), sum_of-append (numbers (present a)) (numbers (present b))) (ap Some again)
+-- what is left of a number modulo 2^64, and its bits with a sign
+abbrev rest : ℤ → ℤ
+rest n = int_rem_euclid n (pos 18446744073709551616)
 
-pub prod-append : (t : DType) (a b : List (ℕ × Option ℤ)) → fold_of Prod t (a ++ b) ≡ of_both (λ x y. wrap_to Int64 (x *ℤ y)) (fold_of Prod t a) (fold_of Prod t b)
+signed_rest : (n : ℤ) → int_wrap w64 (rest n) ≡ int_wrap w64 n
+unfolding int_wrap
+signed_rest n =
+    let s = splits n 18446744073709551616 (omega arith) in
+    let again : s.rest % 18446744073709551616 ≡ s.rest = omega (arith, s.small) in
+    rw (s.is_rest, again) refl
+
+rest_is : (n : ℤ) → rest n ≡ pos (cast_unsigned w64 (int_wrap w64 n))
+unfolding int_wrap
+rest_is n =
+    let s = splits n 18446744073709551616 (omega arith) in
+    rw s.is_rest (ap pos (sym (of_z-to_z w64 s.rest s.small)))
+
+-- an operation that agrees with signed bits agrees with what is left modulo 2^64
+rest_of_both : (f : ℤ → ℤ → ℤ) → ((x y : ℤ) → int_wrap w64 (f x y) ≡ int_wrap w64 (f (int_wrap w64 x) (int_wrap w64 y))) → (x y : ℤ) → rest (f x y) ≡ rest (f (rest x) (rest y))
+rest_of_both f agrees x y =
+    let both : int_wrap w64 (f x y) ≡ int_wrap w64 (f (rest x) (rest y)) =
+    agrees x y ∙ (λ i. int_wrap w64 (f (sym (signed_rest x) i) (sym (signed_rest y) i))) ∙ sym (agrees (rest x) (rest y)) in
+    rest_is (f x y) ∙ ap (λ n. pos (cast_unsigned w64 n)) both ∙ sym (rest_is (f (rest x) (rest y)))
+
+signed_add : (x y : ℤ) → int_wrap w64 (x +ℤ y) ≡ int_wrap w64 (int_wrap w64 x +ℤ int_wrap w64 y)
+signed_add x y = sym (int_wrap-add_left w64 x y) ∙ sym (int_wrap-add_right w64 (int_wrap w64 x) y)
+
+signed_mul : (x y : ℤ) → int_wrap w64 (x *ℤ y) ≡ int_wrap w64 (int_wrap w64 x *ℤ int_wrap w64 y)
+signed_mul x y = sym (int_wrap-mul_left w64 x y) ∙ sym (int_wrap-mul_right w64 (int_wrap w64 x) y)
+
+-- to wrap the parts changes nothing
+pub total_of_both : (f : ℤ → ℤ → ℤ) → ((x y : ℤ) → int_wrap w64 (f x y) ≡ int_wrap w64 (f (int_wrap w64 x) (int_wrap w64 y))) → (t : DType) (x y : ℤ) → wrap_to (total_kind t) (f x y) ≡ wrap_to (total_kind t) (f (wrap_to (total_kind t) x) (wrap_to (total_kind t) y))
+total_of_both f agrees t x y =
+    elim (is_unsigned t) as (λ u. let k : DType = if u then UInt64 else Int64 in wrap_to k (f x y) ≡ wrap_to k (f (wrap_to k x) (wrap_to k y))) [ true ↦ rest_of_both f agrees x y | false ↦ agrees x y ]
+
+pub sum-append : (t : DType) (a b : List (ℕ × Option ℤ)) → fold_of Sum t (a ++ b) ≡ of_both (λ x y. wrap_to (total_kind t) (x +ℤ y)) (fold_of Sum t a) (fold_of Sum t b)
+sum-append t a b =
+    rw (present-append a b, numbers-append (present a) (present b), sum_of-append (numbers (present a)) (numbers (present b))) (ap Some (total_of_both ◌+ℤ◌ signed_add t (sum_of (numbers (present a))) (sum_of (numbers (present b)))))
+
+pub prod-append : (t : DType) (a b : List (ℕ × Option ℤ)) → fold_of Prod t (a ++ b) ≡ of_both (λ x y. wrap_to (total_kind t) (x *ℤ y)) (fold_of Prod t a) (fold_of Prod t b)
 prod-append t a b =
-    let x = product_of (numbers (present a)) in
-    let y = product_of (numbers (present b)) in
-    let again : int_wrap w64 (x *ℤ y) ≡ int_wrap w64 (int_wrap w64 x *ℤ int_wrap w64 y) =
-    sym (int_wrap-mul_left w64 x y) ∙ sym (int_wrap-mul_right w64 (int_wrap w64 x) y) in
-    rw (present-append a b, numbers-append (present a) (present b), product_of-append (numbers (present a)) (numbers (present b))) (ap Some again)
+    rw (present-append a b, numbers-append (present a) (present b), product_of-append (numbers (present a)) (numbers (present b))) (ap Some (total_of_both ◌*ℤ◌ signed_mul t (product_of (numbers (present a))) (product_of (numbers (present b)))))
 
 pub min-append : (t : DType) (a b : List (ℕ × Option ℤ)) → fold_of Min t (a ++ b) ≡ of_both int_min (fold_of Min t a) (fold_of Min t b)
 min-append t a b = rw (present-append a b, numbers-append (present a) (present b)) (least-append (numbers (present a)) (numbers (present b)))
@@ -334,10 +362,10 @@ all-append t a b =
 
 -- ---- folds of one present cell
 
-pub sum_one : (t : DType) (p : ℕ) (x : ℤ) → fold_of Sum t ((p, Some x) ∷ []) ≡ Some (wrap_to Int64 x)
+pub sum_one : (t : DType) (p : ℕ) (x : ℤ) → fold_of Sum t ((p, Some x) ∷ []) ≡ Some (wrap_to (total_kind t) x)
 sum_one t p x = let e : x +ℤ pos 0 ≡ x = omega (arith, ints) in rw e refl
 
-pub prod_one : (t : DType) (p : ℕ) (x : ℤ) → fold_of Prod t ((p, Some x) ∷ []) ≡ Some (wrap_to Int64 x)
+pub prod_one : (t : DType) (p : ℕ) (x : ℤ) → fold_of Prod t ((p, Some x) ∷ []) ≡ Some (wrap_to (total_kind t) x)
 prod_one t p x = let e : x *ℤ pos 1 ≡ x = omega (arith, ints) in rw e refl
 
 pub argmin_one : (t : DType) (p : ℕ) (x : ℤ) → fold_of ArgMin t ((p, Some x) ∷ []) ≡ Some (pos p)
@@ -356,8 +384,8 @@ all_one t p x = elim (is_nonzero x) as (λ v. Some (truth (v && true)) ≡ Some 
 
 pub sum_none : (t : DType) → fold_of Sum t [] ≡ Some (pos 0)
 unfolding int_wrap
-sum_none t = refl
+sum_none t = elim (is_unsigned t) as (λ u. Some (wrap_to (if u then UInt64 else Int64) (pos 0)) ≡ Some (pos 0)) [ true ↦ refl | false ↦ refl ]
 
 pub prod_none : (t : DType) → fold_of Prod t [] ≡ Some (pos 1)
 unfolding int_wrap
-prod_none t = refl
+prod_none t = elim (is_unsigned t) as (λ u. Some (wrap_to (if u then UInt64 else Int64) (pos 1)) ≡ Some (pos 1)) [ true ↦ refl | false ↦ refl ]

@@ -5,7 +5,7 @@ use Rattle.xr_types.specs.declared.kind.DType.{DType}
 use Rattle.xr_types.specs.declared.kind.DType.TheVariants as kinds
 use Rattle.xr_types.specs.Points.{size, tab, place}
 use Rattle.xr_arrays.specs.declared.typed.Cells.{Cells}
-use Rattle.xr_arrays.specs.declared.typed.Cells.TheVariants.{Bool, Char, Int8, Int16, Int32, Int64}
+use Rattle.xr_arrays.specs.declared.typed.Cells.TheVariants.{Bool, Char, Int8, Int16, Int32, Int64, UInt8, UInt16, UInt32, UInt64}
 
 -- a kind, a shape, and for each point in row order a number or a hole, which is a missing cell
 pub record Array : Type 0 where
@@ -39,6 +39,10 @@ kind_of (Int8 v) = kinds.Int8
 kind_of (Int16 v) = kinds.Int16
 kind_of (Int32 v) = kinds.Int32
 kind_of (Int64 v) = kinds.Int64
+kind_of (UInt8 v) = kinds.UInt8
+kind_of (UInt16 v) = kinds.UInt16
+kind_of (UInt32 v) = kinds.UInt32
+kind_of (UInt64 v) = kinds.UInt64
 
 -- the numbers that the cells hold
 abbrev pub wide : Cells → List ℤ
@@ -48,6 +52,10 @@ wide (Int8 v) = v
 wide (Int16 v) = v
 wide (Int32 v) = v
 wide (Int64 v) = v
+wide (UInt8 v) = map pos v
+wide (UInt16 v) = map pos v
+wide (UInt32 v) = map pos v
+wide (UInt64 v) = map pos v
 
 -- truth values are 0 and 1; the other cells are in the range of their kind by their type
 abbrev pub InKind : Cells → Type 0

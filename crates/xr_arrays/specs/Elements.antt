@@ -38,6 +38,10 @@ bits_of kinds.Int8 n = cast_unsigned w8 n
 bits_of kinds.Int16 n = cast_unsigned w16 n
 bits_of kinds.Int32 n = cast_unsigned w32 n
 bits_of kinds.Int64 n = cast_unsigned w64 n
+bits_of kinds.UInt8 n = unsigned_abs n
+bits_of kinds.UInt16 n = unsigned_abs n
+bits_of kinds.UInt32 n = unsigned_abs n
+bits_of kinds.UInt64 n = unsigned_abs n
 
 -- the number of a kind with these bits
 abbrev pub of_bits : DType → ℕ → ℤ
@@ -47,6 +51,10 @@ of_bits kinds.Int8 n = cast_signed w8 n
 of_bits kinds.Int16 n = cast_signed w16 n
 of_bits kinds.Int32 n = cast_signed w32 n
 of_bits kinds.Int64 n = cast_signed w64 n
+of_bits kinds.UInt8 n = pos n
+of_bits kinds.UInt16 n = pos n
+of_bits kinds.UInt32 n = pos n
+of_bits kinds.UInt64 n = pos n
 
 abbrev pub bitwise : (ℕ → ℕ → ℕ) → DType → ℤ → ℤ → ℤ
 bitwise f t x y = of_bits t (f (bits_of t x) (bits_of t y))
@@ -59,6 +67,10 @@ cast_to kinds.Int8 n = wrap_to kinds.Int8 n
 cast_to kinds.Int16 n = wrap_to kinds.Int16 n
 cast_to kinds.Int32 n = wrap_to kinds.Int32 n
 cast_to kinds.Int64 n = wrap_to kinds.Int64 n
+cast_to kinds.UInt8 n = wrap_to kinds.UInt8 n
+cast_to kinds.UInt16 n = wrap_to kinds.UInt16 n
+cast_to kinds.UInt32 n = wrap_to kinds.UInt32 n
+cast_to kinds.UInt64 n = wrap_to kinds.UInt64 n
 
 -- ---- cells
 

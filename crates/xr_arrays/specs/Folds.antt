@@ -1,14 +1,18 @@
 -- Folds of cells to one cell, missing ones left out (NumPy, "Mathematical functions", "Sorting, searching, and
 -- counting" and "Logic functions"; numpy.ma for missing cells). The cells stand in ascending order of their positions.
-use Rattle.std.specs.Prelude.{◌+◌, ℕ, ℤ, pos, ◌+ℤ◌, ◌*ℤ◌, Bool, not, cond, List, [], ◌∷◌, length, map, find, slice_get, Option, Some, None, option_map, option_and_then}
+use Rattle.std.specs.Prelude.{if◌then◌else◌, ◌+◌, ℕ, ℤ, pos, ◌+ℤ◌, ◌*ℤ◌, Bool, not, cond, List, [], ◌∷◌, length, map, find, slice_get, Option, Some, None, option_map, option_and_then}
 use Rattle.std.specs.Int.{int_min, int_max}
 use Rattle.std.specs.Ordering.{int_eq}
 use Rattle.std.specs.List.{last_or, list_any, list_all}
-use Rattle.xr_types.specs.Kinds.{wrap_to}
+use Rattle.xr_types.specs.Kinds.{wrap_to, is_unsigned}
 use Rattle.xr_types.specs.declared.kind.DType.{DType}
 use Rattle.xr_types.specs.declared.kind.DType.TheVariants as kinds
 use Rattle.xr_types.specs.declared.operation.FoldKind.{FoldKind}
 use Rattle.xr_types.specs.declared.operation.FoldKind.TheVariants.{Sum, Prod, Min, Max, First, Last, ArgMin, ArgMax, Count, Any, All}
+
+-- the kind of sums and products of numbers of a kind
+abbrev pub total_kind : DType → DType
+total_kind t = if is_unsigned t then kinds.UInt64 else kinds.Int64
 
 -- the kind of a fold of cells of a kind
 abbrev pub folded_kind : FoldKind → DType → DType
@@ -18,7 +22,11 @@ folded_kind First t = t
 folded_kind Last t = t
 folded_kind Any t = kinds.Bool
 folded_kind All t = kinds.Bool
-folded_kind k t = kinds.Int64
+folded_kind Sum t = total_kind t
+folded_kind Prod t = total_kind t
+folded_kind ArgMin t = kinds.Int64
+folded_kind ArgMax t = kinds.Int64
+folded_kind Count t = kinds.Int64
 
 -- the present cells, each a position and a number
 abbrev pub present : List (ℕ × Option ℤ) → List (ℕ × ℤ)

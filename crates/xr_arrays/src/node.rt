@@ -1,7 +1,6 @@
 //! Nodes of a plan: how an array comes from earlier ones.
 use crate::array::ArrayValue;
-use xr_types::FoldKind;
-use xr_types::{Items, NodeId, Shape};
+use xr_types::{FoldKind, Items, NodeId, Shape};
 
 /// The position of the input that each position of a result shows. Where there is none, it shows the fill.
 pub type Sources = Items<Option<u32>>;

@@ -15,7 +15,7 @@ pub struct StoredArray {
     shape: Items<u64>,
     kind: NcType,
     bytes: Bytes,
-    fills: Items<i64>,
+    fills: Items<i128>,
 }
 
 impl Model for StoredArray {
@@ -34,12 +34,12 @@ impl Model for StoredArray {
 pub struct StoredParts<'a> {
     pub kind: NcType,
     pub bytes: &'a Bytes,
-    pub fills: &'a [i64],
+    pub fills: &'a [i128],
 }
 
 impl StoredArray {
     /// The array of these bytes: a value for each point of the shape.
-    pub fn of(shape: Items<u64>, kind: NcType, bytes: Bytes, fills: Items<i64>) -> StoredArray
+    pub fn of(shape: Items<u64>, kind: NcType, bytes: Bytes, fills: Items<i128>) -> StoredArray
         requires { IsStored shape kind bytes }
         ensures { result ≡ stored_array shape kind bytes fills }
     {
@@ -59,6 +59,11 @@ impl StoredArray {
             NcType::Char => DType::Char,
             NcType::Short => DType::Int16,
             NcType::Int | NcType::Float | NcType::Double => DType::Int32,
+            NcType::UByte => DType::UInt8,
+            NcType::UShort => DType::UInt16,
+            NcType::UInt => DType::UInt32,
+            NcType::Int64 => DType::Int64,
+            NcType::UInt64 => DType::UInt64,
         }
     }
 

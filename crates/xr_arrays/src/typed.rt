@@ -16,6 +16,10 @@ pub enum Cells {
     Int16(Items<i16>),
     Int32(Items<i32>),
     Int64(Items<i64>),
+    UInt8(Items<u8>),
+    UInt16(Items<u16>),
+    UInt32(Items<u32>),
+    UInt64(Items<u64>),
 }
 
 /// An array with its cells at the width of their kind. Where it has a mask, the mask has a byte for each cell, and 0 marks a
@@ -58,6 +62,10 @@ impl TypedArray {
             Cells::Int16(_) => DType::Int16,
             Cells::Int32(_) => DType::Int32,
             Cells::Int64(_) => DType::Int64,
+            Cells::UInt8(_) => DType::UInt8,
+            Cells::UInt16(_) => DType::UInt16,
+            Cells::UInt32(_) => DType::UInt32,
+            Cells::UInt64(_) => DType::UInt64,
         }
     }
 
@@ -105,5 +113,9 @@ fn copy_cells(alloc: Global, cells: &Cells) -> Result<Cells, AllocError>
         Cells::Int16(v) => Cells::Int16(Items::from_slice(alloc, v.as_slice())?),
         Cells::Int32(v) => Cells::Int32(Items::from_slice(alloc, v.as_slice())?),
         Cells::Int64(v) => Cells::Int64(Items::from_slice(alloc, v.as_slice())?),
+        Cells::UInt8(v) => Cells::UInt8(Items::from_slice(alloc, v.as_slice())?),
+        Cells::UInt16(v) => Cells::UInt16(Items::from_slice(alloc, v.as_slice())?),
+        Cells::UInt32(v) => Cells::UInt32(Items::from_slice(alloc, v.as_slice())?),
+        Cells::UInt64(v) => Cells::UInt64(Items::from_slice(alloc, v.as_slice())?),
     })
 }
