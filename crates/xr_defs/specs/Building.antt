@@ -13,6 +13,7 @@ use Rattle.xr_types.specs.declared.kind.DType.{DType}
 use Rattle.xr_types.specs.declared.kind.DType.TheVariants as kinds
 use Rattle.xr_defs.specs.declared.value.Content.TheVariants as contents
 use Rattle.xr_defs.specs.declared.value.Coord.{Coord}
+use Rattle.xr_types.specs.Kinds.{in_range}
 use Rattle.xr_types.specs.Results.{◌>>=◌, unless, all_of}
 use Rattle.xr_types.specs.Names.{among}
 use Rattle.xr_types.specs.Names.{are_distinct}
@@ -21,7 +22,6 @@ use Rattle.xr_arrays.specs.Labels.{labels_of}
 use Rattle.xr_types.specs.Names.{axis_names}
 use Rattle.xr_defs.specs.Values.{DataArray, Dataset, Variable, array_of, axis_position, present}
 use Rattle.xr_defs.specs.Limits.{most_dimensions}
-use Rattle.xr_defs.specs.Encoding.{may_fill}
 use Rattle.xr_defs.specs.Selecting.{axis_called, check_array, check_set}
 use Rattle.xr_defs.specs.Parts.{new_name, texts_in}
 use Rattle.xr_defs.specs.Meanings.{Value, Values, Entries, Absent, Missing, Truth, Number, Text, Sequence, Table, Array, NoValue, With, NoEntry, Entry, Given}
@@ -80,7 +80,14 @@ as_labels vs =
 abbrev pub is_integer_kind : DType → Bool
 is_integer_kind kinds.Bool = false
 is_integer_kind kinds.Char = false
-is_integer_kind t = true
+is_integer_kind kinds.Int8 = true
+is_integer_kind kinds.Int16 = true
+is_integer_kind kinds.Int32 = true
+is_integer_kind kinds.Int64 = true
+is_integer_kind kinds.UInt8 = true
+is_integer_kind kinds.UInt16 = true
+is_integer_kind kinds.UInt32 = true
+is_integer_kind kinds.UInt64 = true
 
 abbrev pub is_dimension : List Axis → List ℕ → Bool
 is_dimension axes name = is_some (axis_position name axes)
@@ -179,8 +186,8 @@ with_entries variables f (kv ∷ kvs) = with_entry variables f kv >>= λ g. with
 
 -- each whole number is one of kind int64
 unfoldable pub check_numbers : List ℕ × Value → Result (Unit {0}) Fault
-check_numbers (name, Number n) = unless (may_fill kinds.Int64 n) DoesNotFit
-check_numbers (name, Sequence vs) = unless (list_all (may_fill kinds.Int64) (numbers_in vs)) DoesNotFit
+check_numbers (name, Number n) = unless (in_range kinds.Int64 n) DoesNotFit
+check_numbers (name, Sequence vs) = unless (list_all (in_range kinds.Int64) (numbers_in vs)) DoesNotFit
 check_numbers kv = Ok tt
 
 unfoldable pub entries_assigned : List (List ℕ) → Frame → List (List ℕ × Value) → Result Frame Fault
@@ -271,7 +278,8 @@ is_regular ns v = true
 
 abbrev pub kinds_named : List (List ℕ × DType)
 kinds_named =
-    (codes "bool", kinds.Bool) ∷ (codes "int8", kinds.Int8) ∷ (codes "int16", kinds.Int16) ∷ (codes "int32", kinds.Int32) ∷ (codes "int64", kinds.Int64) ∷ []
+    (codes "bool", kinds.Bool) ∷ (codes "int8", kinds.Int8) ∷ (codes "int16", kinds.Int16) ∷ (codes "int32", kinds.Int32) ∷ (codes "int64", kinds.Int64)
+    ∷ (codes "uint8", kinds.UInt8) ∷ (codes "uint16", kinds.UInt16) ∷ (codes "uint32", kinds.UInt32) ∷ (codes "uint64", kinds.UInt64) ∷ []
 
 abbrev pub kind_named : List ℕ → List (List ℕ × DType) → Option DType
 kind_named t [] = None
@@ -290,7 +298,15 @@ kind_for vs (Some k) = k
 
 abbrev pub suits : DType → List Value → Bool
 suits kinds.Bool vs = list_all is_truth_cell vs
-suits k vs = list_all is_whole_cell vs
+suits kinds.Char vs = list_all is_whole_cell vs
+suits kinds.Int8 vs = list_all is_whole_cell vs
+suits kinds.Int16 vs = list_all is_whole_cell vs
+suits kinds.Int32 vs = list_all is_whole_cell vs
+suits kinds.Int64 vs = list_all is_whole_cell vs
+suits kinds.UInt8 vs = list_all is_whole_cell vs
+suits kinds.UInt16 vs = list_all is_whole_cell vs
+suits kinds.UInt32 vs = list_all is_whole_cell vs
+suits kinds.UInt64 vs = list_all is_whole_cell vs
 
 abbrev pub truth_number : Bool → ℤ
 truth_number true = pos 1
@@ -303,7 +319,7 @@ element_cell v = None
 
 abbrev pub fits_kind : DType → Option ℤ → Bool
 fits_kind k None = true
-fits_kind k (Some n) = may_fill k n
+fits_kind k (Some n) = in_range k n
 
 abbrev pub entries_in : Entries → List (List ℕ × Value)
 entries_in NoEntry = []

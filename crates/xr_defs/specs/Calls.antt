@@ -121,14 +121,18 @@ unfoldable pub method_called : Value → List ℕ → Given → Result Value Fau
 method_called v name g =
     if bytes_eq name (codes "assign_coords") then of_both (λ a. assigned_to_array a g) (λ s. assigned_to_set s g) v else uncomputed_method v name g
 
--- ---- to_netcdf(name, format="NETCDF3_CLASSIC", fill_value?, unlimited_dims?)
+-- ---- to_netcdf(name, format="NETCDF3_64BIT_DATA", fill_value?, unlimited_dims?)
 
 -- the version of the format
 unfoldable pub format_named : List ℕ → Result ℕ Fault
-format_named t = if bytes_eq t (codes "NETCDF3_CLASSIC") then Ok 1 else if bytes_eq t (codes "NETCDF3_64BIT") then Ok 2 else unfit
+format_named t =
+    if bytes_eq t (codes "NETCDF3_CLASSIC") then Ok 1
+    else if bytes_eq t (codes "NETCDF3_64BIT") then Ok 2
+    else if bytes_eq t (codes "NETCDF3_64BIT_DATA") then Ok 5
+    else unfit
 
 unfoldable pub format_given : Option Value → Result ℕ Fault
-format_given None = Ok 1
+format_given None = Ok 5
 format_given (Some v) = as_text v >>= λ t. format_named t
 
 unfoldable pub fill_given : Option Value → Result (Option ℤ) Fault

@@ -3,12 +3,12 @@
 use Rattle.std.specs.Prelude.{◌-◌, ◌^◌, ◌==◌, ◌&&◌, ◌||◌, ℕ, ℤ, pos, neg_ℤ, List, [], ◌∷◌, ◌++◌, length, map, drop, filter, filter_map, find, flat_map, fold, replicate, Option, Some, None, is_some, is_none, option_map, unwrap_or, Result, Ok, Bool, true, false, not, if◌then◌else◌, int_le, max, codes}
 use Rattle.std.specs.Str.{bytes_eq}
 use Rattle.std.specs.List.{list_any, list_all, position_or_len, join_with_byte}
-use Rattle.std.specs.Int.{w8, w16, w32, to_be_bytes, cast_unsigned}
+use Rattle.std.specs.Int.{w8, w16, w32, w64, to_be_bytes, cast_unsigned}
 use Rattle.xr_types.specs.declared.fault.Fault.{Fault}
 use Rattle.xr_types.specs.declared.fault.Fault.TheVariants.{NoDimension, DuplicateName, CannotHold, NoFill, DoesNotFit, FillCollides, TooLarge}
 use Rattle.xr_types.specs.declared.attr.Attr.{Attr}
 use Rattle.xr_types.specs.declared.attr.NcType.{NcType}
-use Rattle.xr_types.specs.declared.attr.NcType.TheVariants.{Byte, Char, Short, Int, Float, Double}
+use Rattle.xr_types.specs.declared.attr.NcType.TheVariants.{Byte, Char, Short, Int, Float, Double, UByte, UShort, UInt, Int64, UInt64}
 use Rattle.xr_types.specs.declared.axis.Axis.{Axis}
 use Rattle.xr_types.specs.declared.axis.Labels.{Labels}
 use Rattle.xr_types.specs.declared.axis.LabelList.{LabelList}
@@ -22,6 +22,7 @@ use Rattle.xr_defs.specs.declared.value.Content.{Content}
 use Rattle.xr_defs.specs.declared.value.Content.TheVariants as contents
 use Rattle.xr_defs.specs.declared.value.Coord.{Coord}
 use Rattle.xr_defs.specs.declared.write_options.WriteOptions.{WriteOptions}
+use Rattle.xr_types.specs.Kinds.{in_range}
 use Rattle.xr_types.specs.Results.{◌>>=◌, unless, all_of}
 use Rattle.xr_types.specs.Names.{among}
 use Rattle.xr_files.specs.Canonical.{is_small}
@@ -33,38 +34,79 @@ use Rattle.xr_defs.specs.Printing.{by_name}
 
 -- ---- types
 
--- the type in which a kind is written
-abbrev pub type_of : DType → NcType
-type_of kinds.Bool = Byte
-type_of kinds.Char = Char
-type_of kinds.Int8 = Byte
-type_of kinds.Int16 = Short
-type_of kinds.Int32 = Int
-type_of kinds.Int64 = Int
+-- the type in which versions 1 and 2 write a kind, by its width
+abbrev pub classic_type : DType → NcType
+classic_type kinds.Bool = Byte
+classic_type kinds.Char = Char
+classic_type kinds.Int8 = Byte
+classic_type kinds.Int16 = Short
+classic_type kinds.Int32 = Int
+classic_type kinds.Int64 = Int
+classic_type kinds.UInt8 = Byte
+classic_type kinds.UInt16 = Short
+classic_type kinds.UInt32 = Int
+classic_type kinds.UInt64 = Int
 
-abbrev pub is_between : ℤ → ℤ → ℤ → Bool
-is_between low high n = int_le low n && int_le n high
+-- the type that version 5 has for a kind
+abbrev pub own_type : DType → NcType
+own_type kinds.Bool = Byte
+own_type kinds.Char = Char
+own_type kinds.Int8 = Byte
+own_type kinds.Int16 = Short
+own_type kinds.Int32 = Int
+own_type kinds.Int64 = Int64
+own_type kinds.UInt8 = UByte
+own_type kinds.UInt16 = UShort
+own_type kinds.UInt32 = UInt
+own_type kinds.UInt64 = UInt64
+
+-- the type in which a version writes a kind
+abbrev pub type_of : ℕ → DType → NcType
+type_of version kind = if version == 5 then own_type kind else classic_type kind
 
 -- a type holds a number
 abbrev pub holds : NcType → ℤ → Bool
-holds Byte n = is_between (neg_ℤ (pos 128)) (pos 127) n
-holds Char n = is_between (pos 0) (pos 255) n
-holds Short n = is_between (neg_ℤ (pos 32768)) (pos 32767) n
-holds Int n = is_between (neg_ℤ (pos 2147483648)) (pos 2147483647) n
+holds Byte n = in_range kinds.Int8 n
+holds Char n = in_range kinds.Char n
+holds Short n = in_range kinds.Int16 n
+holds Int n = in_range kinds.Int32 n
 holds Float n = false
 holds Double n = false
+holds UByte n = in_range kinds.UInt8 n
+holds UShort n = in_range kinds.UInt16 n
+holds UInt n = in_range kinds.UInt32 n
+holds Int64 n = in_range kinds.Int64 n
+holds UInt64 n = in_range kinds.UInt64 n
 
--- a number that may stand for a missing cell of a kind; truth values are written as bytes
+-- the kind whose numbers may stand for missing cells of a kind; truth values are written as bytes
+abbrev pub filling_kind : DType → DType
+filling_kind kinds.Bool = kinds.Int8
+filling_kind kinds.Char = kinds.Char
+filling_kind kinds.Int8 = kinds.Int8
+filling_kind kinds.Int16 = kinds.Int16
+filling_kind kinds.Int32 = kinds.Int32
+filling_kind kinds.Int64 = kinds.Int64
+filling_kind kinds.UInt8 = kinds.UInt8
+filling_kind kinds.UInt16 = kinds.UInt16
+filling_kind kinds.UInt32 = kinds.UInt32
+filling_kind kinds.UInt64 = kinds.UInt64
+
 abbrev pub may_fill : DType → ℤ → Bool
-may_fill kinds.Int64 n = is_between (neg_ℤ (pos (2 ^ 63))) (pos (2 ^ 63 - 1)) n
-may_fill kind n = holds (type_of kind) n
+may_fill kind n = in_range (filling_kind kind) n
 
--- a number as the bytes of a value, big-endian
+-- a number as the bytes of a value, big-endian; fractions aren't written
 abbrev pub value_bytes : NcType → ℤ → List ℕ
 value_bytes Byte n = to_be_bytes w8 (cast_unsigned w8 n)
 value_bytes Char n = to_be_bytes w8 (cast_unsigned w8 n)
 value_bytes Short n = to_be_bytes w16 (cast_unsigned w16 n)
-value_bytes t n = to_be_bytes w32 (cast_unsigned w32 n)
+value_bytes Int n = to_be_bytes w32 (cast_unsigned w32 n)
+value_bytes Float n = []
+value_bytes Double n = []
+value_bytes UByte n = to_be_bytes w8 (cast_unsigned w8 n)
+value_bytes UShort n = to_be_bytes w16 (cast_unsigned w16 n)
+value_bytes UInt n = to_be_bytes w32 (cast_unsigned w32 n)
+value_bytes Int64 n = to_be_bytes w64 (cast_unsigned w64 n)
+value_bytes UInt64 n = to_be_bytes w64 (cast_unsigned w64 n)
 
 -- ---- the variables to be written
 
@@ -187,15 +229,19 @@ uses_option options o = o.masked && is_none (attr_fill o) && is_some options.fil
 abbrev pub text_attr : List ℕ → List ℕ → Attr
 text_attr name text = record { name = name; kind = Char; raw = text }
 
-abbrev pub fill_attr : Stored → ℤ → Attr
-fill_attr o n = record { name = codes "_FillValue"; kind = type_of o.kind; raw = value_bytes (type_of o.kind) n }
+-- the type in which a variable is written
+abbrev pub written_type : WriteOptions → Stored → NcType
+written_type options o = type_of options.version o.kind
+
+abbrev pub fill_attr : WriteOptions → Stored → ℤ → Attr
+fill_attr options o n = record { name = codes "_FillValue"; kind = written_type options o; raw = value_bytes (written_type options o) n }
 
 abbrev pub dtype_added : DType → List Attr
 dtype_added kinds.Bool = text_attr (codes "dtype") (codes "bool") ∷ []
 dtype_added kind = []
 
 abbrev pub fill_added : WriteOptions → Stored → List Attr
-fill_added options o = if uses_option options o then fill_attr o (unwrap_or options.fill (pos 0)) ∷ [] else []
+fill_added options o = if uses_option options o then fill_attr options o (unwrap_or options.fill (pos 0)) ∷ [] else []
 
 abbrev pub coordinates_added : List (List ℕ) → List Attr
 coordinates_added [] = []
@@ -208,11 +254,11 @@ added options o = dtype_added o.kind ++ (fill_added options o ++ coordinates_add
 abbrev pub is_fill_in_use : Stored → Attr → Bool
 is_fill_in_use o a = o.masked && is_attr (codes "_FillValue") a && not (length (own_fill o.attrs) == 0)
 
-abbrev pub own_attr : Stored → Attr → Attr
-own_attr o a = if is_fill_in_use o a then fill_attr o (unwrap_or (attr_fill o) (pos 0)) else a
+abbrev pub own_attr : WriteOptions → Stored → Attr → Attr
+own_attr options o a = if is_fill_in_use o a then fill_attr options o (unwrap_or (attr_fill o) (pos 0)) else a
 
 abbrev pub attrs_of : WriteOptions → Stored → List Attr
-attrs_of options o = map (own_attr o) o.attrs ++ added options o
+attrs_of options o = map (own_attr options o) o.attrs ++ added options o
 
 -- ---- the file
 
@@ -257,8 +303,8 @@ var_of dims options o =
       name = o.name;
       dims = map (number_of_dim dims) o.dims;
       attrs = attrs_of options o;
-      kind = type_of o.kind;
-      raw = flat_map (λ c. value_bytes (type_of o.kind) (number_for options o c)) o.cells;
+      kind = written_type options o;
+      raw = flat_map (λ c. value_bytes (written_type options o) (number_for options o c)) o.cells;
     }
 
 abbrev pub records_of : Dataset → WriteOptions → ℕ
@@ -312,7 +358,7 @@ check_fill options o = unless (not o.masked || is_some (fill_for options o)) NoF
 unfoldable pub check_fit : WriteOptions → Stored → Result (Unit {0}) Fault
 check_fit options o =
     unless (not (uses_option options o) || may_fill o.kind (unwrap_or options.fill (pos 0))) DoesNotFit >>= λ u.
-    unless (not o.masked || holds (type_of o.kind) (unwrap_or (fill_for options o) (pos 0))) CannotHold
+    unless (not o.masked || holds (written_type options o) (unwrap_or (fill_for options o) (pos 0))) CannotHold
 
 -- the type holds each number, and no number that is present reads as missing
 abbrev pub holds_cell : NcType → Option ℤ → Bool
@@ -328,7 +374,7 @@ is_fill_cell fills (Some n) = is_fill fills n
 
 unfoldable pub check_cells : WriteOptions → Stored → Result (Unit {0}) Fault
 check_cells options o =
-    unless (list_all (holds_cell (type_of o.kind)) o.cells) CannotHold >>= λ u.
+    unless (list_all (holds_cell (written_type options o)) o.cells) CannotHold >>= λ u.
     unless (not (o.masked && list_any (is_fill_cell (fills_in_use options o)) o.cells)) FillCollides
 
 -- the file of a dataset, or the first fault

@@ -7,7 +7,7 @@ use Rattle.std.specs.Cmp.Lexicographic.{slice_cmp}
 use Rattle.xr_types.specs.Kinds.{kind_name}
 use Rattle.xr_types.specs.declared.attr.Attr.{Attr}
 use Rattle.xr_types.specs.declared.attr.NcType.{NcType}
-use Rattle.xr_types.specs.declared.attr.NcType.TheVariants.{Byte, Char, Short, Int, Float, Double}
+use Rattle.xr_types.specs.declared.attr.NcType.TheVariants.{Byte, Char, Short, Int, Float, Double, UByte, UShort, UInt, Int64, UInt64}
 use Rattle.xr_types.specs.declared.axis.Axis.{Axis}
 use Rattle.xr_defs.specs.declared.value.Content.{Content}
 use Rattle.xr_defs.specs.declared.value.Content.TheVariants.{Cells, Text, Time}
@@ -86,6 +86,11 @@ type_name Short = codes "short"
 type_name Int = codes "int"
 type_name Float = codes "float"
 type_name Double = codes "double"
+type_name UByte = codes "ubyte"
+type_name UShort = codes "ushort"
+type_name UInt = codes "uint"
+type_name Int64 = codes "int64"
+type_name UInt64 = codes "uint64"
 
 abbrev pub is_text_type : NcType → Bool
 is_text_type Char = true

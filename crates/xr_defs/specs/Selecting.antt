@@ -17,7 +17,7 @@ use Rattle.xr_arrays.specs.Arrays.{Array}
 use Rattle.xr_defs.specs.Slices.{slice_positions}
 use Rattle.xr_types.specs.Names.{shape_over}
 use Rattle.xr_defs.specs.Values.{DataArray, Dataset, Variable, array_of, axis_position, no_axis, chosen_axes, chosen_cells, chosen_coord}
-use Rattle.xr_defs.specs.Limits.{most_cells, most_variables}
+use Rattle.xr_defs.specs.Limits.{most_cells, most_dimensions, most_variables}
 use Rattle.xr_arrays.specs.Nodes.{without, picked_from}
 use Rattle.xr_defs.specs.Meanings.{Value, Values, Number, Sequence, Slice, NoValue, With, Given}
 use Rattle.xr_defs.specs.Arguments.{wrong, Positions, as_positions, check_dimension}
@@ -132,7 +132,7 @@ set_at set k choice =
 -- ---- limits of a result
 
 abbrev pub is_within : List ℕ → Bool
-is_within shape = list_all (λ n. nat_le n most_cells) shape && nat_le (size shape) most_cells
+is_within shape = nat_le (length shape) most_dimensions && (list_all (λ n. nat_le n most_cells) shape && nat_le (size shape) most_cells)
 
 abbrev pub are_within : List Coord → Bool
 are_within coords = list_all (λ (c : Coord). is_within (shape_over c.axes)) coords

@@ -52,7 +52,15 @@ truth_text (negsuc n) = codes "True"
 abbrev pub cell_text : DType → Option ℤ → List ℕ
 cell_text t None = codes "NA"
 cell_text kinds.Bool (Some n) = truth_text n
-cell_text t (Some n) = signed_decimal n
+cell_text kinds.Char (Some n) = signed_decimal n
+cell_text kinds.Int8 (Some n) = signed_decimal n
+cell_text kinds.Int16 (Some n) = signed_decimal n
+cell_text kinds.Int32 (Some n) = signed_decimal n
+cell_text kinds.Int64 (Some n) = signed_decimal n
+cell_text kinds.UInt8 (Some n) = signed_decimal n
+cell_text kinds.UInt16 (Some n) = signed_decimal n
+cell_text kinds.UInt32 (Some n) = signed_decimal n
+cell_text kinds.UInt64 (Some n) = signed_decimal n
 
 -- so many rows of so many cells, one blank between cells
 abbrev pub rows_text : DType → ℕ → ℕ → List (Option ℤ) → List ℕ

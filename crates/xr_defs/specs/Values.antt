@@ -7,14 +7,13 @@ use Rattle.xr_types.specs.declared.axis.Labels.{Labels}
 use Rattle.xr_types.specs.declared.axis.LabelList.{LabelList}
 use Rattle.xr_types.specs.declared.axis.LabelList.TheVariants.{Numbers, Times, Texts}
 use Rattle.xr_types.specs.declared.kind.DType.{DType}
-use Rattle.xr_types.specs.declared.kind.DType.TheVariants.{Int64}
-use Rattle.xr_types.specs.Kinds.{wrap_to}
+use Rattle.xr_types.specs.declared.operation.FoldKind.TheVariants.{Sum}
 use Rattle.xr_types.specs.Names.{shape_over}
 use Rattle.xr_defs.specs.declared.value.Content.{Content}
 use Rattle.xr_defs.specs.declared.value.Content.TheVariants.{Cells}
 use Rattle.xr_defs.specs.declared.value.Coord.{Coord}
 use Rattle.xr_arrays.specs.Arrays.{Array, at, made}
-use Rattle.xr_arrays.specs.Numbers.{sum_of}
+use Rattle.xr_arrays.specs.Folds.{folded_kind, fold_of, numbered}
 
 -- an array with an optional name, axes in order, cells in row order, attributes and non-index coordinates in order
 pub record DataArray : Type 0 where
@@ -93,7 +92,7 @@ chosen_coord dimension ps c =
       | Some k ↦ record c { axes = chosen_axes c.axes k ps; content = chosen_content c.content k ps }
     ]
 
--- ---- the sum over all dimensions (NumPy, `sum`): in 64 bits, without the missing cells
+-- ---- the sum over all dimensions (NumPy, `sum`), without the missing cells
 
 -- the numbers that aren't missing
 abbrev pub present : List (Option ℤ) → List ℤ
@@ -109,9 +108,9 @@ total a =
     record {
       name = a.name;
       axes = [];
-      kind = Int64;
+      kind = folded_kind Sum a.kind;
       masked = false;
       attrs = [];
       coords = filter is_scalar a.coords;
-      cells = Some (wrap_to Int64 (sum_of (present a.cells))) ∷ [];
+      cells = fold_of Sum a.kind (numbered 0 a.cells) ∷ [];
     }
