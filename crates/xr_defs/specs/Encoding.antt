@@ -1,6 +1,6 @@
 -- The classic file of a dataset, and what it is refused for (CF Conventions; xarray, `Dataset.to_netcdf`). No dataset has times
 -- so far.
-use Rattle.std.specs.Prelude.{◌-◌, ◌^◌, ◌==◌, ◌&&◌, ◌||◌, ℕ, ℤ, pos, neg_ℤ, List, [], ◌∷◌, ◌++◌, length, map, drop, filter, filter_map, find, flat_map, fold, replicate, Option, Some, None, is_some, is_none, option_map, unwrap_or, Result, Ok, Bool, true, false, not, if◌then◌else◌, int_le, max, codes}
+use Rattle.std.specs.Prelude.{◌-◌, ◌==◌, ◌&&◌, ◌||◌, ℕ, ℤ, pos, List, [], ◌∷◌, ◌++◌, length, map, drop, filter, filter_map, find, flat_map, fold, replicate, Option, Some, None, is_some, is_none, option_map, unwrap_or, Result, Ok, Bool, true, false, not, if◌then◌else◌, max, codes}
 use Rattle.std.specs.Str.{bytes_eq}
 use Rattle.std.specs.List.{list_any, list_all, position_or_len, join_with_byte}
 use Rattle.std.specs.Int.{w8, w16, w32, w64, to_be_bytes, cast_unsigned}
@@ -25,7 +25,7 @@ use Rattle.xr_defs.specs.declared.write_options.WriteOptions.{WriteOptions}
 use Rattle.xr_types.specs.Kinds.{in_range}
 use Rattle.xr_types.specs.Results.{◌>>=◌, unless, all_of}
 use Rattle.xr_types.specs.Names.{among}
-use Rattle.xr_files.specs.Canonical.{is_small}
+use Rattle.xr_files.specs.Canonical.{has_types, is_small}
 use Rattle.xr_types.specs.Names.{axis_names}
 use Rattle.xr_defs.specs.Values.{Dataset, Variable}
 use Rattle.xr_defs.specs.Decoding.{is_attr, is_blank, own_fill, fill_numbers, string_name}
@@ -340,7 +340,8 @@ check_names set options =
     unless (list_all (λ o. are_new o.attrs (added options o)) (stored set)) DuplicateName >>= λ v.
     unless (are_new set.attrs (coordinates_added (listed_by_none set))) DuplicateName
 
--- one record dimension at most, which stands first only; and no coordinate's name has a blank
+-- one record dimension at most, which stands first only; no coordinate's name has a blank; and the version has the type of each
+-- attribute, as it is written
 abbrev pub stands_first : Option (List ℕ) → Stored → Bool
 stands_first records o = not (list_any (is_that records) (drop 1 o.dims))
 
@@ -348,7 +349,8 @@ unfoldable pub check_records : Dataset → WriteOptions → Result (Unit {0}) Fa
 check_records set options =
     unless (list_all (is_that (record_dim set options)) (empty_axes set)) CannotHold >>= λ u.
     unless (list_all (stands_first (record_dim set options)) (stored set)) CannotHold >>= λ v.
-    unless (not (list_any (λ name. list_any is_blank name) (coord_names set.coords))) CannotHold
+    unless (not (list_any (λ name. list_any is_blank name) (coord_names set.coords))) CannotHold >>= λ w.
+    unless (has_types options.version set.attrs && list_all (λ o. has_types options.version (attrs_of options o)) (stored set)) CannotHold
 
 -- a masked variable has a number for its missing cells
 unfoldable pub check_fill : WriteOptions → Stored → Result (Unit {0}) Fault

@@ -1,5 +1,5 @@
 -- What a call may add to a plan: the cells of its nodes, beside the sizes of its operands and of its result.
-use Rattle.std.specs.Prelude.{◌≤◌, ◌+◌, ◌*◌, ℕ, List, [], ◌∷◌, length, map, filter, flat_map, is_some, max, if◌then◌else◌}
+use Rattle.std.specs.Prelude.{◌+◌, ◌*◌, ℕ, List, [], ◌∷◌, length, map, filter, flat_map, is_some, max, if◌then◌else◌}
 use Rattle.std.specs.List.{sum_by}
 use Rattle.std.specs.Str.{bytes_eq}
 use Rattle.xr_types.specs.declared.axis.Axis.{Axis}
@@ -7,10 +7,8 @@ use Rattle.xr_arrays.specs.declared.node.Node.{Node}
 use Rattle.xr_defs.specs.declared.value.Coord.{Coord}
 use Rattle.xr_types.specs.Points.{size}
 use Rattle.xr_arrays.specs.Added.{AddsAtMost}
-use Rattle.xr_arrays.specs.Arrays.{Array}
 use Rattle.xr_types.specs.Names.{among}
 use Rattle.xr_defs.specs.Meanings as of
-use Rattle.xr_arrays.specs.Nodes.{values}
 use Rattle.xr_types.specs.Names.{axis_names}
 use Rattle.xr_defs.specs.Values.{DataArray, Dataset}
 
