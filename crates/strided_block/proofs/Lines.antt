@@ -4,7 +4,7 @@ use Rattle.std.specs.Prelude.{Option, Some, None, slice_set}
 use Rattle.std.proofs.lemmas.List.{get_or-map, length-map, get_or-set_same, get_or-set_other}
 use Rattle.std.proofs.lemmas.Bool.{cases_lt}
 use Rattle.xr_types.specs.Points.{size, place, IsPoint}
-use Rattle.strided_block.specs.Boxes.{Fits, plus, zeros}
+use Rattle.strided_block.specs.Boxes.{plus, zeros}
 use Rattle.strided_block.specs.Lines.{AreOnes, IsLine, prior, Follows}
 use Rattle.strided_block.specs.Views.{Seen, Window, shown, sight, held, cell_at, wide_window, IsClear, IsFull}
 use Rattle.strided_block.proofs.Boxes.{point_long, fits_long, plus_inside, place_below, one_point, point_at, within, zeros_long}

@@ -5,10 +5,10 @@ use Rattle.std.proofs.lemmas.Bool.{cases_lt}
 use Rattle.std.proofs.lemmas.Int.{ints}
 use Rattle.std.proofs.lemmas.List.{get_or-map, get_or-replicate, length-map, length-replicate, same_lists}
 use Rattle.std.proofs.lemmas.List.Elements.{All-get_or}
-use Rattle.xr_types.specs.Cells.{again_char, again_int8, again_int16, again_int32, again_int64}
+use Rattle.xr_types.specs.Cells.{again_char, again_int8, again_int16, again_int32, again_int64, again_uint16, again_uint32, again_uint64}
 use Rattle.xr_types.specs.Kinds.{InRange, wrap_to}
 use Rattle.xr_types.specs.declared.kind.DType.{DType}
-use Rattle.xr_types.specs.declared.kind.DType.TheVariants.{Bool, Char, Int8, Int16, Int32, Int64}
+use Rattle.xr_types.specs.declared.kind.DType.TheVariants.{Bool, Char, Int8, Int16, Int32, Int64, UInt16, UInt32, UInt64}
 use Rattle.xr_arrays.specs.Arrays.{IsCell}
 use Rattle.xr_types.specs.Points.{size, place, IsPoint}
 use Rattle.strided_block.specs.Boxes.{plus, zeros, along, IsRow}
@@ -28,6 +28,18 @@ again_bool (negsuc k) r = let h = r.0 in absurd (omega (arith, ints))
 pub again_text : (n : ℤ) → InRange Char n → pos (unsigned_abs (wrap_to Char n)) ≡ n
 again_text (pos k) r = ap pos (again_char k r.0 r.1)
 again_text (negsuc k) r = let h = r.0 in absurd (omega (arith, ints))
+
+pub number_uint16 : (n : ℤ) → InRange UInt16 n → pos (unsigned_abs (wrap_to UInt16 n)) ≡ n
+number_uint16 (pos k) r = ap pos (again_uint16 k r.0 r.1)
+number_uint16 (negsuc k) r = let h = r.0 in absurd (omega (arith, ints))
+
+pub number_uint32 : (n : ℤ) → InRange UInt32 n → pos (unsigned_abs (wrap_to UInt32 n)) ≡ n
+number_uint32 (pos k) r = ap pos (again_uint32 k r.0 r.1)
+number_uint32 (negsuc k) r = let h = r.0 in absurd (omega (arith, ints))
+
+pub number_uint64 : (n : ℤ) → InRange UInt64 n → pos (unsigned_abs (wrap_to UInt64 n)) ≡ n
+number_uint64 (pos k) r = ap pos (again_uint64 k r.0 r.1)
+number_uint64 (negsuc k) r = let h = r.0 in absurd (omega (arith, ints))
 
 cell_range : (t : DType) (cells : List (Option ℤ)) (j : ℕ) (n : ℤ) → All (IsCell t) cells → j < length cells → get_or cells j None ≡ Some n → InRange t n
 cell_range t cells j n all lt e = subst (IsCell t) e (All-get_or (IsCell t) cells j None lt all)

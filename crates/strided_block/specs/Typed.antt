@@ -41,6 +41,10 @@ block_kind (blocks.Int8 b) = kinds.Int8
 block_kind (blocks.Int16 b) = kinds.Int16
 block_kind (blocks.Int32 b) = kinds.Int32
 block_kind (blocks.Int64 b) = kinds.Int64
+block_kind (blocks.UInt8 b) = kinds.UInt8
+block_kind (blocks.UInt16 b) = kinds.UInt16
+block_kind (blocks.UInt32 b) = kinds.UInt32
+block_kind (blocks.UInt64 b) = kinds.UInt64
 
 abbrev pub block_shape : TypedBlock → List ℕ
 block_shape (blocks.Bool b) = b.shape
@@ -49,6 +53,10 @@ block_shape (blocks.Int8 b) = b.shape
 block_shape (blocks.Int16 b) = b.shape
 block_shape (blocks.Int32 b) = b.shape
 block_shape (blocks.Int64 b) = b.shape
+block_shape (blocks.UInt8 b) = b.shape
+block_shape (blocks.UInt16 b) = b.shape
+block_shape (blocks.UInt32 b) = b.shape
+block_shape (blocks.UInt64 b) = b.shape
 
 -- the number that a block holds at a point
 abbrev pub number_kept : TypedBlock → List ℕ → Option ℤ
@@ -58,6 +66,10 @@ number_kept (blocks.Int8 b) p = kept b p
 number_kept (blocks.Int16 b) p = kept b p
 number_kept (blocks.Int32 b) p = kept b p
 number_kept (blocks.Int64 b) p = kept b p
+number_kept (blocks.UInt8 b) p = option_map pos (kept b p)
+number_kept (blocks.UInt16 b) p = option_map pos (kept b p)
+number_kept (blocks.UInt32 b) p = option_map pos (kept b p)
+number_kept (blocks.UInt64 b) p = option_map pos (kept b p)
 
 -- ---- views
 
@@ -68,6 +80,10 @@ view_kind (views.Int8 v) = kinds.Int8
 view_kind (views.Int16 v) = kinds.Int16
 view_kind (views.Int32 v) = kinds.Int32
 view_kind (views.Int64 v) = kinds.Int64
+view_kind (views.UInt8 v) = kinds.UInt8
+view_kind (views.UInt16 v) = kinds.UInt16
+view_kind (views.UInt32 v) = kinds.UInt32
+view_kind (views.UInt64 v) = kinds.UInt64
 
 abbrev pub view_shape : TypedView → List ℕ
 view_shape (views.Bool v) = v.shape
@@ -76,6 +92,10 @@ view_shape (views.Int8 v) = v.shape
 view_shape (views.Int16 v) = v.shape
 view_shape (views.Int32 v) = v.shape
 view_shape (views.Int64 v) = v.shape
+view_shape (views.UInt8 v) = v.shape
+view_shape (views.UInt16 v) = v.shape
+view_shape (views.UInt32 v) = v.shape
+view_shape (views.UInt64 v) = v.shape
 
 -- the number that a view shows at a point
 abbrev pub number_shown : TypedView → List ℕ → Option ℤ
@@ -85,6 +105,10 @@ number_shown (views.Int8 v) p = shown v p
 number_shown (views.Int16 v) p = shown v p
 number_shown (views.Int32 v) p = shown v p
 number_shown (views.Int64 v) p = shown v p
+number_shown (views.UInt8 v) p = option_map pos (shown v p)
+number_shown (views.UInt16 v) p = option_map pos (shown v p)
+number_shown (views.UInt32 v) p = option_map pos (shown v p)
+number_shown (views.UInt64 v) p = option_map pos (shown v p)
 
 -- ---- windows
 
@@ -95,6 +119,10 @@ win_kind (windows.Int8 w) = kinds.Int8
 win_kind (windows.Int16 w) = kinds.Int16
 win_kind (windows.Int32 w) = kinds.Int32
 win_kind (windows.Int64 w) = kinds.Int64
+win_kind (windows.UInt8 w) = kinds.UInt8
+win_kind (windows.UInt16 w) = kinds.UInt16
+win_kind (windows.UInt32 w) = kinds.UInt32
+win_kind (windows.UInt64 w) = kinds.UInt64
 
 -- a window's box: its block's sizes, where it begins there, and its sizes
 pub record Box : Type 0 where
@@ -117,6 +145,10 @@ win_box (windows.Int8 w) = box_of w
 win_box (windows.Int16 w) = box_of w
 win_box (windows.Int32 w) = box_of w
 win_box (windows.Int64 w) = box_of w
+win_box (windows.UInt8 w) = box_of w
+win_box (windows.UInt16 w) = box_of w
+win_box (windows.UInt32 w) = box_of w
+win_box (windows.UInt64 w) = box_of w
 
 -- the number that a window holds at a point of its block
 abbrev pub number_held : TypedWin → List ℕ → Option ℤ
@@ -126,3 +158,7 @@ number_held (windows.Int8 w) cs = held w cs
 number_held (windows.Int16 w) cs = held w cs
 number_held (windows.Int32 w) cs = held w cs
 number_held (windows.Int64 w) cs = held w cs
+number_held (windows.UInt8 w) cs = option_map pos (held w cs)
+number_held (windows.UInt16 w) cs = option_map pos (held w cs)
+number_held (windows.UInt32 w) cs = option_map pos (held w cs)
+number_held (windows.UInt64 w) cs = option_map pos (held w cs)

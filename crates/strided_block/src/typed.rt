@@ -14,6 +14,10 @@ pub enum TypedBlock {
     Int16(Block<i16>),
     Int32(Block<i32>),
     Int64(Block<i64>),
+    UInt8(Block<u8>),
+    UInt16(Block<u16>),
+    UInt32(Block<u32>),
+    UInt64(Block<u64>),
 }
 
 /// A view of cells of one kind. A byte of `Bool` is true where it isn't 0; the calls here write 0 and 1.
@@ -25,6 +29,10 @@ pub enum TypedView<'a> {
     Int16(View<'a, i16>),
     Int32(View<'a, i32>),
     Int64(View<'a, i64>),
+    UInt8(View<'a, u8>),
+    UInt16(View<'a, u16>),
+    UInt32(View<'a, u32>),
+    UInt64(View<'a, u64>),
 }
 
 /// A window of cells of one kind. A byte of `Bool` is true where it isn't 0; the calls here write 0 and 1.
@@ -35,6 +43,10 @@ pub enum TypedWin {
     Int16(Win<i16>),
     Int32(Win<i32>),
     Int64(Win<i64>),
+    UInt8(Win<u8>),
+    UInt16(Win<u16>),
+    UInt32(Win<u32>),
+    UInt64(Win<u64>),
 }
 
 impl TypedBlock {
@@ -54,6 +66,10 @@ impl TypedBlock {
             TypedBlock::Int16(_) => DType::Int16,
             TypedBlock::Int32(_) => DType::Int32,
             TypedBlock::Int64(_) => DType::Int64,
+            TypedBlock::UInt8(_) => DType::UInt8,
+            TypedBlock::UInt16(_) => DType::UInt16,
+            TypedBlock::UInt32(_) => DType::UInt32,
+            TypedBlock::UInt64(_) => DType::UInt64,
         }
     }
 
@@ -70,6 +86,10 @@ impl TypedBlock {
             DType::Int16 => Ok(TypedBlock::Int16(Block::zeroed(alloc, shape)?)),
             DType::Int32 => Ok(TypedBlock::Int32(Block::zeroed(alloc, shape)?)),
             DType::Int64 => Ok(TypedBlock::Int64(Block::zeroed(alloc, shape)?)),
+            DType::UInt8 => Ok(TypedBlock::UInt8(Block::zeroed(alloc, shape)?)),
+            DType::UInt16 => Ok(TypedBlock::UInt16(Block::zeroed(alloc, shape)?)),
+            DType::UInt32 => Ok(TypedBlock::UInt32(Block::zeroed(alloc, shape)?)),
+            DType::UInt64 => Ok(TypedBlock::UInt64(Block::zeroed(alloc, shape)?)),
         }
     }
 
@@ -93,6 +113,10 @@ impl TypedBlock {
             DType::Int16 => Ok(TypedBlock::Int16(Block::of_cells(alloc, shape, cells)?)),
             DType::Int32 => Ok(TypedBlock::Int32(Block::of_cells(alloc, shape, cells)?)),
             DType::Int64 => Ok(TypedBlock::Int64(Block::of_cells(alloc, shape, cells)?)),
+            DType::UInt8 => Ok(TypedBlock::UInt8(Block::of_cells(alloc, shape, cells)?)),
+            DType::UInt16 => Ok(TypedBlock::UInt16(Block::of_cells(alloc, shape, cells)?)),
+            DType::UInt32 => Ok(TypedBlock::UInt32(Block::of_cells(alloc, shape, cells)?)),
+            DType::UInt64 => Ok(TypedBlock::UInt64(Block::of_cells(alloc, shape, cells)?)),
         }
     }
 
@@ -109,6 +133,10 @@ impl TypedBlock {
             TypedBlock::Int16(b) => TypedView::Int16(b.view()),
             TypedBlock::Int32(b) => TypedView::Int32(b.view()),
             TypedBlock::Int64(b) => TypedView::Int64(b.view()),
+            TypedBlock::UInt8(b) => TypedView::UInt8(b.view()),
+            TypedBlock::UInt16(b) => TypedView::UInt16(b.view()),
+            TypedBlock::UInt32(b) => TypedView::UInt32(b.view()),
+            TypedBlock::UInt64(b) => TypedView::UInt64(b.view()),
         }
     }
 }
@@ -131,6 +159,10 @@ impl<'a> TypedView<'a> {
             TypedView::Int16(_) => DType::Int16,
             TypedView::Int32(_) => DType::Int32,
             TypedView::Int64(_) => DType::Int64,
+            TypedView::UInt8(_) => DType::UInt8,
+            TypedView::UInt16(_) => DType::UInt16,
+            TypedView::UInt32(_) => DType::UInt32,
+            TypedView::UInt64(_) => DType::UInt64,
         }
     }
 
@@ -147,6 +179,10 @@ impl<'a> TypedView<'a> {
             TypedView::Int16(v) => i128::from(v.get(point)),
             TypedView::Int32(v) => i128::from(v.get(point)),
             TypedView::Int64(v) => i128::from(v.get(point)),
+            TypedView::UInt8(v) => i128::from(v.get(point)),
+            TypedView::UInt16(v) => i128::from(v.get(point)),
+            TypedView::UInt32(v) => i128::from(v.get(point)),
+            TypedView::UInt64(v) => i128::from(v.get(point)),
         }
     }
 
@@ -165,6 +201,10 @@ impl<'a> TypedView<'a> {
             TypedView::Int16(v) => TypedView::Int16(v.sub(axis, from, to)),
             TypedView::Int32(v) => TypedView::Int32(v.sub(axis, from, to)),
             TypedView::Int64(v) => TypedView::Int64(v.sub(axis, from, to)),
+            TypedView::UInt8(v) => TypedView::UInt8(v.sub(axis, from, to)),
+            TypedView::UInt16(v) => TypedView::UInt16(v.sub(axis, from, to)),
+            TypedView::UInt32(v) => TypedView::UInt32(v.sub(axis, from, to)),
+            TypedView::UInt64(v) => TypedView::UInt64(v.sub(axis, from, to)),
         }
     }
 }
@@ -191,6 +231,10 @@ impl TypedWin {
             TypedBlock::Int16(b) => TypedWin::Int16(Win::whole(b)),
             TypedBlock::Int32(b) => TypedWin::Int32(Win::whole(b)),
             TypedBlock::Int64(b) => TypedWin::Int64(Win::whole(b)),
+            TypedBlock::UInt8(b) => TypedWin::UInt8(Win::whole(b)),
+            TypedBlock::UInt16(b) => TypedWin::UInt16(Win::whole(b)),
+            TypedBlock::UInt32(b) => TypedWin::UInt32(Win::whole(b)),
+            TypedBlock::UInt64(b) => TypedWin::UInt64(Win::whole(b)),
         }
     }
 
@@ -205,6 +249,10 @@ impl TypedWin {
             TypedWin::Int16(_) => DType::Int16,
             TypedWin::Int32(_) => DType::Int32,
             TypedWin::Int64(_) => DType::Int64,
+            TypedWin::UInt8(_) => DType::UInt8,
+            TypedWin::UInt16(_) => DType::UInt16,
+            TypedWin::UInt32(_) => DType::UInt32,
+            TypedWin::UInt64(_) => DType::UInt64,
         }
     }
 
@@ -221,6 +269,10 @@ impl TypedWin {
             TypedWin::Int16(w) => TypedView::Int16(w.view()),
             TypedWin::Int32(w) => TypedView::Int32(w.view()),
             TypedWin::Int64(w) => TypedView::Int64(w.view()),
+            TypedWin::UInt8(w) => TypedView::UInt8(w.view()),
+            TypedWin::UInt16(w) => TypedView::UInt16(w.view()),
+            TypedWin::UInt32(w) => TypedView::UInt32(w.view()),
+            TypedWin::UInt64(w) => TypedView::UInt64(w.view()),
         }
     }
 
@@ -240,6 +292,10 @@ impl TypedWin {
             TypedWin::Int16(w) => w.set(point, number as i16),
             TypedWin::Int32(w) => w.set(point, number as i32),
             TypedWin::Int64(w) => w.set(point, number as i64),
+            TypedWin::UInt8(w) => w.set(point, number as u8),
+            TypedWin::UInt16(w) => w.set(point, number as u16),
+            TypedWin::UInt32(w) => w.set(point, number as u32),
+            TypedWin::UInt64(w) => w.set(point, number as u64),
         }
     }
 
@@ -259,6 +315,10 @@ impl TypedWin {
             TypedWin::Int16(w) => w.put_cells(point, cells),
             TypedWin::Int32(w) => w.put_cells(point, cells),
             TypedWin::Int64(w) => w.put_cells(point, cells),
+            TypedWin::UInt8(w) => w.put_cells(point, cells),
+            TypedWin::UInt16(w) => w.put_cells(point, cells),
+            TypedWin::UInt32(w) => w.put_cells(point, cells),
+            TypedWin::UInt64(w) => w.put_cells(point, cells),
         }
     }
 
@@ -276,6 +336,10 @@ impl TypedWin {
             TypedWin::Int16(w) => TypedBlock::Int16(w.into_block()),
             TypedWin::Int32(w) => TypedBlock::Int32(w.into_block()),
             TypedWin::Int64(w) => TypedBlock::Int64(w.into_block()),
+            TypedWin::UInt8(w) => TypedBlock::UInt8(w.into_block()),
+            TypedWin::UInt16(w) => TypedBlock::UInt16(w.into_block()),
+            TypedWin::UInt32(w) => TypedBlock::UInt32(w.into_block()),
+            TypedWin::UInt64(w) => TypedBlock::UInt64(w.into_block()),
         }
     }
 
@@ -294,6 +358,10 @@ impl TypedWin {
             TypedWin::Int16(w) => w.fill(number as i16),
             TypedWin::Int32(w) => w.fill(number as i32),
             TypedWin::Int64(w) => w.fill(number as i64),
+            TypedWin::UInt8(w) => w.fill(number as u8),
+            TypedWin::UInt16(w) => w.fill(number as u16),
+            TypedWin::UInt32(w) => w.fill(number as u32),
+            TypedWin::UInt64(w) => w.fill(number as u64),
         }
     }
 }

@@ -28,3 +28,15 @@ returns-in-Int32-clause-cells c = subst (Same (λ p. shown c.view-in-Int32.resul
 
 pub returns-in-Int64-clause-cells : goal.returns-in-Int64-clause-cells
 returns-in-Int64-clause-cells c = subst (Same (λ p. shown c.view-in-Int64.result p)) (sym c.in-Int64.is) (λ p i. seen_kept _ _ c.view-in-Int64.result p c.view-in-Int64.ensures i)
+
+pub returns-in-UInt8-clause-cells : goal.returns-in-UInt8-clause-cells
+returns-in-UInt8-clause-cells c = subst (Same (λ p. option_map pos (shown c.view-in-UInt8.result p))) (sym c.in-UInt8.is) (λ p i. ap (option_map pos) (seen_kept _ _ c.view-in-UInt8.result p c.view-in-UInt8.ensures i))
+
+pub returns-in-UInt16-clause-cells : goal.returns-in-UInt16-clause-cells
+returns-in-UInt16-clause-cells c = subst (Same (λ p. option_map pos (shown c.view-in-UInt16.result p))) (sym c.in-UInt16.is) (λ p i. ap (option_map pos) (seen_kept _ _ c.view-in-UInt16.result p c.view-in-UInt16.ensures i))
+
+pub returns-in-UInt32-clause-cells : goal.returns-in-UInt32-clause-cells
+returns-in-UInt32-clause-cells c = subst (Same (λ p. option_map pos (shown c.view-in-UInt32.result p))) (sym c.in-UInt32.is) (λ p i. ap (option_map pos) (seen_kept _ _ c.view-in-UInt32.result p c.view-in-UInt32.ensures i))
+
+pub returns-in-UInt64-clause-cells : goal.returns-in-UInt64-clause-cells
+returns-in-UInt64-clause-cells c = subst (Same (λ p. option_map pos (shown c.view-in-UInt64.result p))) (sym c.in-UInt64.is) (λ p i. ap (option_map pos) (seen_kept _ _ c.view-in-UInt64.result p c.view-in-UInt64.ensures i))

@@ -23,3 +23,15 @@ returns-in_ok-zeroed-in-Int32-clause-cells c = λ p i. alike _ c.args.shape.now 
 
 pub returns-in_ok-zeroed-in-Int64-clause-cells : goal.returns-in_ok-zeroed-in-Int64-clause-cells
 returns-in_ok-zeroed-in-Int64-clause-cells c = λ p i. alike _ c.args.shape.now p (wrap_to Int64 (pos 0)) c.in_ok-zeroed-in-Int64.ensures i ∙ ap Some zero_int64
+
+pub returns-in_ok-zeroed-in-UInt8-clause-cells : goal.returns-in_ok-zeroed-in-UInt8-clause-cells
+returns-in_ok-zeroed-in-UInt8-clause-cells c = λ p i. ap (option_map pos) (alike _ c.args.shape.now p 0 c.in_ok-zeroed-in-UInt8.ensures i)
+
+pub returns-in_ok-zeroed-in-UInt16-clause-cells : goal.returns-in_ok-zeroed-in-UInt16-clause-cells
+returns-in_ok-zeroed-in-UInt16-clause-cells c = λ p i. ap (option_map pos) (alike _ c.args.shape.now p 0 c.in_ok-zeroed-in-UInt16.ensures i)
+
+pub returns-in_ok-zeroed-in-UInt32-clause-cells : goal.returns-in_ok-zeroed-in-UInt32-clause-cells
+returns-in_ok-zeroed-in-UInt32-clause-cells c = λ p i. ap (option_map pos) (alike _ c.args.shape.now p 0 c.in_ok-zeroed-in-UInt32.ensures i)
+
+pub returns-in_ok-zeroed-in-UInt64-clause-cells : goal.returns-in_ok-zeroed-in-UInt64-clause-cells
+returns-in_ok-zeroed-in-UInt64-clause-cells c = λ p i. ap (option_map pos) (alike _ c.args.shape.now p 0 c.in_ok-zeroed-in-UInt64.ensures i)

@@ -28,3 +28,15 @@ returns-in-Int32-clause-others c = subst (Kept (λ cs. held c.fill-in-Int32.new.
 
 pub returns-in-Int64-clause-others : goal.returns-in-Int64-clause-others
 returns-in-Int64-clause-others c = subst (Kept (λ cs. held c.fill-in-Int64.new.self cs)) (sym c.in-Int64.is) c.fill-in-Int64.ensures.others
+
+pub returns-in-UInt8-clause-others : goal.returns-in-UInt8-clause-others
+returns-in-UInt8-clause-others c = subst (Kept (λ cs. option_map pos (held c.fill-in-UInt8.new.self cs))) (sym c.in-UInt8.is) (λ cs i none. ap (option_map pos) (c.fill-in-UInt8.ensures.others cs i none))
+
+pub returns-in-UInt16-clause-others : goal.returns-in-UInt16-clause-others
+returns-in-UInt16-clause-others c = subst (Kept (λ cs. option_map pos (held c.fill-in-UInt16.new.self cs))) (sym c.in-UInt16.is) (λ cs i none. ap (option_map pos) (c.fill-in-UInt16.ensures.others cs i none))
+
+pub returns-in-UInt32-clause-others : goal.returns-in-UInt32-clause-others
+returns-in-UInt32-clause-others c = subst (Kept (λ cs. option_map pos (held c.fill-in-UInt32.new.self cs))) (sym c.in-UInt32.is) (λ cs i none. ap (option_map pos) (c.fill-in-UInt32.ensures.others cs i none))
+
+pub returns-in-UInt64-clause-others : goal.returns-in-UInt64-clause-others
+returns-in-UInt64-clause-others c = subst (Kept (λ cs. option_map pos (held c.fill-in-UInt64.new.self cs))) (sym c.in-UInt64.is) (λ cs i none. ap (option_map pos) (c.fill-in-UInt64.ensures.others cs i none))
