@@ -1,19 +1,18 @@
 -- Cells and a mask that are arranged alike are the array that shows its points.
-use Rattle.std.proofs.Common.{◌≡◌, ◌<◌, ℕ, ℤ, pos, Bool, true, false, List, [], ◌∷◌, length, map, get_or, replicate, Option, Some, None, is_some, option_map, refl, sym, ap, subst, ◌∙◌, arith, ◌⊎◌, inl, inr}
+use Rattle.std.proofs.Common.{◌≡◌, ◌<◌, ℕ, ℤ, pos, Bool, true, false, List, [], ◌∷◌, length, map, get_or, replicate, Option, Some, None, is_some, option_map, ◌≤ℤ◌, negsuc, refl, sym, ap, subst, ◌∙◌, arith, ◌⊎◌, inl, inr}
 use Rattle.std.specs.Prelude.{unsigned_abs, IfSome, MatchOption}
 use Rattle.std.specs.List.{All, zip}
 use Rattle.std.proofs.lemmas.Int.{ints}
 use Rattle.std.proofs.lemmas.List.{get_or-map, length-replicate, length-map}
 use Rattle.std.proofs.lemmas.Slice.Zip.{get_or-zip, length-zip}
-use Rattle.xr_types.specs.Cells.{rest_is_natural}
-use Rattle.xr_types.specs.Kinds.{InRange, wrap_to}
+use Rattle.xr_types.specs.Kinds.{InRange, low, wrap_to}
 use Rattle.xr_types.specs.declared.kind.DType.{DType}
 use Rattle.xr_types.specs.declared.kind.DType.TheVariants as kinds
 use Rattle.xr_types.proofs.Wrapping.{wrapped_only}
 use Rattle.xr_types.specs.Points.{size, tab, place, IsPoint}
 use Rattle.xr_arrays.specs.Arrays.{Array, cell, hidden, wide, kind_of, InKind, IsCell}
 use Rattle.xr_arrays.specs.declared.typed.Cells.{Cells}
-use Rattle.xr_arrays.specs.declared.typed.Cells.TheVariants.{Bool as Truths, Char, Int8, Int16, Int32, Int64}
+use Rattle.xr_arrays.specs.declared.typed.Cells.TheVariants.{Bool as Truths, Char, Int8, Int16, Int32, Int64, UInt8, UInt16, UInt32, UInt64}
 use Rattle.plan_core.specs.Arrangements.{shown, arranged, arranged_cells, arranged_mask, filling, gap, cell_from, rearranged, LieInside, ShowsAll}
 use Rattle.plan_core.proofs.Tabs.{tab_same, tab-map, tab-zip, tab-length, place_below, All-tab}
 
@@ -25,8 +24,12 @@ wrapped_in t n h = sym (wrapped_only t n n (record { in_range = h; turns = pos 0
 truth_is_char : (n : ℤ) → InRange kinds.Bool n → InRange kinds.Char n
 truth_is_char n h = (omega (arith, ints, h), omega (arith, ints, h))
 
-natural_in : (n : ℤ) → InRange kinds.Char n → pos (unsigned_abs (wrap_to kinds.Char n)) ≡ n
-natural_in n h = rest_is_natural n ∙ wrapped_in kinds.Char n h
+natural : (n : ℤ) → pos 0 ≤ℤ n → pos (unsigned_abs n) ≡ n
+natural (pos n) h = refl
+natural (negsuc n) h = absurd (omega (arith, ints, h))
+
+natural_in : (t : DType) (n : ℤ) → InRange t n → pos 0 ≤ℤ n → pos (unsigned_abs (wrap_to t n)) ≡ n
+natural_in t n h le = ap (λ k. pos (unsigned_abs k)) (wrapped_in t n h) ∙ natural n le
 
 -- ---- a function of each cell
 
@@ -40,15 +43,22 @@ module _ {X Y : Type 0} (g : X → Y) where
       tab-map g t (λ p. shown s xs hole (point p)) ∙ tab_same t (λ p. g (shown s xs hole (point p))) (λ p. shown s (map g xs) (g hole) (point p)) (λ p here. shown-map s xs hole (point p) (inside p here) long)
 
 -- a hole of numbers in the range of a kind
+naturals_arranged : (kind : DType) (s t : List ℕ) (point : List ℕ → Option (List ℕ)) (n : ℤ) (v : List ℕ) → LieInside s t point → length (map pos v) ≡ size s → InRange kind n → pos 0 ≤ℤ n
+    → map pos (arranged s t point (unsigned_abs (wrap_to kind n)) v) ≡ arranged s t point n (map pos v)
+naturals_arranged kind s t point n v inside long fits le =
+    arranged-map pos s t point (unsigned_abs (wrap_to kind n)) v inside (sym (length-map v pos) ∙ long) ∙ ap (λ k. arranged s t point k (map pos v)) (natural_in kind n fits le)
+
 wide_arranged : (s t : List ℕ) (point : List ℕ → Option (List ℕ)) (n : ℤ) (x : Cells) → LieInside s t point → length (wide x) ≡ size s → InRange (kind_of x) n → wide (arranged_cells s t point n x) ≡ arranged s t point n (wide x)
-wide_arranged s t point n (Truths v) inside long fits =
-    arranged-map pos s t point (unsigned_abs (wrap_to kinds.Char n)) v inside (sym (length-map v pos) ∙ long) ∙ ap (λ k. arranged s t point k (map pos v)) (natural_in n (truth_is_char n fits))
-wide_arranged s t point n (Char v) inside long fits =
-    arranged-map pos s t point (unsigned_abs (wrap_to kinds.Char n)) v inside (sym (length-map v pos) ∙ long) ∙ ap (λ k. arranged s t point k (map pos v)) (natural_in n fits)
+wide_arranged s t point n (Truths v) inside long fits = naturals_arranged kinds.Char s t point n v inside long (truth_is_char n fits) fits.0
+wide_arranged s t point n (Char v) inside long fits = naturals_arranged kinds.Char s t point n v inside long fits fits.0
 wide_arranged s t point n (Int8 v) inside long fits = ap (λ k. arranged s t point k v) (wrapped_in kinds.Int8 n fits)
 wide_arranged s t point n (Int16 v) inside long fits = ap (λ k. arranged s t point k v) (wrapped_in kinds.Int16 n fits)
 wide_arranged s t point n (Int32 v) inside long fits = ap (λ k. arranged s t point k v) (wrapped_in kinds.Int32 n fits)
 wide_arranged s t point n (Int64 v) inside long fits = ap (λ k. arranged s t point k v) (wrapped_in kinds.Int64 n fits)
+wide_arranged s t point n (UInt8 v) inside long fits = naturals_arranged kinds.Char s t point n v inside long fits fits.0
+wide_arranged s t point n (UInt16 v) inside long fits = naturals_arranged kinds.UInt16 s t point n v inside long fits fits.0
+wide_arranged s t point n (UInt32 v) inside long fits = naturals_arranged kinds.UInt32 s t point n v inside long fits fits.0
+wide_arranged s t point n (UInt64 v) inside long fits = naturals_arranged kinds.UInt64 s t point n v inside long fits fits.0
 
 kind_arranged : (s t : List ℕ) (point : List ℕ → Option (List ℕ)) (n : ℤ) (x : Cells) → kind_of (arranged_cells s t point n x) ≡ kind_of x
 kind_arranged s t point n (Truths v) = refl
@@ -57,6 +67,10 @@ kind_arranged s t point n (Int8 v) = refl
 kind_arranged s t point n (Int16 v) = refl
 kind_arranged s t point n (Int32 v) = refl
 kind_arranged s t point n (Int64 v) = refl
+kind_arranged s t point n (UInt8 v) = refl
+kind_arranged s t point n (UInt16 v) = refl
+kind_arranged s t point n (UInt32 v) = refl
+kind_arranged s t point n (UInt64 v) = refl
 
 pub zero_in : (t : DType) → InRange t (pos 0)
 zero_in kinds.Bool = (omega (arith, ints), omega (arith, ints))
@@ -65,6 +79,10 @@ zero_in kinds.Int8 = (omega (arith, ints), omega (arith, ints))
 zero_in kinds.Int16 = (omega (arith, ints), omega (arith, ints))
 zero_in kinds.Int32 = (omega (arith, ints), omega (arith, ints))
 zero_in kinds.Int64 = (omega (arith, ints), omega (arith, ints))
+zero_in kinds.UInt8 = (omega (arith, ints), omega (arith, ints))
+zero_in kinds.UInt16 = (omega (arith, ints), omega (arith, ints))
+zero_in kinds.UInt32 = (omega (arith, ints), omega (arith, ints))
+zero_in kinds.UInt64 = (omega (arith, ints), omega (arith, ints))
 
 filling_in : (t : DType) (fill : Option ℤ) → IsCell t fill → InRange t (filling fill)
 filling_in t None h = zero_in t
@@ -77,7 +95,7 @@ truth_shown s v hole None small all inside long = small
 truth_shown s v hole (Some q) small all inside long = all (place s q) hole (let below = place_below s q inside in omega arith)
 
 small_truth : (n : ℤ) → InRange kinds.Bool n → unsigned_abs (wrap_to kinds.Char n) < 2
-small_truth n h = let e : pos (unsigned_abs (wrap_to kinds.Char n)) ≡ n = natural_in n (truth_is_char n h) in omega (arith, ints, e, h)
+small_truth n h = let e : pos (unsigned_abs (wrap_to kinds.Char n)) ≡ n = natural_in kinds.Char n (truth_is_char n h) h.0 in omega (arith, ints, e, h)
 
 in_kind : (s t : List ℕ) (point : List ℕ → Option (List ℕ)) (n : ℤ) (x : Cells) → LieInside s t point → length (wide x) ≡ size s → InRange (kind_of x) n → InKind x → InKind (arranged_cells s t point n x)
 in_kind s t point n (Truths v) inside long fits good =
@@ -87,6 +105,10 @@ in_kind s t point n (Int8 v) inside long fits good = tt
 in_kind s t point n (Int16 v) inside long fits good = tt
 in_kind s t point n (Int32 v) inside long fits good = tt
 in_kind s t point n (Int64 v) inside long fits good = tt
+in_kind s t point n (UInt8 v) inside long fits good = tt
+in_kind s t point n (UInt16 v) inside long fits good = tt
+in_kind s t point n (UInt32 v) inside long fits good = tt
+in_kind s t point n (UInt64 v) inside long fits good = tt
 
 -- ---- at one point
 

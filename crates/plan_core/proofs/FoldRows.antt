@@ -1,12 +1,10 @@
 -- Folds of a row of cells, one cell after the other.
-use Rattle.std.proofs.Common.{◌≡◌, ◌+◌, ℕ, ℤ, ◌+ℤ◌, ◌*ℤ◌, Bool, true, false, not, cond, List, [], ◌∷◌, map, drop, zip, Option, Some, None, refl, sym, ap, ◌∙◌}
+use Rattle.std.proofs.Common.{◌≡◌, ◌+◌, ℕ, ℤ, ◌+ℤ◌, ◌*ℤ◌, List, [], ◌∷◌, map, drop, zip, Option, Some, None, refl, sym, ap, ◌∙◌}
 use Rattle.std.specs.Int.{int_wrap, w64}
 use Rattle.std.proofs.lemmas.Int.{int_wrap-add_left, int_wrap-add_right, int_wrap-mul_left, int_wrap-mul_right}
 use Rattle.xr_arrays.specs.Arrays.{cell}
 use Rattle.xr_arrays.specs.Folds.{numbers, present, numbered, sum_of}
-use Rattle.xr_arrays.specs.Stored.{is_fill, unless_fill}
 use Rattle.xr_arrays.proofs.Folds.{add_assoc_ℤ, mul_assoc_ℤ}
-use Rattle.stored_cells.specs.Counted.{present as shown}
 use Rattle.plan_core.specs.Rows.{those}
 
 pub those_are : (p : ℕ) (cells : List (Option ℤ)) → numbers (present (numbered p cells)) ≡ those cells
@@ -39,12 +37,3 @@ product_step s n r =
 pub those_bare : (xs : List ℤ) → those (map Some xs) ≡ xs
 those_bare [] = refl
 those_bare (x ∷ xs) = ap (λ t. x ∷ t) (those_bare xs)
-
--- the numbers that no fill number hides
-pub those_present : (fills ns : List ℤ) → those (map (unless_fill fills) ns) ≡ shown fills ns
-those_present fills [] = refl
-those_present fills (n ∷ ns) = one (is_fill fills n) n (map (unless_fill fills) ns) (shown fills ns) (those_present fills ns)
-  where
-    one : (hidden : Bool) (n : ℤ) (cells : List (Option ℤ)) (rest : List ℤ) → those cells ≡ rest → those (cond hidden None (Some n) ∷ cells) ≡ cond (not hidden) (n ∷ rest) rest
-    one true n cells rest e = e
-    one false n cells rest e = ap (λ t. n ∷ t) e

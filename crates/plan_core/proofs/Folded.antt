@@ -1,18 +1,17 @@
 -- The fold of rows of an array whose axes are sorted is the fold of the array.
 use Rattle.std.proofs.Common.{◌≡◌, ◌<◌, ◌≤◌, ◌+◌, ◌-◌, ◌*◌, ◌^◌, ℕ, ℤ, zero, suc, List, [], ◌∷◌, ◌++◌, length, take, drop, Option, Some, None, refl, sym, ap, ◌∙◌, arith, length-drop, min}
-use Rattle.std.specs.Int.{int_wrap, w64}
 use Rattle.std.specs.List.{All}
 use Rattle.std.proofs.lemmas.List.{take_at, drop_at, length-take-le, nil_from_length}
 use Rattle.std.proofs.lemmas.List.Elements.{All-head, All-tail, All-cons, All-take, All-drop}
 use Rattle.xr_types.specs.declared.kind.DType.{DType}
-use Rattle.xr_types.specs.declared.kind.DType.TheVariants.{Int64}
+use Rattle.xr_types.specs.Kinds.{wrap_to}
 use Rattle.xr_types.specs.declared.operation.FoldKind.{FoldKind}
 use Rattle.xr_types.specs.declared.operation.FoldKind.TheVariants.{Sum}
 use Rattle.xr_arrays.specs.declared.node.Feed.{Feed}
 use Rattle.xr_arrays.specs.declared.node.Feed.TheVariants as feed
 use Rattle.xr_types.specs.Points.{size, tab, IsPoint}
 use Rattle.xr_arrays.specs.Arrays.{Array, at, made, IsCell}
-use Rattle.xr_arrays.specs.Folds.{folded_kind, fold_of, numbered, sum_of}
+use Rattle.xr_arrays.specs.Folds.{folded_kind, fold_of, numbered, sum_of, total_kind}
 use Rattle.xr_arrays.specs.Nodes.{kept, gathered, folded}
 use Rattle.xr_arrays.proofs.FoldRanges.{AreCells, fold_in_kind}
 use Rattle.plan_core.specs.Arrangements.{cell_from, rearranged}
@@ -93,15 +92,16 @@ all_gathered (feed.Keep ∷ fs) (n ∷ ns) f e none = let l = ap length none in 
 all_gathered (feed.All ∷ fs) (n ∷ ns) f e none =
     flat_same (λ i. gathered fs ns [] (λ q. f (i ∷ q))) (λ i. tab ns (λ q. f (i ∷ q))) 0 n (λ i lo hi. all_gathered fs ns (λ q. f (i ∷ q)) (omega arith) none)
 
-abbrev pub summed : List (Option ℤ) → Array
-summed cells = made Int64 [] (λ p. Some (int_wrap w64 (sum_of (those cells))))
+abbrev pub summed : DType → List (Option ℤ) → Array
+summed t cells = made (total_kind t) [] (λ p. Some (wrap_to (total_kind t) (sum_of (those cells))))
 
-pub sum_is : (fs : List Feed) (a : Array) → length fs ≡ length a.shape → kept fs a.shape ≡ [] → length a.cells ≡ size a.shape → summed a.cells ≡ folded Sum fs a
+pub sum_is : (fs : List Feed) (a : Array) → length fs ≡ length a.shape → kept fs a.shape ≡ [] → length a.cells ≡ size a.shape → summed a.kind a.cells ≡ folded Sum fs a
 sum_is fs a e none long =
+    let t = total_kind a.kind in
     let f = λ (row : List (Option ℤ)). fold_of Sum a.kind (numbered 0 row) in
     let cells : gathered fs a.shape [] (at a) ≡ a.cells = all_gathered fs a.shape (at a) e none ∙ tab_read a.shape a.cells None long in
-    let one : Some (int_wrap w64 (sum_of (those a.cells))) ≡ f (gathered fs a.shape [] (at a)) = ap (λ xs. Some (int_wrap w64 (sum_of xs))) (sym (those_are 0 a.cells)) ∙ ap f (sym cells) in
-    ap (λ c. made Int64 [] (λ p. c)) one ∙ ap (λ (t : List ℕ). made Int64 t (λ p. f (gathered fs a.shape p (at a)))) (sym none)
+    let one : Some (wrap_to t (sum_of (those a.cells))) ≡ f (gathered fs a.shape [] (at a)) = ap (λ xs. Some (wrap_to t (sum_of xs))) (sym (those_are 0 a.cells)) ∙ ap f (sym cells) in
+    ap (λ c. made t [] (λ p. c)) one ∙ ap (λ (u : List ℕ). made t u (λ p. f (gathered fs a.shape p (at a)))) (sym none)
 
 -- ---- no cell at all
 

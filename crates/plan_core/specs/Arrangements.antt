@@ -5,7 +5,7 @@ use Rattle.xr_types.specs.declared.kind.DType.TheVariants as kinds
 use Rattle.xr_types.specs.Points.{size, tab, place, IsPoint}
 use Rattle.xr_arrays.specs.Arrays.{Array, at, made}
 use Rattle.xr_arrays.specs.declared.typed.Cells.{Cells}
-use Rattle.xr_arrays.specs.declared.typed.Cells.TheVariants.{Bool as Truths, Char, Int8, Int16, Int32, Int64}
+use Rattle.xr_arrays.specs.declared.typed.Cells.TheVariants.{Bool as Truths, Char, Int8, Int16, Int32, Int64, UInt8, UInt16, UInt32, UInt64}
 
 -- ---- arrays
 
@@ -46,6 +46,10 @@ arranged_cells from to point n (Int8 v) = Int8 (arranged from to point (wrap_to 
 arranged_cells from to point n (Int16 v) = Int16 (arranged from to point (wrap_to kinds.Int16 n) v)
 arranged_cells from to point n (Int32 v) = Int32 (arranged from to point (wrap_to kinds.Int32 n) v)
 arranged_cells from to point n (Int64 v) = Int64 (arranged from to point (wrap_to kinds.Int64 n) v)
+arranged_cells from to point n (UInt8 v) = UInt8 (arranged from to point (unsigned_abs (wrap_to kinds.Char n)) v)
+arranged_cells from to point n (UInt16 v) = UInt16 (arranged from to point (unsigned_abs (wrap_to kinds.UInt16 n)) v)
+arranged_cells from to point n (UInt32 v) = UInt32 (arranged from to point (unsigned_abs (wrap_to kinds.UInt32 n)) v)
+arranged_cells from to point n (UInt64 v) = UInt64 (arranged from to point (unsigned_abs (wrap_to kinds.UInt64 n)) v)
 
 -- the byte of the mask in a hole
 abbrev pub gap : Option ℤ → ℕ

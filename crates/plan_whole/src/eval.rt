@@ -14,6 +14,7 @@ use crate::reorder::Moving;
 use crate::widen::Widening;
 use std::alloc::{AllocError, Global};
 use xr_arrays::{ArrayValue, Node};
+
 fn reorder(alloc: Global, a: &ArrayValue, order: &[u64]) -> Result<ArrayValue, AllocError>
     requires each { IsOrder (length a.now.shape) order.now }
     requires axes { length order.now ≤ 16 }

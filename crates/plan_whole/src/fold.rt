@@ -19,9 +19,8 @@ use crate::shapes::points;
 use crate::sort::{Sorting, folded_sizes, kept_sizes};
 use crate::total::total;
 use std::alloc::{AllocError, Global};
-use xr_types::FoldKind;
 use xr_arrays::{ArrayValue, Feed};
-use xr_types::{DType, Items};
+use xr_types::{DType, FoldKind, Items};
 
 fn folded_kind(fold: FoldKind, kind: DType) -> DType
     ensures { result ≡ folded_kind fold kind }

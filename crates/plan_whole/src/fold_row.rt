@@ -6,8 +6,7 @@ ghost use Rattle.xr_types.specs.declared.kind.DType.{DType};
 ghost use Rattle.xr_arrays.specs.Folds.{of_both, sum_of, product_of, least, greatest, first_place, is_nonzero, present, numbered, fold_of, truth};
 ghost use Rattle.plan_core.specs.Rows.{those};
 
-use xr_types::FoldKind;
-use xr_types::Elem;
+use xr_types::{Elem, FoldKind};
 
 /// The sum, wrapped at 64 bits.
 #[tactic(auto, using(std::proofs::lemmas::Int::wraps))]

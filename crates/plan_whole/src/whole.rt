@@ -4,11 +4,10 @@ ghost use Rattle.std.specs.Option.{option_or};
 ghost use Rattle.xr_arrays.specs.Nodes.{value, AllFit};
 ghost use Rattle.plan_core.specs.Needs.{inputs_at, source_at, IsClosedFrom, IsHeld, AreHeld};
 
-use plan_core::Compute;
 use crate::eval::compute;
 use crate::inputs::{inputs_of, is_source};
 use crate::mark::mark_needed;
-use plan_core::Plan;
+use plan_core::{Compute, Plan};
 use std::alloc::{AllocError, Global};
 use std::thread::Threads;
 use xr_arrays::{ArrayValue, Node};

@@ -7,7 +7,7 @@ use Rattle.xr_arrays.specs.Numbers.{numbers_of}
 use Rattle.stored_cells.specs.Counted.{present}
 use Rattle.stored_cells.proofs.Lengths.{whole_stored}
 use Rattle.plan_core.specs.Rows.{those}
-use Rattle.plan_core.proofs.FoldRows.{those_present}
+use Rattle.plan_whole.proofs.Present.{those_present}
 use Rattle.plan_whole.proofs.total.total_stored.Goals as goal
 
 pub returns-clause-whole : goal.returns-clause-whole
