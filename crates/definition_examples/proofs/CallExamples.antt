@@ -1,8 +1,9 @@
 -- Worked calls over datasets, computed.
-use Rattle.std.proofs.Common.{◌≡◌, [], ◌∷◌, None, Ok, Err, refl}
+use Rattle.std.proofs.Common.{◌≡◌, ℕ, [], ◌∷◌, Some, None, Ok, Err, refl}
 use Rattle.std.specs.Prelude.{codes, pos}
 use Rattle.xr_types.specs.declared.fault.Fault.TheVariants.{WrongKind, BadArgument, NoFile, WouldPromote}
 use Rattle.xr_types.specs.Results.{unless}
+use Rattle.xr_defs.specs.declared.write_options.WriteOptions.{WriteOptions}
 use Rattle.xr_defs.specs.Meanings.{Value, Text, Number, Set, Given}
 use Rattle.xr_defs.specs.Arguments.{as_text}
 use Rattle.xr_defs.specs.Building.{bound}
@@ -12,6 +13,9 @@ use Rattle.xr_defs.specs.Calls.{open_asked, open_dataset, opened_set, mask_given
 printed : text_printed (Set (record { axes = []; coords = []; vars = []; attrs = []; skipped = [] })) ≡ Ok (codes "Dataset\n")
 unfolding text_printed
 printed = refl
+
+abbrev version : ℕ → WriteOptions
+version n = record { version = n; fill = None; unlimited = None }
 
 abbrev one : Value → Given
 one v = record { plain = v ∷ []; keyed = [] }
@@ -45,3 +49,16 @@ renamed_set = refl
 format : set_written (Set (record { axes = []; coords = []; vars = []; attrs = []; skipped = [] })) (record { plain = Text (codes "f") ∷ Text (codes "NETCDF4") ∷ Text (codes "x") ∷ []; keyed = [] }) ≡ Err BadArgument
 unfolding set_written write_asked unless bound as_text options_given format_given format_named fill_given unlimited_given
 format = refl
+
+-- version 5 where no format is asked for
+no_format : options_given (None ∷ None ∷ []) ≡ Ok (version 5)
+unfolding options_given format_given format_named as_text fill_given unlimited_given
+no_format = refl
+
+classic_format : options_given (None ∷ Some (Text (codes "NETCDF3_CLASSIC")) ∷ []) ≡ Ok (version 1)
+unfolding options_given format_given format_named as_text fill_given unlimited_given
+classic_format = refl
+
+wide_format : options_given (None ∷ Some (Text (codes "NETCDF3_64BIT_DATA")) ∷ []) ≡ Ok (version 5)
+unfolding options_given format_given format_named as_text fill_given unlimited_given
+wide_format = refl

@@ -6,7 +6,7 @@ use Rattle.std.specs.Fmt.{digits}
 use lib.Utf8
 use Rattle.xr_types.specs.declared.attr.Attr.{Attr}
 use Rattle.xr_types.specs.declared.attr.NcType.{NcType}
-use Rattle.xr_types.specs.declared.attr.NcType.TheVariants.{Byte, Char, Short, Int, Float}
+use Rattle.xr_types.specs.declared.attr.NcType.TheVariants.{Byte, Char, Short, Int, Float, UByte, UInt64}
 use Rattle.xr_types.specs.declared.axis.Axis.{Axis}
 use Rattle.xr_types.specs.declared.axis.LabelList.TheVariants.{Numbers, Texts}
 use Rattle.xr_types.specs.declared.kind.DType.TheVariants as kinds
@@ -121,3 +121,30 @@ listed_set =
 listed : set_of listed_file false ≡ Ok listed_set
 unfolding set_of check_count unless is_skipped labels_in is_index is_coordinate is_utf8 chars Utf8.encode digits
 listed = refl
+
+-- version 5: labels past 2^63, and a fill number of a type without a sign
+abbrev wide_file : CdfFile
+wide_file =
+    record {
+      version = 5;
+      numrecs = 0;
+      attrs = [];
+      dims = dim (codes "x") 2 ∷ [];
+      vars = record { name = codes "x"; dims = 0 ∷ []; attrs = []; kind = UInt64; raw = 255 ∷ 255 ∷ 255 ∷ 255 ∷ 255 ∷ 255 ∷ 255 ∷ 255 ∷ 0 ∷ 0 ∷ 0 ∷ 0 ∷ 0 ∷ 0 ∷ 0 ∷ 1 ∷ [] }
+          ∷ record { name = codes "v"; dims = 0 ∷ []; attrs = attr (codes "_FillValue") UByte (255 ∷ []) ∷ []; kind = UByte; raw = 255 ∷ 200 ∷ [] }
+          ∷ [];
+    }
+
+abbrev wide_set : Dataset
+wide_set =
+    record {
+      axes = record { name = codes "x"; size = 2; labels = Some (record { list = Numbers kinds.UInt64 (pos 18446744073709551615 ∷ pos 1 ∷ []); attrs = [] }) } ∷ [];
+      coords = [];
+      attrs = [];
+      skipped = [];
+      vars = record { name = codes "v"; dims = codes "x" ∷ []; attrs = attr (codes "_FillValue") UByte (255 ∷ []) ∷ []; kind = kinds.UInt8; masked = true; cells = None ∷ Some (pos 200) ∷ [] } ∷ [];
+    }
+
+wide : set_of wide_file true ≡ Ok wide_set
+unfolding set_of check_count unless is_skipped labels_in is_index is_coordinate
+wide = refl

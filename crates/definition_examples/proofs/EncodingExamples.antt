@@ -6,9 +6,11 @@ use Rattle.std.specs.Fmt.{digits}
 use lib.Utf8
 use Rattle.xr_types.specs.declared.fault.Fault.TheVariants.{NoFill, FillCollides, CannotHold, DoesNotFit, NoDimension}
 use Rattle.xr_types.specs.declared.attr.Attr.{Attr}
-use Rattle.xr_types.specs.declared.attr.NcType.TheVariants.{Byte, Char, Short, Int}
+use Rattle.xr_types.specs.declared.attr.NcType.{NcType}
+use Rattle.xr_types.specs.declared.attr.NcType.TheVariants.{Byte, Char, Short, Int, UByte, UInt, Int64}
 use Rattle.xr_types.specs.declared.axis.Axis.{Axis}
 use Rattle.xr_types.specs.declared.axis.LabelList.TheVariants.{Texts}
+use Rattle.xr_types.specs.declared.kind.DType.{DType}
 use Rattle.xr_types.specs.declared.kind.DType.TheVariants as kinds
 use Rattle.xr_files.specs.declared.file.CdfFile.{CdfFile}
 use Rattle.xr_defs.specs.declared.value.Content.TheVariants as contents
@@ -155,3 +157,57 @@ listed_written = refl
 listed_printed : set_text listed ≡ codes "Dataset\ndim x: 1\ncoord c int8 (x): 7\ncoord k text (): \"ab\"\nvar v int8 (x)\n"
 unfolding digits
 listed_printed = refl
+
+-- kinds and their types by the version: 200 is no byte, and version 5 has a type of its own for it
+abbrev in_version : ℕ → WriteOptions
+in_version n = record { version = n; fill = None; unlimited = None }
+
+abbrev one_number : DType → ℤ → Dataset
+one_number kind n = one_variable [] (record { name = codes "v"; dims = []; kind = kind; masked = false; attrs = []; cells = Some n ∷ [] })
+
+abbrev number_file : ℕ → NcType → List ℕ → CdfFile
+number_file version kind raw = record { version = version; numrecs = 0; attrs = []; dims = []; vars = record { name = codes "v"; dims = []; attrs = []; kind = kind; raw = raw } ∷ [] }
+
+no_byte : file_of (one_number kinds.UInt8 (pos 200)) (in_version 2) ≡ Err CannotHold
+unfolding file_of check_unlimited check_names check_records check_fill check_fit check_cells unless digits
+no_byte = refl
+
+as_byte : file_of (one_number kinds.UInt8 (pos 100)) (in_version 2) ≡ Ok (number_file 2 Byte (100 ∷ []))
+unfolding file_of check_unlimited check_names check_records check_fill check_fit check_cells unless digits canonical
+as_byte = refl
+
+as_ubyte : file_of (one_number kinds.UInt8 (pos 200)) (in_version 5) ≡ Ok (number_file 5 UByte (200 ∷ []))
+unfolding file_of check_unlimited check_names check_records check_fill check_fit check_cells unless digits canonical
+as_ubyte = refl
+
+in_eight_bytes : file_of (one_number kinds.Int64 (negsuc 1)) (in_version 5) ≡ Ok (number_file 5 Int64 (255 ∷ 255 ∷ 255 ∷ 255 ∷ 255 ∷ 255 ∷ 255 ∷ 254 ∷ []))
+unfolding file_of check_unlimited check_names check_records check_fill check_fit check_cells unless digits canonical
+in_eight_bytes = refl
+
+-- an attribute whose type the version doesn't have, unless it is a fill number in use, which is written with the variable's type
+abbrev counted : Attr
+counted = record { name = codes "n"; kind = UInt; raw = 0 ∷ 0 ∷ 0 ∷ 7 ∷ [] }
+
+no_such_type : file_of (hole (counted ∷ record { name = codes "_FillValue"; kind = Short; raw = 0 ∷ 7 ∷ [] } ∷ [])) plainly ≡ Err CannotHold
+unfolding file_of check_unlimited check_names check_records check_fill check_fit check_cells unless digits
+no_such_type = refl
+
+no_such_type_of_the_file : file_of (record (hole []) { attrs = counted ∷ [] }) (filled (pos 7)) ≡ Err CannotHold
+unfolding file_of check_unlimited check_names check_records check_fill check_fit check_cells unless digits
+no_such_type_of_the_file = refl
+
+another_type : file_of (hole (record counted { name = codes "_FillValue" } ∷ [])) plainly
+    ≡ Ok (record hole_file { vars = record { name = codes "v"; dims = 0 ∷ []; attrs = record { name = codes "_FillValue"; kind = Short; raw = 0 ∷ 7 ∷ [] } ∷ []; kind = Short; raw = 0 ∷ 1 ∷ 0 ∷ 7 ∷ [] } ∷ [] })
+unfolding file_of check_unlimited check_names check_records check_fill check_fit check_cells unless digits canonical
+another_type = refl
+
+-- a number of the kind that type byte doesn't hold
+fits_the_kind : file_of (record (hole []) { vars = record { name = codes "v"; dims = codes "x" ∷ []; kind = kinds.UInt8; masked = true; attrs = []; cells = Some (pos 1) ∷ None ∷ [] } ∷ [] }) (filled (pos 200)) ≡ Err CannotHold
+unfolding file_of check_unlimited check_names check_records check_fill check_fit check_cells unless digits
+fits_the_kind = refl
+
+-- as they are printed
+types_printed : set_text (record (one_number kinds.UInt64 (pos 0)) { attrs = counted ∷ record { name = codes "b"; kind = UByte; raw = 200 ∷ 7 ∷ [] } ∷ record { name = codes "l"; kind = Int64; raw = 255 ∷ 255 ∷ 255 ∷ 255 ∷ 255 ∷ 255 ∷ 255 ∷ 255 ∷ [] } ∷ [] })
+    ≡ codes "Dataset\nvar v uint64 ()\nattr n uint: 7\nattr b ubyte: 200 7\nattr l int64: -1\n"
+unfolding digits
+types_printed = refl

@@ -23,7 +23,7 @@ use Rattle.xr_types.specs.Names.{axis_names}
 use Rattle.xr_defs.specs.Values.{DataArray, Dataset, Variable, array_of, axis_position, present}
 use Rattle.xr_defs.specs.Limits.{most_dimensions}
 use Rattle.xr_defs.specs.Selecting.{axis_called, check_array, check_set}
-use Rattle.xr_defs.specs.Parts.{new_name, texts_in}
+use Rattle.xr_defs.specs.Parts.{new_name, texts_in, without_idle}
 use Rattle.xr_defs.specs.Meanings.{Value, Values, Entries, Absent, Missing, Truth, Number, Text, Sequence, Table, Array, NoValue, With, NoEntry, Entry, Given}
 use Rattle.xr_defs.specs.Arguments.{wrong, unfit, as_text}
 
@@ -207,9 +207,13 @@ assigned_to_array a g = coords_assigned [] (frame_of_array a) g >>= λ f. Ok (re
 abbrev pub variable_names : Dataset → List (List ℕ)
 variable_names set = map (λ (v : Variable). v.name) set.vars
 
+abbrev pub with_frame : Dataset → Frame → Dataset
+with_frame set f = record set { axes = f.axes; coords = f.coords }
+
+-- a coordinate that is replaced may have been the last along a bare axis, which is gone then
 unfoldable pub assigned_to_set : Dataset → Given → Result Dataset Fault
 assigned_to_set set g =
-    coords_assigned (variable_names set) (record { axes = set.axes; coords = set.coords }) g >>= λ f. Ok (record set { axes = f.axes; coords = f.coords }) >>= λ t. check_set t >>= λ u. Ok t
+    coords_assigned (variable_names set) (record { axes = set.axes; coords = set.coords }) g >>= λ f. Ok (without_idle (with_frame set f)) >>= λ t. check_set t >>= λ u. Ok t
 
 -- ---- DataArray(data, dims, coords, name, dtype)
 
@@ -328,9 +332,13 @@ entries_in (Entry es t v) = entries_in es ++ (t, v) ∷ []
 abbrev pub is_named_entry : List ℕ × Value → Bool
 is_named_entry kv = not (length kv.0 == 0)
 
+-- the kind of its value, then the value, and then its key, which isn't empty
+unfoldable pub check_table_entry : List Axis → List ℕ × Value → Result (Unit {0}) Fault
+check_table_entry axes kv = check_entry axes kv >>= λ u. unless (is_named_entry kv) BadArgument
+
 unfoldable pub entries_given : List Axis → Option Value → Result (List (List ℕ × Value)) Fault
 entries_given axes None = Ok []
-entries_given axes (Some (Table es)) = all_of (check_entry axes) (entries_in es) >>= λ u. unless (list_all is_named_entry (entries_in es)) BadArgument >>= λ v. Ok (entries_in es)
+entries_given axes (Some (Table es)) = all_of (check_table_entry axes) (entries_in es) >>= λ u. Ok (entries_in es)
 entries_given axes (Some v) = wrong
 
 unfoldable pub name_given : Option Value → Result (Option (List ℕ)) Fault
