@@ -7,8 +7,8 @@ use Rattle.std.proofs.Math.ListN.{drop_of_length-le}
 use Rattle.std.proofs.lemmas.Bool.{false≢true}
 use Rattle.std.proofs.lemmas.List.{length-append}
 use Rattle.std.proofs.lemmas.Slice.Eq.{bytes_eq-Decides}
-use Rattle.xr_defs.specs.Stores.{Files}
-use Rattle.xr_defs.specs.Runs.{put}
+use Rattle.xr_outside.specs.Stores.{Files}
+use Rattle.xr_outside.specs.Stores.{put}
 use Rattle.xr_outside.specs.declared.memory.MemFile.{MemFile}
 use Rattle.xr_outside.specs.declared.put_log.PutSizes.{PutSizes}
 use Rattle.xr_outside.specs.Memory.{put_all, nothing}

@@ -1,8 +1,8 @@
 -- What a store and a sink in memory hold.
 use Rattle.std.specs.Prelude.{◌≡◌, ◌==◌, ◌+◌, ◌-◌, ◌^◌, min, ℕ, Bool, List, [], ◌∷◌, map, None, Result, Ok, Err}
 use Rattle.std.specs.List.{list_any}
-use Rattle.xr_defs.specs.Stores.{Files}
-use Rattle.xr_defs.specs.Runs.{put}
+use Rattle.xr_outside.specs.Stores.{Files}
+use Rattle.xr_outside.specs.Stores.{put}
 use Rattle.xr_outside.specs.PutLog.{found_in}
 use Rattle.xr_outside.specs.declared.memory.MemFile.{MemFile}
 use Rattle.xr_outside.specs.declared.memory.MemStore.{MemStore}

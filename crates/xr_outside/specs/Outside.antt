@@ -1,6 +1,6 @@
 -- What the calls of a store and of a sink answer, and what they leave.
 use Rattle.std.specs.Prelude.{◌≡◌, ◌≢◌, ◌⊎◌, ◌<◌, ◌≤◌, ◌-◌, ◌^◌, ℕ, List, ◌++◌, length, take, Option, Some, None, Result, Ok, Err}
-use Rattle.xr_defs.specs.Stores.{Files}
+use Rattle.xr_outside.specs.Stores.{Files}
 use Rattle.xr_outside.specs.declared.outside.Got.{Got}
 use Rattle.xr_outside.specs.declared.outside.Got.TheVariants.{Found, Absent, TooLong}
 use Rattle.xr_outside.specs.declared.outside.StoreFault.{StoreFault}

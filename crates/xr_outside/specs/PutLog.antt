@@ -1,7 +1,7 @@
 -- A log of puts: their bytes one after the other, each name before what was put under it
 use Rattle.std.specs.Prelude.{◌+◌, ◌-◌, ◌*◌, ◌==◌, ◌&&◌, ℕ, Bool, false, List, [], ◌∷◌, length, take, drop, None, Some, if◌then◌else◌}
 use Rattle.std.specs.Str.{bytes_eq}
-use Rattle.xr_defs.specs.Stores.{Files}
+use Rattle.xr_outside.specs.Stores.{Files}
 use Rattle.xr_outside.specs.declared.put_log.PutSizes.{PutSizes}
 
 abbrev pub sizes_of : List ℕ → List ℕ → PutSizes

@@ -1,5 +1,5 @@
 use Rattle.std.proofs.Common.{◌≡◌, ◌+◌, true, length, ap, ◌∙◌, rules, tests, arith}
-use Rattle.xr_defs.specs.Stores.{Files}
+use Rattle.xr_outside.specs.Stores.{Files}
 use Rattle.xr_outside.specs.PutLog.{found_in, ends_bare}
 use Rattle.xr_outside.proofs.Puts.{added_to, put_here, put_other, bare_held}
 use Rattle.xr_outside.proofs.roomy_log.RoomyLog.put.Goals as goal
