@@ -3,3 +3,4 @@ pub mod LabelPlaces
 pub mod Calendar
 pub mod Folds
 pub mod FoldRanges
+pub mod FeedPositions

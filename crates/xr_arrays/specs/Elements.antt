@@ -1,6 +1,6 @@
 -- Operations on cells, each a number of a kind or missing, and on arrays cell by cell.
 -- NumPy, "Universal functions (ufunc)" and "numpy.floor_divide", "numpy.remainder", "numpy.bitwise_and"; xarray, "isnull", "notnull", "fillna", "where", "astype".
-use Rattle.std.specs.Prelude.{◌&&◌, ◌/◌, ℕ, zero, suc, Bool, true, false, not, ℤ, pos, negsuc, ◌+ℤ◌, ◌-ℤ◌, ◌*ℤ◌, neg_ℤ, Option, Some, None, option_map, is_some, int_lt, int_le, bit_and, bit_or, bit_xor, unsigned_abs}
+use Rattle.std.specs.Prelude.{◌≡◌, ◌≢◌, if◌then◌else◌, ◌&&◌, ◌/◌, ℕ, zero, suc, Bool, true, false, not, ℤ, pos, negsuc, ◌+ℤ◌, ◌-ℤ◌, ◌*ℤ◌, neg_ℤ, Option, Some, None, option_map, is_some, ⊤, int_lt, int_le, bit_and, bit_or, bit_xor, unsigned_abs}
 use Rattle.std.specs.Int.{cast_signed, cast_unsigned, w8, w16, w32, w64}
 use Rattle.xr_types.specs.Kinds.{wrap_to}
 use Rattle.xr_types.specs.declared.kind.DType.{DType}
@@ -129,3 +129,51 @@ binary_of op kind a b = made kind a.shape (λ p. elem op a.kind (at a p) (at b p
 
 abbrev pub choose_of : Array → Array → Array → Array
 choose_of c a b = made a.kind a.shape (λ p. choose (at c p) (at a p) (at b p))
+
+-- ---- operations by their operands
+
+abbrev pub is_comparison : OpKind → Bool
+is_comparison ops.Equal = true
+is_comparison ops.NotEqual = true
+is_comparison ops.Less = true
+is_comparison ops.LessEqual = true
+is_comparison ops.Greater = true
+is_comparison ops.GreaterEqual = true
+is_comparison op = false
+
+-- the operations of numbers that aren't truth values
+abbrev pub is_arithmetic : OpKind → Bool
+is_arithmetic ops.Add = true
+is_arithmetic ops.Subtract = true
+is_arithmetic ops.Multiply = true
+is_arithmetic ops.FloorDivide = true
+is_arithmetic ops.Remainder = true
+is_arithmetic ops.Negate = true
+is_arithmetic op = false
+
+abbrev pub takes_one : OpKind → Bool
+takes_one ops.Negate = true
+takes_one ops.Invert = true
+takes_one ops.IsNull = true
+takes_one ops.NotNull = true
+takes_one ops.Cast = true
+takes_one op = false
+
+abbrev pub takes_two : OpKind → Bool
+takes_two ops.Divide = false
+takes_two op = not (takes_one op)
+
+-- the kind of the result of an operation of two operands of a kind
+abbrev pub result_kind : OpKind → DType → DType
+result_kind op t = if is_comparison op then kinds.Bool else t
+
+-- an operation of one operand that gives this kind of cells of kind t
+abbrev pub Gives : OpKind → DType → DType → Type 0
+Gives ops.Cast kind t = ⊤
+Gives ops.IsNull kind t = kind ≡ kinds.Bool
+Gives ops.NotNull kind t = kind ≡ kinds.Bool
+Gives op kind t = kind ≡ t
+
+-- arithmetic isn't on truth values
+abbrev pub Suits : OpKind → DType → Type 0
+Suits op t = is_arithmetic op ≡ true → t ≢ kinds.Bool

@@ -5,6 +5,7 @@ pub mod Forms
 pub mod Labels
 pub mod Times
 pub mod Folds
+pub mod FeedPositions
 pub mod Elements
 pub mod Nodes
 pub mod Added

@@ -2,6 +2,7 @@
 #![tactic(auto)]
 
 mod array;
+mod feeds;
 mod node;
 mod search;
 mod stored;
@@ -9,6 +10,7 @@ mod time;
 mod typed;
 
 pub use array::{ArrayValue, Form};
+pub use feeds::{Feeds, Positions};
 pub use node::{Feed, Node, Sources};
 pub use search::{Direction, Span};
 pub use stored::{StoredArray, StoredParts};
