@@ -1,10 +1,12 @@
 -- The hash table of scattered numbers. Each slot is 0, or holds the mark of a number and its position.
-use Rattle.std.specs.Prelude.{◌≡◌, ◌<◌, ◌*◌, ◌+◌, ◌-◌, ◌/◌, ◌%◌, ◌^◌, ◌==◌, ◌&&◌, ℕ, ℤ, pos, Bool, List, [], ◌∷◌, length, min, take, drop, nat_lt, slice_index_or, unsigned_abs, Option, Some, None, if◌then◌else◌}
+use Rattle.std.specs.Prelude.{◌≡◌, ◌<◌, ◌*◌, ◌+◌, ◌-◌, ◌/◌, ◌%◌, ◌^◌, ◌==◌, ◌&&◌, ℕ, ℤ, pos, Bool, List, [], ◌∷◌, length, map, min, take, drop, nat_lt, slice_index_or, unsigned_abs, Option, Some, None, if◌then◌else◌}
 use Rattle.std.specs.Ordering.{int_eq}
 use Rattle.xr_types.specs.declared.axis.Label.{Label}
 use Rattle.xr_types.specs.declared.axis.Label.TheVariants.{Int, Time, Text}
 use Rattle.xr_types.specs.declared.axis.LabelList.{LabelList}
 use Rattle.xr_types.specs.declared.axis.LabelList.TheVariants.{Numbers, Times, Texts}
+use Rattle.xr_types.specs.declared.integers.IntegersForm.{IntegersForm}
+use Rattle.xr_types.specs.declared.integers.IntegersForm.TheVariants.{Signed, Unsigned}
 use Rattle.xr_arrays.specs.Labels.{labels_of}
 
 -- the numbers of a list, times by their seconds
@@ -12,6 +14,11 @@ abbrev pub numbers_of : LabelList → List ℤ
 numbers_of (Numbers kind xs) = xs
 numbers_of (Times coding xs) = xs
 numbers_of (Texts xs) = []
+
+-- the numbers that a form shows
+abbrev pub shown : IntegersForm → List ℤ
+shown (Signed xs) = xs.now
+shown (Unsigned xs) = map pos xs.now
 
 abbrev pub number_of : Label → ℤ
 number_of (Int n) = n

@@ -6,7 +6,7 @@ ghost use Rattle.xr_arrays.specs.Labels.{labels_of, label_at, same, repeats, pla
 use crate::label;
 use crate::place::Places;
 use crate::rank::Ranks;
-use xr_types::{Label, LabelList};
+use xr_types::{Integers, IntegersForm, Label, LabelList};
 
 /// The mean step of numbers that ascend, or 0.
 fn mean_step(numbers: &[i64]) -> u64 {
@@ -16,10 +16,13 @@ fn mean_step(numbers: &[i64]) -> u64 {
     }
 }
 
-/// The mean step of labels that ascend, or 0: texts have none.
+/// The mean step of labels that ascend, or 0: texts and numbers past those of `int64` have none.
 pub fn step_of(list: &LabelList, places: &Places) -> u64 {
     match places {
-        Places::Ranked(Ranks::Rising) => mean_step(label::numbers(list)),
+        Places::Ranked(Ranks::Rising) => match label::numbers(list) {
+            IntegersForm::Signed(numbers) => mean_step(numbers),
+            IntegersForm::Unsigned(_) => 0,
+        },
         _ => 0,
     }
 }
@@ -39,6 +42,20 @@ fn place_of(numbers: &[i64], step: u64, number: i64) -> Option<usize>
     None
 }
 
+/// The place of a number among those that an `int64` holds.
+fn place_among(numbers: &Integers, step: u64, number: i128) -> Option<usize>
+    requires { 0 < step }
+    ensures { IfSome result (λ p. (p < length numbers.now) × (slice_index_or numbers.now p (pos 0) ≡ number)) }
+{
+    match numbers.form() {
+        IntegersForm::Signed(numbers) => match i64::try_from(number) {
+            Ok(number) => place_of(numbers, step, number),
+            Err(_) => None,
+        },
+        IntegersForm::Unsigned(_) => None,
+    }
+}
+
 /// A position that holds a label.
 #[tactic(auto, using(crate::proofs::Guessing::same_number, crate::proofs::Guessing::same_time))]
 fn guess(list: &LabelList, step: u64, label: &Label) -> Option<usize>
@@ -47,10 +64,7 @@ fn guess(list: &LabelList, step: u64, label: &Label) -> Option<usize>
 {
     match list {
         LabelList::Numbers(_, numbers) => match label {
-            Label::Int(number) => match i64::try_from(*number) {
-                Ok(number) => place_of(numbers.as_slice(), step, number),
-                Err(_) => None,
-            },
+            Label::Int(number) => place_among(numbers, step, *number),
             Label::Time(_) | Label::Text(_) => None,
         },
         LabelList::Times(_, times) => match label {

@@ -9,9 +9,8 @@ use crate::place::Places;
 use crate::{between, guess, hash, label, near, place, search};
 use std::alloc::Global;
 use std::marker::Model;
-use xr_types::Near;
 use xr_arrays::{Direction, Span};
-use xr_types::{Axis, Fault, Label, LabelList, NoMemory};
+use xr_types::{Axis, Fault, Label, LabelList, Near, NoMemory};
 
 /// An axis's labels, ready for look-ups. It holds the axis and, where the labels neither ascend nor descend, six
 /// bytes a label: a hash table of numbers of which none stands twice, else the positions in the order of their labels.

@@ -1,17 +1,17 @@
 //! The labels of a list, one at a time.
 ghost use Rattle.std.specs.Prelude.{◌≡◌, ◌<◌, length};
 ghost use Rattle.xr_arrays.specs.Labels.{labels_of, label_at, order, distance, is_kin, is_text};
-ghost use Rattle.label_index.specs.Slots.{numbers_of, number_of};
+ghost use Rattle.label_index.specs.Slots.{numbers_of, number_of, shown};
 
 use std::cmp::Ordering;
-use xr_types::{Label, LabelList};
+use xr_types::{IntegersForm, Label, LabelList};
 
 /// How many labels a list has.
 pub fn count(list: &LabelList) -> usize
     ensures { result ≡ length (labels_of list.now) }
 {
     match list {
-        LabelList::Numbers(_, numbers) => numbers.as_slice().len(),
+        LabelList::Numbers(_, numbers) => numbers.len(),
         LabelList::Times(_, times) => times.as_slice().len(),
         LabelList::Texts(texts) => texts.as_slice().len(),
     }
@@ -25,7 +25,7 @@ pub fn compare(list: &LabelList, at: usize, label: &Label) -> Ordering
 {
     match list {
         LabelList::Numbers(_, numbers) => match label {
-            Label::Int(number) => i128::from(numbers.as_slice()[at]).cmp(number),
+            Label::Int(number) => numbers.get(at).cmp(number),
             Label::Time(_) => Ordering::Less,
             Label::Text(_) => Ordering::Less,
         },
@@ -50,7 +50,7 @@ pub fn compare_two(list: &LabelList, at: usize, other: usize) -> Ordering
     ensures { result ≡ order (label_at (labels_of list.now) at) (label_at (labels_of list.now) other) }
 {
     match list {
-        LabelList::Numbers(_, numbers) => numbers.as_slice()[at].cmp(&numbers.as_slice()[other]),
+        LabelList::Numbers(_, numbers) => numbers.get(at).cmp(&numbers.get(other)),
         LabelList::Times(_, times) => times.as_slice()[at].cmp(&times.as_slice()[other]),
         LabelList::Texts(texts) => texts.as_slice()[at]
             .as_bytes()
@@ -66,7 +66,7 @@ pub fn far(list: &LabelList, at: usize, label: &Label) -> u128
 {
     match list {
         LabelList::Numbers(_, numbers) => match label {
-            Label::Int(number) => i128::from(numbers.as_slice()[at]).abs_diff(*number),
+            Label::Int(number) => numbers.get(at).abs_diff(*number),
             Label::Time(_) => 0,
             Label::Text(_) => 0,
         },
@@ -91,13 +91,14 @@ pub fn is_kin(list: &LabelList, label: &Label) -> bool
 }
 
 /// The numbers of a list, times by their seconds; texts have none.
-pub fn numbers(list: &LabelList) -> &[i64]
-    ensures { result.now ≡ numbers_of list.now }
+#[tactic(auto, using(crate::proofs::Numbers::shows_is))]
+pub fn numbers(list: &LabelList) -> IntegersForm<'_>
+    ensures { shown result ≡ numbers_of list.now }
 {
     match list {
-        LabelList::Numbers(_, numbers) => numbers.as_slice(),
-        LabelList::Times(_, times) => times.as_slice(),
-        LabelList::Texts(_) => &[],
+        LabelList::Numbers(_, numbers) => numbers.form(),
+        LabelList::Times(_, times) => IntegersForm::Signed(times.as_slice()),
+        LabelList::Texts(_) => IntegersForm::Signed(&[]),
     }
 }
 

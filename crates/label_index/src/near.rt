@@ -8,8 +8,7 @@ ghost use Rattle.label_index.specs.Ranks.{direction, IsRanked};
 use crate::rank::Ranks;
 use crate::search::first_rank;
 use crate::{label, rank};
-use xr_types::Near;
-use xr_types::{Fault, Label, LabelList};
+use xr_types::{Fault, Label, LabelList, Near};
 
 /// Whether a label can be sought near: it is of the list's kind, and a text has no distance.
 pub fn can_be_near(list: &LabelList, label: &Label, method: Near, tolerance: Option<u128>) -> bool

@@ -1,5 +1,5 @@
 //! How the labels of an axis are ranked: as they stand where they ascend or descend, else by a sort.
-ghost use Rattle.std.specs.Prelude.{◌≡◌, ◌<◌, ◌≤◌, ◌^◌, ◌-◌, ℕ, ℤ, pos, [], length, slice_index_or, IfOk, IfSome, None, true, false};
+ghost use Rattle.std.specs.Prelude.{◌≡◌, ◌<◌, ◌≤◌, ◌^◌, ◌-◌, ℕ, ℤ, pos, [], length, map, slice_index_or, IfOk, IfSome, None, true, false};
 ghost use Rattle.std.specs.List.{range_with_len};
 ghost use Rattle.std.specs.List.Sorted.{IsPermutation, IsSortedBy};
 ghost use Rattle.std.specs.Ordering.{is_lt, int_cmp, nat_cmp};
@@ -10,7 +10,8 @@ ghost use Rattle.label_index.specs.Ranks.{next_way, IsRanked};
 use crate::label;
 use crate::rank::Ranks;
 use std::alloc::{AllocError, Global};
-use xr_types::{LabelList, TextBytes};
+use std::cmp::Ordering;
+use xr_types::{Integers, IntegersForm, LabelList, TextBytes};
 
 /// Whether the label at a position is at least the one before; where they are to fall, at most.
 #[tactic(auto, using(xr_arrays::proofs::LabelLaws::at_least_is))]
@@ -62,6 +63,17 @@ fn number_at(numbers: &[i64], at: u32) -> i64
     }
 }
 
+/// The number without a sign at a place, or 0 past the end.
+#[tactic(auto, using(crate::proofs::Numbers::natural_at))]
+fn natural_at(numbers: &[u64], at: u32) -> u64
+    ensures { pos result ≡ slice_index_or (map pos numbers.now) at (pos 0) }
+{
+    match numbers.get(at as usize) {
+        Some(number) => *number,
+        None => 0,
+    }
+}
+
 /// The text at a place, or no bytes past the end.
 fn text_at(texts: &[TextBytes], at: u32) -> &[u8]
     ensures { result.now ≡ slice_index_or texts.now at [] }
@@ -78,6 +90,32 @@ fn sort_numbers(order: &mut Vec<u32>, numbers: &[i64])
     ensures sorted { IsSortedBy (λ p q. is_lt (int_cmp (slice_index_or numbers.now p (pos 0)) (slice_index_or numbers.now q (pos 0)))) order.new.items }
 {
     order.sort_unstable_by(|a: &u32, b: &u32| number_at(numbers, *a).cmp(&number_at(numbers, *b)));
+}
+
+/// How the numbers at two places stand to each other.
+fn compare_naturals(numbers: &[u64], at: u32, other: u32) -> Ordering
+    ensures { result ≡ int_cmp (slice_index_or (map pos numbers.now) at (pos 0)) (slice_index_or (map pos numbers.now) other (pos 0)) }
+{
+    natural_at(numbers, at).cmp(&natural_at(numbers, other))
+}
+
+/// Puts places in the order of their numbers, which have no sign.
+fn sort_naturals(order: &mut Vec<u32>, numbers: &[u64])
+    ensures permutation { IsPermutation order.old.items order.new.items }
+    ensures sorted { IsSortedBy (λ p q. is_lt (int_cmp (slice_index_or (map pos numbers.now) p (pos 0)) (slice_index_or (map pos numbers.now) q (pos 0)))) order.new.items }
+{
+    order.sort_unstable_by(|a: &u32, b: &u32| compare_naturals(numbers, *a, *b));
+}
+
+/// Puts places in the order of their whole numbers.
+fn sort_integers(order: &mut Vec<u32>, numbers: &Integers)
+    ensures permutation { IsPermutation order.old.items order.new.items }
+    ensures sorted { IsSortedBy (λ p q. is_lt (int_cmp (slice_index_or numbers.now p (pos 0)) (slice_index_or numbers.now q (pos 0)))) order.new.items }
+{
+    match numbers.form() {
+        IntegersForm::Signed(numbers) => sort_numbers(order, numbers),
+        IntegersForm::Unsigned(numbers) => sort_naturals(order, numbers),
+    }
 }
 
 /// Puts places in the order of their texts.
@@ -112,7 +150,7 @@ pub fn sorted(alloc: Global, list: &LabelList) -> Result<Ranks, AllocError>
 {
     let mut order = places(alloc, label::count(list))?;
     match list {
-        LabelList::Numbers(_, numbers) => sort_numbers(&mut order, numbers.as_slice()),
+        LabelList::Numbers(_, numbers) => sort_integers(&mut order, numbers),
         LabelList::Times(_, times) => sort_numbers(&mut order, times.as_slice()),
         LabelList::Texts(texts) => sort_texts(&mut order, texts.as_slice()),
     }

@@ -17,19 +17,19 @@ returns c =
     let start : c.in_ok-order.order.items ≡ range_with_len 0 (length (labels_of c.args.list.now)) = c.in_ok-order.ensures ∙ ap (range_with_len 0) c.count.ensures in
     elim c.match-list.branch [
       | in-Numbers w ↦
-          let sorted : IsSortedBy (λ p q. is_lt (int_cmp (get_or w.in-Numbers.numbers p (pos 0)) (get_or w.in-Numbers.numbers q (pos 0)))) w.sort_numbers.new.order.items =
+          let sorted : IsSortedBy (λ p q. is_lt (int_cmp (get_or w.in-Numbers.numbers p (pos 0)) (get_or w.in-Numbers.numbers q (pos 0)))) w.sort_integers.new.order.items =
+          w.sort_integers.ensures.sorted in
+          let permuted : IsPermutation (range_with_len 0 (length (labels_of c.args.list.now))) w.sort_integers.new.order.items =
+          subst (λ l. IsPermutation l w.sort_integers.new.order.items) start w.sort_integers.ensures.permutation in
+          subst (λ v. IsRanked (labels_of c.args.list.now) (Sorted v)) (sym w.order-is)
+          (sorted_ranked (labels_of c.args.list.now) w.sort_integers.new.order (λ p q. is_lt (int_cmp (get_or w.in-Numbers.numbers p (pos 0)) (get_or w.in-Numbers.numbers q (pos 0)))) c.requires.up c.requires.down permuted (numbers_by c.args.list.now _ w.in-Numbers.numbers w.in-Numbers.is) sorted)
+      | in-Times w ↦
+          let sorted : IsSortedBy (λ p q. is_lt (int_cmp (get_or w.in-Times.times p (pos 0)) (get_or w.in-Times.times q (pos 0)))) w.sort_numbers.new.order.items =
           subst (λ xs. IsSortedBy (λ p q. is_lt (int_cmp (get_or xs p (pos 0)) (get_or xs q (pos 0)))) w.sort_numbers.new.order.items) w.as_slice.ensures w.sort_numbers.ensures.sorted in
           let permuted : IsPermutation (range_with_len 0 (length (labels_of c.args.list.now))) w.sort_numbers.new.order.items =
           subst (λ l. IsPermutation l w.sort_numbers.new.order.items) start w.sort_numbers.ensures.permutation in
           subst (λ v. IsRanked (labels_of c.args.list.now) (Sorted v)) (sym w.order-is)
-          (sorted_ranked (labels_of c.args.list.now) w.sort_numbers.new.order (λ p q. is_lt (int_cmp (get_or w.in-Numbers.numbers p (pos 0)) (get_or w.in-Numbers.numbers q (pos 0)))) c.requires.up c.requires.down permuted (numbers_by c.args.list.now _ w.in-Numbers.numbers w.in-Numbers.is) sorted)
-      | in-Times w ↦
-          let sorted : IsSortedBy (λ p q. is_lt (int_cmp (get_or w.in-Times.times p (pos 0)) (get_or w.in-Times.times q (pos 0)))) w.sort_numbers-in-Times.new.order.items =
-          subst (λ xs. IsSortedBy (λ p q. is_lt (int_cmp (get_or xs p (pos 0)) (get_or xs q (pos 0)))) w.sort_numbers-in-Times.new.order.items) w.as_slice-in-Times.ensures w.sort_numbers-in-Times.ensures.sorted in
-          let permuted : IsPermutation (range_with_len 0 (length (labels_of c.args.list.now))) w.sort_numbers-in-Times.new.order.items =
-          subst (λ l. IsPermutation l w.sort_numbers-in-Times.new.order.items) start w.sort_numbers-in-Times.ensures.permutation in
-          subst (λ v. IsRanked (labels_of c.args.list.now) (Sorted v)) (sym w.order-is)
-          (sorted_ranked (labels_of c.args.list.now) w.sort_numbers-in-Times.new.order (λ p q. is_lt (int_cmp (get_or w.in-Times.times p (pos 0)) (get_or w.in-Times.times q (pos 0)))) c.requires.up c.requires.down permuted (times_by c.args.list.now _ w.in-Times.times w.in-Times.is) sorted)
+          (sorted_ranked (labels_of c.args.list.now) w.sort_numbers.new.order (λ p q. is_lt (int_cmp (get_or w.in-Times.times p (pos 0)) (get_or w.in-Times.times q (pos 0)))) c.requires.up c.requires.down permuted (times_by c.args.list.now _ w.in-Times.times w.in-Times.is) sorted)
       | in-Texts w ↦
           let sorted : IsSortedBy (λ p q. is_lt (slice_cmp nat_cmp (get_or w.in-Texts.texts p []) (get_or w.in-Texts.texts q []))) w.sort_texts.new.order.items =
           subst (λ xs. IsSortedBy (λ p q. is_lt (slice_cmp nat_cmp (get_or xs p []) (get_or xs q []))) w.sort_texts.new.order.items) w.as_slice-in-Texts.ensures w.sort_texts.ensures.sorted in
