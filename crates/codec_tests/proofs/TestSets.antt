@@ -17,7 +17,7 @@ use Rattle.xr_arrays.specs.declared.node.Node.TheVariants.{Source}
 use Rattle.xr_values.specs.declared.dataset.Dataset.{Dataset}
 use Rattle.xr_values.specs.declared.variable.Variable.{Variable}
 use Rattle.xr_values.specs.Stands.{shape_named, IsNodeOf, IsDatasetIn}
-use Rattle.xr_values.specs.WellFormed.{AreAttributes, IsIndex, IsDimension, AreCells, AreSeen, labelled}
+use Rattle.xr_defs.specs.WellFormed.{AreAttributes, IsIndex, IsDimension, AreCells, AreSeen, labelled}
 
 -- a plan's one source
 pub is_source : (a : Array) → a.shape ≡ length a.cells ∷ [] → length a.cells ≤ most_cells → All (IsCell a.kind) a.cells → IsNode [] (Source a)

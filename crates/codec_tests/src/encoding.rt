@@ -6,7 +6,7 @@ ghost use Rattle.xr_arrays.specs.Nodes.{IsNode};
 ghost use Rattle.xr_arrays.specs.declared.node.Node.TheVariants.{Source};
 ghost use Rattle.xr_files.specs.Files.{is_version};
 ghost use Rattle.xr_values.specs.Stands.{IsDatasetIn};
-ghost use Rattle.xr_values.specs.WellFormed.{AreSeen, IsIndex};
+ghost use Rattle.xr_defs.specs.WellFormed.{AreSeen, IsIndex};
 
 use plan_core::{Compute, Plan};
 use std::alloc::Global;

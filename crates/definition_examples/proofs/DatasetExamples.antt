@@ -2,6 +2,7 @@
 use Rattle.std.proofs.Common.{◌≡◌, ℕ, List, [], ◌∷◌, Some, None, Result, Ok, Err, refl}
 use Rattle.std.specs.Prelude.{codes, ℤ, pos, negsuc, true, false, map}
 use Rattle.std.specs.List.{range_with_len}
+use Rattle.std.specs.Int.{int_wrap}
 use Rattle.std.specs.Fmt.{digits}
 use Rattle.std.specs.Str.{is_utf8, chars}
 use lib.Utf8
@@ -12,7 +13,7 @@ use Rattle.xr_types.specs.declared.kind.DType.TheVariants as kinds
 use Rattle.xr_defs.specs.declared.slice.Part.TheVariants as part
 use Rattle.xr_defs.specs.declared.value.Content.TheVariants as contents
 use Rattle.xr_types.specs.Results.{◌>>=◌, unless}
-use Rattle.xr_defs.specs.Values.{DataArray, Dataset}
+use Rattle.xr_defs.specs.Values.{DataArray, Dataset, total}
 use Rattle.xr_defs.specs.Meanings.{Value, Values, Number, Missing, Truth, Text, Sequence, Table, Slice, Array, NoValue, With, NoEntry, Entry, Given}
 use Rattle.xr_defs.specs.Arguments.{only_of, as_text, as_position, as_positions, check_dimension, nothing_given}
 use Rattle.xr_defs.specs.Selecting.{isel_array, check_selector, as_selector, as_number, as_numbers, array_selected, array_each_selected, choice_of, position_in, positions_in, check_array, check_set}
@@ -156,6 +157,12 @@ greatest = refl
 unsigned_sum : (data_array (of_kind (codes "uint8") (pos 200 ∷ pos 100 ∷ [])) >>= λ a. sum_called (plainly []) a) ≡ Ok (Array (record { name = Some (codes "u"); axes = []; kind = kinds.UInt64; masked = false; attrs = []; coords = []; cells = Some (pos 300) ∷ [] }))
 unfolding elements data_array array_built bound check_elements dims_given entries_given check_table_entry kind_given build.name_given check_entry check_place texts_in as_text with_entries check_array unless digits new_name sum_called nothing_given
 unsigned_sum = refl
+
+-- the sum keeps the attributes, but for those that name fill numbers
+sum_described : (data_array arguments >>= λ a. attrs_assigned a.attrs (keyed ((codes "units", Text (codes "m")) ∷ (codes "_FillValue", Number (pos 9)) ∷ (codes "n", Number (pos 1)) ∷ [])) >>= λ more. Ok (array_text (total (record a { attrs = more }))))
+    ≡ Ok (codes "DataArray - () int64\n60\nattr units char: \"m\"\nattr n int: 1\n")
+unfolding elements data_array array_built bound check_elements dims_given entries_given check_table_entry kind_given build.name_given check_entry check_place check_coordinate check_labels as_labels texts_in as_text with_entries with_entry with_labels with_coordinate coordinate_given check_numbers check_array unless digits attrs_assigned check_attr each_attr attr_given is_utf8 chars Utf8.encode int_wrap
+sum_described = refl
 
 in_the_classic_format : (data_array (of_kind (codes "uint8") (pos 200 ∷ pos 100 ∷ [])) >>= λ a. set_written (Array a) (plainly (Text (codes "u.nc") ∷ Text (codes "NETCDF3_CLASSIC") ∷ []))) ≡ Err CannotHold
 unfolding elements data_array array_built bound check_elements dims_given entries_given check_table_entry kind_given build.name_given check_entry check_place texts_in as_text with_entries check_array unless digits new_name set_written write_asked as_dataset options_given format_given format_named fill_given unlimited_given as_set check_set file_of check_unlimited check_names check_records check_fill check_fit check_cells

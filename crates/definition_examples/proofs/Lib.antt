@@ -9,3 +9,4 @@ mod DecodingExamples
 mod EncodingExamples
 mod DatasetExamples
 mod CallExamples
+mod CarryExamples

@@ -17,7 +17,7 @@ use Rattle.xr_types.specs.Names.{shape_over}
 use Rattle.xr_defs.specs.Meanings as of
 use Rattle.xr_defs.specs.Meanings.{Value}
 use Rattle.xr_defs.specs.Building.{bare_axes, elements, element_cell, fits_kind, first_item, is_missing, is_nested, is_regular, is_truth_cell, is_whole_cell, nested_shape, suits}
-use Rattle.xr_values.specs.WellFormed.{AreSeen}
+use Rattle.xr_defs.specs.WellFormed.{AreSeen}
 use Rattle.xr_building.specs.declared.elements.Elements.{Elements}
 use Rattle.xr_building.specs.Frames.{IsFrame}
 use Rattle.xr_building.specs.Gathered.{gathered, suits_all}

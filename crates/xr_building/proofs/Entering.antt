@@ -22,7 +22,7 @@ use Rattle.xr_defs.specs.Selecting.{axis_called}
 use Rattle.xr_defs.specs.Meanings.{Value, Values, Absent, Missing, Truth, Number, Text, Sequence, Table, Slice, Array, Set}
 use Rattle.xr_defs.specs.Building.{Frame, all_values, as_labels, check_axis, check_entry, check_labels, check_coordinate, check_numbers, coordinate_given, is_dimension, is_integer_kind, is_number, is_text, label_total, labels_given, numbers_in, same_labels, with_coord, with_coordinate, with_entry, with_labels}
 use Rattle.xr_defs.specs.Parts.{texts_in}
-use Rattle.xr_values.specs.WellFormed.{IsDataArray, IsDimension, IsIndex}
+use Rattle.xr_defs.specs.WellFormed.{IsDataArray, IsDimension, IsIndex}
 use Rattle.xr_building.specs.Frames.{with_index}
 use Rattle.xr_building.specs.Walk.{aligned, check_put, coord_fits, coord_given, coord_in, fit_list, fitting, indexed, labels_in, put, put_fitting, shown, sized, with_another, IsWhole}
 use Rattle.xr_building.proofs.Called.{called_kept, dimension_kept, position_kept, size_called}

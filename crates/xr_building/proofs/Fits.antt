@@ -33,7 +33,7 @@ use Rattle.xr_defs.specs.Parts.{texts_in}
 use Rattle.xr_values.specs.declared.value.Value.{Value as Held}
 use Rattle.xr_values.specs.Meaning.{meaning, values}
 use Rattle.xr_values.specs.Meaning.{all_values as listed}
-use Rattle.xr_values.specs.WellFormed.{IsDataArray}
+use Rattle.xr_defs.specs.WellFormed.{IsDataArray}
 use Rattle.xr_building.specs.Aligned.{are_aligned, checked_axis}
 use Rattle.xr_building.specs.Listed.{text_in, each_of}
 use Rattle.xr_building.specs.Places.{is_there}

@@ -17,7 +17,7 @@ use Rattle.xr_arrays.specs.Arrays.{IsCell}
 use Rattle.xr_defs.specs.Values.{present}
 use Rattle.xr_defs.specs.Encoding.{may_fill}
 use Rattle.xr_defs.specs.Building.{same_labels, is_integer_kind}
-use Rattle.xr_values.specs.WellFormed.{AreLabels}
+use Rattle.xr_defs.specs.WellFormed.{AreLabels}
 use Rattle.xr_building.specs.Walk.{fit_list}
 
 below : (x y : ℤ) → x ≤ℤ y → int_le x y ≡ true

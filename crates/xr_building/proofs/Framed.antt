@@ -30,7 +30,7 @@ use Rattle.xr_defs.specs.Selecting.{axis_called}
 use Rattle.xr_defs.specs.Meanings.{Value, Absent, Missing, Truth, Number, Text, Sequence, Table, Slice, Array, Set}
 use Rattle.xr_defs.specs.Building.{Frame, all_values, as_labels, check_axis, check_entry, check_labels, check_coordinate, check_place, is_dimension, is_integer_kind, is_number, is_text, label_total, labels_given, numbers_in, with_coord}
 use Rattle.xr_defs.specs.Parts.{texts_in}
-use Rattle.xr_values.specs.WellFormed.{AreAttributes, AreCells, AreLabels, IsContent, IsCoordinate, IsIndex, names_of}
+use Rattle.xr_defs.specs.WellFormed.{AreAttributes, AreCells, AreLabels, IsContent, IsCoordinate, IsIndex, names_of}
 use Rattle.xr_values.proofs.Named.{bytes_eq_swap}
 use Rattle.xr_building.specs.Frames.{with_index, coord_with_index, IsOpenAxis, IsFrame}
 use Rattle.xr_building.specs.Places.{is_there}

@@ -14,7 +14,7 @@ use Rattle.xr_types.specs.Names.{axis_names}
 use Rattle.xr_defs.specs.Meanings.{Value, Absent, Missing, Truth, Number, Text, Sequence, Table, Slice, Array, Set}
 use Rattle.xr_defs.specs.Building.{Frame, is_dimension, with_coord}
 use Rattle.xr_values.specs.declared.args.Args.{Args}
-use Rattle.xr_values.specs.WellFormed.{labelled, names_of}
+use Rattle.xr_defs.specs.WellFormed.{labelled, names_of}
 use Rattle.xr_values.proofs.Named.{bytes_eq_swap}
 use Rattle.xr_building.specs.Frames.{with_index, coord_with_index}
 use Rattle.xr_building.specs.Entries.{frame_in}

@@ -15,7 +15,7 @@ use Rattle.xr_values.specs.declared.data_array.DataArray.{DataArray}
 use Rattle.xr_values.specs.declared.args.Args.{Args}
 use Rattle.xr_values.specs.declared.value.Value.{Value as Entry}
 use Rattle.xr_values.specs.Stands.{array_in, IsArrayIn, IsNodeOf}
-use Rattle.xr_values.specs.WellFormed.{AreCells, IsDimension}
+use Rattle.xr_defs.specs.WellFormed.{AreCells, IsDimension}
 use Rattle.xr_building.specs.Frames.{with_index, IsFrame, IsOpenAxis}
 use Rattle.xr_building.specs.Entries.{array_assigned, entries_in, frame_in}
 use Rattle.xr_building.specs.Walk.{coord_given, indexed, labels_in, put, with_another}

@@ -16,7 +16,7 @@ use Rattle.xr_defs.specs.Encoding.{may_fill}
 use Rattle.xr_defs.specs.Meanings.{Value, Absent, Missing, Truth, Number, Text, Sequence, Table, Slice, Set}
 use Rattle.xr_defs.specs.Meanings as of
 use Rattle.xr_defs.specs.Building.{is_truth_cell, element_cell, fits_kind, suits}
-use Rattle.xr_values.specs.WellFormed.{AreSeen}
+use Rattle.xr_defs.specs.WellFormed.{AreSeen}
 use Rattle.xr_building.specs.Gathered.{number_or_zero, mask_byte}
 
 -- ---- a number of a kind is left as it is

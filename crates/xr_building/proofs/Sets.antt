@@ -25,7 +25,7 @@ use Rattle.xr_values.specs.declared.dataset.Dataset.{Dataset}
 use Rattle.xr_values.specs.declared.variable.Variable.{Variable}
 use Rattle.xr_values.specs.declared.args.Args.{Args}
 use Rattle.xr_values.specs.Stands.{dataset_in, variable_in, IsDatasetIn, IsNodeOf}
-use Rattle.xr_values.specs.WellFormed.{AreCells, IsVariable, labelled, names_of}
+use Rattle.xr_defs.specs.WellFormed.{AreCells, IsVariable, labelled, names_of}
 use Rattle.xr_values.specs.Variables as kept
 use Rattle.xr_building.specs.Frames.{IsFrame}
 use Rattle.xr_building.specs.Entries.{refused, frame_in, set_assigned, Follows, FollowsSet}

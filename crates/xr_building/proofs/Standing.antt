@@ -17,7 +17,7 @@ use Rattle.xr_defs.specs.Selecting.{is_within, are_within, check_array}
 use Rattle.xr_types.specs.Results.{unless}
 use Rattle.xr_types.specs.Names.{shape_over}
 use Rattle.xr_values.specs.declared.data_array.DataArray.{DataArray}
-use Rattle.xr_values.specs.WellFormed.{AreSeen, IsDimension, IsDataArray}
+use Rattle.xr_defs.specs.WellFormed.{AreSeen, IsDimension, IsDataArray}
 use Rattle.xr_values.specs.Stands.{array_in, with_cells, IsArrayIn}
 use Rattle.xr_values.proofs.Grown.{pushed_cells, pushed_array}
 use Rattle.xr_building.specs.declared.placed.Outline.{Outline}

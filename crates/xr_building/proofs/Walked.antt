@@ -22,7 +22,7 @@ use Rattle.xr_values.specs.declared.value.Value.TheViews.{out-Value}
 use Rattle.xr_values.specs.declared.args.Args.{Args}
 use Rattle.xr_values.specs.Meaning.{meaning, layer, with_key, IsValueIn, IsEntryIn, IsLayerIn, AreArgsIn}
 use Rattle.xr_values.proofs.Meaning.{meaning_out, value_out}
-use Rattle.xr_values.specs.WellFormed.{IsIndex}
+use Rattle.xr_defs.specs.WellFormed.{IsIndex}
 use Rattle.xr_building.specs.Frames.{with_index, IsFrame, IsOpenAxis}
 use Rattle.xr_building.specs.Entries.{refused, computed, entry_in, entries_in, frame_in}
 use Rattle.xr_building.specs.Walk.{aligned, check_put, check_taken, coord_computed, coord_given, coord_in, coord_put, entries_put, entry_put, fitting, frame_put, indexed, labels_computed, labels_in, labels_put, put, put_fitting, shown, sized, with_another, IsWhole}

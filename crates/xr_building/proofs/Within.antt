@@ -16,7 +16,7 @@ use Rattle.xr_types.specs.Results.{unless}
 use Rattle.xr_types.specs.Names.{axis_names, shape_over}
 use Rattle.xr_defs.specs.Values.{Dataset, Variable}
 use Rattle.xr_defs.specs.Selecting.{are_few, are_within, axis_called, check_set, is_within, variable_array}
-use Rattle.xr_values.specs.WellFormed.{IsContent, IsCoordinate, IsDimension, IsVariable}
+use Rattle.xr_defs.specs.WellFormed.{IsContent, IsCoordinate, IsDimension, IsVariable}
 use Rattle.xr_values.proofs.Named.{bytes_eq_swap}
 use Rattle.xr_building.proofs.Framed.{called_cons}
 

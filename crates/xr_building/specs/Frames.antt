@@ -8,7 +8,7 @@ use Rattle.xr_defs.specs.declared.value.Coord.{Coord}
 use Rattle.xr_files.specs.Classic.{is_name}
 use Rattle.xr_types.specs.Names.{are_distinct}
 use Rattle.xr_types.specs.Names.{axis_names}
-use Rattle.xr_values.specs.WellFormed.{IsIndex, IsCoordinate, names_of}
+use Rattle.xr_defs.specs.WellFormed.{IsIndex, IsCoordinate, names_of}
 
 -- the axis of this name has these labels, or none
 abbrev pub with_index : List ℕ → Option Labels → Axis → Axis

@@ -11,7 +11,7 @@ use Rattle.xr_defs.specs.Selecting.{check_array}
 use Rattle.xr_types.specs.Points.{size}
 use Rattle.xr_defs.specs.Values as of
 use Rattle.xr_types.specs.Names.{shape_over}
-use Rattle.xr_values.specs.WellFormed.{AreSeen}
+use Rattle.xr_defs.specs.WellFormed.{AreSeen}
 use Rattle.xr_building.specs.declared.placed.Outline.{Outline}
 use Rattle.xr_building.specs.Frames.{IsFrame}
 

@@ -28,7 +28,7 @@ use Rattle.xr_defs.specs.Building.{Frame, check_axis, check_entry, check_place, 
 use Rattle.xr_values.specs.declared.value.Value.{Value as Held}
 use Rattle.xr_values.specs.declared.args.Args.{Args}
 use Rattle.xr_values.specs.Meaning.{meaning, with_key}
-use Rattle.xr_values.specs.WellFormed.{IsDataArray}
+use Rattle.xr_defs.specs.WellFormed.{IsDataArray}
 use Rattle.xr_building.specs.declared.draft.Draft.{Draft}
 use Rattle.xr_building.specs.Frames.{with_index, coord_with_index}
 use Rattle.xr_building.specs.Entries.{refused, computed}

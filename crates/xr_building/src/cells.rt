@@ -7,7 +7,7 @@ ghost use Rattle.xr_arrays.specs.Arrays.{IsCell, InKind, kind_of, wide};
 ghost use Rattle.xr_defs.specs.Building.{fits_kind};
 ghost use Rattle.xr_defs.specs.Encoding.{may_fill};
 ghost use Rattle.xr_types.specs.Points.{size};
-ghost use Rattle.xr_values.specs.WellFormed.{AreSeen};
+ghost use Rattle.xr_defs.specs.WellFormed.{AreSeen};
 ghost use Rattle.xr_building.specs.Gathered.{number_or_zero, mask_byte, kind_of_all, suits_all};
 
 use crate::elements::Elements;

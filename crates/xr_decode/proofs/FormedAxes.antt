@@ -19,7 +19,7 @@ use Rattle.xr_arrays.specs.Numbers.{cells_kind, numbers_of, is_whole}
 use Rattle.xr_defs.specs.Values.{label_count}
 use Rattle.xr_defs.specs.Decoding.{is_integer, is_char, all_there, text_in, row, rows_of, var_shape, is_named_as_first, number_labels, text_labels, or_else, labels_in, unlisted}
 use Rattle.stored_cells.proofs.Lengths.{numbers-length}
-use Rattle.xr_values.specs.WellFormed.{IsIndex, AreLabels}
+use Rattle.xr_defs.specs.WellFormed.{IsIndex, AreLabels}
 use Rattle.xr_decode.specs.Readable.{IsReadableVar}
 use Rattle.xr_decode.specs.Stored.{AreBytes}
 use Rattle.xr_decode.proofs.FormedCells.{without_formed}

@@ -13,7 +13,7 @@ use Rattle.xr_arrays.specs.Numbers.{numbers_of}
 use Rattle.xr_types.specs.Points.{size}
 use Rattle.xr_arrays.specs.Stored.{unless_fill}
 use Rattle.stored_cells.proofs.Lengths.{numbers-length}
-use Rattle.xr_values.specs.WellFormed.{IsAttribute, AreAttributes, AreCells, AreSeen}
+use Rattle.xr_defs.specs.WellFormed.{IsAttribute, AreAttributes, AreCells, AreSeen}
 use Rattle.xr_decode.specs.Cells.{fills_used, attrs_as}
 use Rattle.xr_decode.specs.Readable.{IsReadableVar}
 use Rattle.xr_decode.specs.Stored.{AreBytes}

@@ -21,7 +21,7 @@ use Rattle.xr_defs.specs.Selecting.{axis_called}
 use Rattle.xr_types.specs.Names.{axis_names}
 use Rattle.xr_defs.specs.Values.{Variable}
 use Rattle.xr_defs.specs.Decoding.{is_skipped, is_index, is_coordinate, coordinate_names, labels_in, index_in, index_among, loaded_in, others_in, axis_in, var_axes, var_dims, var_shape, variable_of, coordinate_of, coordinate_over, scalar_text, coordinates_in, variables_in, is_kept, unlisted, dataset_in}
-use Rattle.xr_values.specs.WellFormed.{IsDimension, AreDimensions, IsIndex, AreCells, IsCoordinate, IsVariable, IsDataset, names_of, variable_names, labelled}
+use Rattle.xr_defs.specs.WellFormed.{IsDimension, AreDimensions, IsIndex, AreCells, IsCoordinate, IsVariable, IsDataset, names_of, variable_names, labelled}
 use Rattle.xr_decode.specs.Held.{data_in}
 use Rattle.xr_decode.specs.Readable.{IsReadable, IsReadableVar, var_names}
 use Rattle.xr_decode.specs.Stored.{AreBytes, HoldsBytes}

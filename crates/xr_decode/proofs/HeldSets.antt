@@ -16,7 +16,7 @@ use Rattle.xr_defs.specs.Decoding.{others_in, axis_in, var_dims, variable_of, co
 use Rattle.xr_values.specs.declared.variable.Variable.{Variable}
 use Rattle.xr_values.specs.declared.dataset.Dataset.{Dataset}
 use Rattle.xr_values.specs.Stands.{variable_in, dataset_in, IsNodeOf, IsDatasetIn, shape_named}
-use Rattle.xr_values.specs.WellFormed.{IsDataset}
+use Rattle.xr_defs.specs.WellFormed.{IsDataset}
 use Rattle.xr_decode.specs.Held.{data_in, AreHeld, stays}
 use Rattle.xr_decode.specs.Readable.{IsReadable}
 use Rattle.xr_decode.specs.Stored.{HoldsBytes}

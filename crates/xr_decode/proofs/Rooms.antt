@@ -16,7 +16,7 @@ use Rattle.plan_core.proofs.Added.{adds_both, adds_up}
 use Rattle.xr_values.specs.declared.variable.Variable.{Variable}
 use Rattle.xr_values.specs.declared.dataset.Dataset.{Dataset}
 use Rattle.xr_values.specs.Stands.{dataset_in, shape_named, variable_in, IsDatasetIn, IsNodeOf}
-use Rattle.xr_values.specs.WellFormed.{IsVariable}
+use Rattle.xr_defs.specs.WellFormed.{IsVariable}
 use Rattle.xr_values.proofs.Rooms.{named_within}
 use Rattle.xr_decode.specs.declared.role.Role.TheVariants.{Data}
 use Rattle.xr_decode.specs.Held.{data_cells, data_in, AreHeld}

@@ -25,7 +25,7 @@ use Rattle.xr_types.specs.Points.{size}
 use Rattle.xr_files.specs.Files.{shape_of, file_in, file_of, var_of, is_inside, all_inside, records_of, Spells}
 use Rattle.xr_files.proofs.FileLaws.{given_is_spelled}
 use Rattle.xr_files.proofs.FormatLaws.{IsBytes}
-use Rattle.xr_values.specs.WellFormed.{IsAttribute, AreAttributes}
+use Rattle.xr_defs.specs.WellFormed.{IsAttribute, AreAttributes}
 use Rattle.xr_decode.specs.Readable.{IsReadable, IsReadableVar}
 use Rattle.xr_decode.specs.Readable as readable
 use Rattle.xr_decode.proofs.Lengths.{AreIds, values_whole}

@@ -9,7 +9,7 @@ use Rattle.xr_files.specs.Classic.{is_name, dim_names}
 use Rattle.xr_types.specs.Names.{are_distinct}
 use Rattle.xr_files.specs.Files.{shape_of}
 use Rattle.xr_arrays.specs.Numbers.{is_whole}
-use Rattle.xr_values.specs.WellFormed.{AreAttributes}
+use Rattle.xr_defs.specs.WellFormed.{AreAttributes}
 
 -- its dimensions are there, and whole numbers are as many bytes as its shape and its type say
 pub record IsReadableVar (f : CdfFile) (v : CdfVar) : Type 0 where

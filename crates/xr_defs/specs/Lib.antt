@@ -15,4 +15,7 @@ pub mod Room
 pub mod Selecting
 pub mod Parts
 pub mod Building
+pub mod Carrying
+pub mod WellFormed
+pub mod Carries
 pub mod Calls

@@ -1,5 +1,5 @@
 -- Arrays with named dimensions and labels, and datasets (xarray user guide, "Data Structures").
-use Rattle.std.specs.Prelude.{◌==◌, ◌+◌, ℕ, ℤ, pos, Bool, false, List, [], ◌∷◌, length, map, filter, get_or, slice_set, Option, Some, None, option_map, if◌then◌else◌}
+use Rattle.std.specs.Prelude.{◌==◌, ◌||◌, ◌+◌, ℕ, ℤ, pos, Bool, false, not, codes, List, [], ◌∷◌, length, map, filter, get_or, slice_set, Option, Some, None, option_map, if◌then◌else◌}
 use Rattle.std.specs.Str.{bytes_eq}
 use Rattle.xr_types.specs.declared.attr.Attr.{Attr}
 use Rattle.xr_types.specs.declared.axis.Axis.{Axis}
@@ -92,6 +92,15 @@ chosen_coord dimension ps c =
       | Some k ↦ record c { axes = chosen_axes c.axes k ps; content = chosen_content c.content k ps }
     ]
 
+-- ---- attributes of new cells
+
+-- the numbers that stood for missing cells say nothing of new cells
+abbrev pub names_fill : Attr → Bool
+names_fill a = bytes_eq a.name (codes "_FillValue") || bytes_eq a.name (codes "missing_value")
+
+abbrev pub without_fills : List Attr → List Attr
+without_fills attrs = filter (λ (a : Attr). not (names_fill a)) attrs
+
 -- ---- the sum over all dimensions (NumPy, `sum`), without the missing cells
 
 -- the numbers that aren't missing
@@ -110,7 +119,7 @@ total a =
       axes = [];
       kind = folded_kind Sum a.kind;
       masked = false;
-      attrs = [];
+      attrs = without_fills a.attrs;
       coords = filter is_scalar a.coords;
       cells = fold_of Sum a.kind (numbered 0 a.cells) ∷ [];
     }

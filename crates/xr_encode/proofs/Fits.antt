@@ -16,7 +16,7 @@ use Rattle.xr_files.specs.Classic.{attr_names}
 use Rattle.xr_files.specs.Files.{most_bytes, padded}
 use Rattle.xr_types.specs.Names.{are_distinct}
 use Rattle.xr_files.specs.Canonical.{number_text, name_text, dim_text, attr_text, var_text, list_text, header_size, is_record, record_vars, room, slab, recsize, canonical_size, is_small, IsAttr, AreAttrs}
-use Rattle.xr_values.specs.WellFormed.{IsAttribute}
+use Rattle.xr_defs.specs.WellFormed.{IsAttribute}
 use Rattle.cdf_writer.proofs.Lengths.{name_length, list_length, var_length}
 use Rattle.xr_encode.proofs.Distinct.{weaken, all_with}
 

@@ -41,7 +41,7 @@ use Rattle.xr_defs.specs.Selecting.{axis_called}
 use Rattle.xr_defs.specs.Printing.{by_name}
 use Rattle.xr_defs.specs.Decoding.{is_attr, is_blank, string_name}
 use Rattle.xr_defs.specs.Encoding.{Stored, type_of, value_bytes, text_width, filled_up, text_cells, stored, stored_index, stored_labels, stored_content, stored_coord, stored_variable, coord_names, index_width, labels_width, content_width, coord_width, each_once, text_widths, attrs_of, own_attr, fill_attr, attr_fill, is_fill_in_use, added, dtype_added, fill_added, uses_option, coordinates_added, text_attr, listed_by_none, empty_axes, record_dim, is_that, axis_named, dim_of_axis, string_dim, dims_of, number_of_dim, number_for, var_of, encoded, has_width, are_new, stands_first, check_unlimited, check_names, check_records, check_fill, check_fit}
-use Rattle.xr_values.specs.WellFormed.{IsAttribute, AreAttributes, IsIndex, IsDimension, IsContent, IsCoordinate, IsVariable, IsDataset, labelled, variable_names}
+use Rattle.xr_defs.specs.WellFormed.{IsAttribute, AreAttributes, IsIndex, IsDimension, IsContent, IsCoordinate, IsVariable, IsDataset, labelled, variable_names}
 use Rattle.xr_encode.specs.Dimensions.{is_axisless}
 use Rattle.xr_encode.specs.Encoded.{check_outlines}
 use Rattle.xr_encode.proofs.Told.{sorted_kept}

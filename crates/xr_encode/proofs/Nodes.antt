@@ -16,7 +16,7 @@ use Rattle.xr_arrays.specs.Arrays.{Array, IsCell}
 use Rattle.xr_arrays.specs.Nodes.{value}
 use Rattle.xr_defs.specs.Encoding.{Stored, check_fit}
 use Rattle.xr_values.specs.declared.variable.Variable.{Variable}
-use Rattle.xr_values.specs.WellFormed.{AreSeen}
+use Rattle.xr_defs.specs.WellFormed.{AreSeen}
 use Rattle.xr_encode.specs.declared.outline.Outline.{Outline}
 use Rattle.xr_encode.specs.Sets.{variable_outline}
 use Rattle.xr_encode.specs.Encoded.{node_cells, computed_var, computed_from, IsReady, Follows, Adds, refused}

@@ -14,7 +14,7 @@ use Rattle.xr_arrays.specs.Arrays.{IsCell}
 use Rattle.xr_defs.specs.Encoding.{Stored, holds, holds_cell, type_of, is_between, is_fill_cell, fill_for, check_fit, check_cells}
 use Rattle.xr_defs.specs.declared.write_options.WriteOptions.{WriteOptions}
 use Rattle.xr_types.specs.Results.{◌>>=◌, unless}
-use Rattle.xr_values.specs.WellFormed.{AreSeen}
+use Rattle.xr_defs.specs.WellFormed.{AreSeen}
 use Rattle.xr_encode.specs.declared.outline.Outline.{Outline}
 use Rattle.xr_encode.specs.Outlines.{filled_with, without_cells}
 use Rattle.xr_encode.proofs.Attributes.{fits_type, where_masked}

@@ -25,7 +25,7 @@ use Rattle.xr_defs.specs.Encoding.{Stored, stored, stored_index, stored_labels, 
 use Rattle.xr_values.specs.declared.variable.Variable.{Variable}
 use Rattle.xr_values.specs.declared.dataset.Dataset.{Dataset}
 use Rattle.xr_values.specs.Stands.{variable_in, dataset_in, shape_named, IsNodeOf, IsDatasetIn}
-use Rattle.xr_values.specs.WellFormed.{IsCoordinate, IsVariable}
+use Rattle.xr_defs.specs.WellFormed.{IsCoordinate, IsVariable}
 use Rattle.xr_encode.specs.declared.outline.Outline.{Outline}
 use Rattle.xr_encode.specs.Outlines.{without_cells, outline_of, index_outlines, coord_outlines}
 use Rattle.xr_encode.specs.Checks.{over, has_new, has_blank, is_first, names_checked, records_checked}

@@ -21,7 +21,7 @@ use Rattle.xr_defs.specs.Encoding.{Stored, stored, stored_index, stored_coord, s
 use Rattle.xr_values.specs.declared.variable.Variable.{Variable}
 use Rattle.xr_values.specs.declared.dataset.Dataset.{Dataset}
 use Rattle.xr_values.specs.Stands.{variable_in, dataset_in}
-use Rattle.xr_values.specs.WellFormed.{AreSeen}
+use Rattle.xr_defs.specs.WellFormed.{AreSeen}
 use Rattle.xr_encode.specs.Outlines.{filled_with}
 use Rattle.xr_encode.specs.Sets.{variable_outline}
 use Rattle.xr_encode.specs.Walk.{var_checked, vars_from}

@@ -10,7 +10,7 @@ use Rattle.xr_types.specs.Results.{◌>>=◌}
 use Rattle.xr_defs.specs.Encoding.{Stored, check_cells, var_of, type_of, value_bytes, number_for}
 use Rattle.xr_defs.specs.declared.value.Coord.{Coord}
 use Rattle.xr_types.specs.Names.{shape_over}
-use Rattle.xr_values.specs.WellFormed.{IsContent}
+use Rattle.xr_defs.specs.WellFormed.{IsContent}
 use Rattle.xr_encode.specs.declared.outline.Outline.{Outline}
 use Rattle.xr_encode.specs.Outlines.{without_cells}
 

@@ -4,7 +4,7 @@ ghost use Rattle.std.specs.List.{list_any};
 ghost use Rattle.xr_types.specs.Results.{Answers};
 ghost use Rattle.xr_arrays.specs.Arrays.{IsCell};
 ghost use Rattle.xr_defs.specs.Encoding.{check_cells, check_fit, fills_in_use, is_fill_cell};
-ghost use Rattle.xr_values.specs.WellFormed.{AreSeen};
+ghost use Rattle.xr_defs.specs.WellFormed.{AreSeen};
 ghost use Rattle.xr_encode.specs.Outlines.{filled_with, without_cells};
 ghost use Rattle.xr_encode.specs.Rows.{has_any};
 ghost use Rattle.xr_encode.specs.Walk.{var_checked, written_bytes};

@@ -3,7 +3,7 @@ ghost use Rattle.std.specs.Prelude.{◌≡◌, Ok, map};
 ghost use Rattle.std.specs.List.{filter_map, AllByRecursion};
 ghost use Rattle.xr_types.specs.Results.{Answers, all_of};
 ghost use Rattle.xr_defs.specs.Encoding.{stored_index, stored_labels, stored_coord, check_fit};
-ghost use Rattle.xr_values.specs.WellFormed.{AreLabels, IsDimension};
+ghost use Rattle.xr_defs.specs.WellFormed.{AreLabels, IsDimension};
 ghost use Rattle.xr_encode.specs.Walk.{var_checked, vars_from, Puts, HasContent};
 
 use crate::filled::array_var;

@@ -19,7 +19,7 @@ use Rattle.xr_defs.specs.Selecting.{is_within, are_within}
 use Rattle.xr_values.specs.declared.data_array.DataArray.{DataArray}
 use Rattle.xr_values.specs.declared.dataset.Dataset.{Dataset}
 use Rattle.xr_values.specs.declared.variable.Variable.{Variable}
-use Rattle.xr_values.specs.WellFormed.{IsDimension, AreDimensions, AreCells, IsContent, IsCoordinate, IsVariable, names_of}
+use Rattle.xr_defs.specs.WellFormed.{IsDimension, AreDimensions, AreCells, IsContent, IsCoordinate, IsVariable, names_of}
 use Rattle.xr_values.specs.Stands.{array_in, variable_in, IsArrayIn, IsDatasetIn}
 use Rattle.xr_indexing.specs.Unbounded.{IsLongAxis, AreManyCells, IsLongContent, IsLongCoordinate, IsLongFrame, IsLongArrayIn, IsLongVariable, IsLongSetIn, sizes_called}
 use Rattle.xr_indexing.specs.Limits.{are_vars_within, is_set_within}

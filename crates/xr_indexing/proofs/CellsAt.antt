@@ -10,7 +10,7 @@ use Rattle.xr_arrays.specs.Nodes.{along, with_axis, without, picked_from, taken_
 use Rattle.xr_defs.specs.Values.{chosen_cells}
 use Rattle.xr_defs.specs.Limits.{most_dimensions}
 use Rattle.plan_core.proofs.Tabs.{tab-length, tab_same, place_below, All-tab}
-use Rattle.xr_values.specs.WellFormed.{AreSeen}
+use Rattle.xr_defs.specs.WellFormed.{AreSeen}
 use Rattle.xr_indexing.specs.Unbounded.{AreManyCells}
 
 -- ---- points

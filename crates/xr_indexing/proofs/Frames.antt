@@ -19,7 +19,7 @@ use Rattle.xr_arrays.specs.Nodes.{without, picked_from}
 use Rattle.xr_types.specs.Names.{axis_names, shape_over}
 use Rattle.xr_defs.specs.Values.{axis_position, no_axis, label_count, chosen_cells, chosen_content}
 use Rattle.xr_defs.specs.Selecting.{axis_called, label_content, label_coord, content_at, coord_at, coords_at}
-use Rattle.xr_values.specs.WellFormed.{IsIndex, AreLabels, names_of}
+use Rattle.xr_defs.specs.WellFormed.{IsIndex, AreLabels, names_of}
 use Rattle.xr_indexing.specs.Unbounded.{IsLongAxis, AreManyCells, IsLongContent, IsThere, IsLongCoordinate, IsLongFrame}
 use Rattle.xr_values.proofs.Named.{bytes_eq_swap}
 use Rattle.xr_indexing.proofs.Names.{distinct_out, distinct_end}

@@ -18,7 +18,7 @@ use Rattle.xr_arrays.specs.Times.{IsTime}
 use Rattle.xr_types.specs.Names.{axis_names}
 use Rattle.xr_defs.specs.Values.{axis_position, no_axis, label_count, chosen, chosen_list, chosen_axis, chosen_axes, chosen_content, chosen_coord}
 use Rattle.xr_defs.specs.Selecting.{axis_called}
-use Rattle.xr_values.specs.WellFormed.{IsIndex, AreLabels, names_of}
+use Rattle.xr_defs.specs.WellFormed.{IsIndex, AreLabels, names_of}
 use Rattle.xr_indexing.specs.Unbounded.{IsLongAxis, IsThere, IsLongCoordinate, IsLongFrame}
 use Rattle.xr_values.proofs.Named.{bytes_eq_swap}
 use Rattle.xr_indexing.proofs.Names.{distinct_parts}

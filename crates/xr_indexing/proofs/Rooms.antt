@@ -27,7 +27,7 @@ use Rattle.xr_values.specs.declared.args.Args.{Args}
 use Rattle.xr_values.specs.declared.data_array.DataArray.{DataArray}
 use Rattle.xr_values.specs.declared.dataset.Dataset.{Dataset}
 use Rattle.xr_values.specs.declared.value.Value.{Value}
-use Rattle.xr_values.specs.WellFormed.{IsVariable}
+use Rattle.xr_defs.specs.WellFormed.{IsVariable}
 use Rattle.xr_values.specs.Meaning.{with_key}
 use Rattle.xr_values.specs.Stands.{array_in, dataset_in, IsArrayIn, IsDatasetIn}
 use Rattle.xr_values.proofs.Named.{bytes_eq_swap}

@@ -15,7 +15,7 @@ use Rattle.xr_defs.specs.Values as of
 use Rattle.xr_types.specs.Names.{axis_names}
 use Rattle.xr_defs.specs.Values.{no_axis, chosen_list, chosen_axis, chosen_axes, chosen_coord}
 use Rattle.xr_defs.specs.Selecting.{One, Several, Choice, place_of, variable_along, variable_at, set_at, coords_at, label_coord, label_content, coord_at}
-use Rattle.xr_values.specs.WellFormed.{names_of, labelled}
+use Rattle.xr_defs.specs.WellFormed.{names_of, labelled}
 use Rattle.xr_indexing.specs.Unbounded.{IsLongVariable, IsLongSet, variables_named}
 use Rattle.xr_values.proofs.Named.{bytes_eq_swap}
 use Rattle.xr_indexing.proofs.Names.{distinct_parts, distinct_cons, distinct_out}

@@ -20,7 +20,7 @@ use Rattle.xr_defs.specs.Selecting.{One, Several, array_at, coords_at}
 use Rattle.xr_types.specs.Names.{are_distinct}
 use Rattle.plan_core.proofs.Plans.{values-length}
 use Rattle.xr_values.specs.declared.data_array.DataArray.{DataArray}
-use Rattle.xr_values.specs.WellFormed.{IsIndex}
+use Rattle.xr_defs.specs.WellFormed.{IsIndex}
 use Rattle.xr_values.specs.Stands.{array_in, IsNodeOf}
 use Rattle.xr_values.proofs.Grown.{pushed_node, pushed_cells}
 use Rattle.xr_indexing.specs.Labels.{HasShape, IsAlong}

@@ -21,7 +21,7 @@ use Rattle.xr_arrays.specs.Times.{IsTime}
 use Rattle.xr_values.specs.declared.data_array.DataArray.{DataArray}
 use Rattle.xr_values.specs.declared.variable.Variable.{Variable}
 use Rattle.xr_values.specs.declared.dataset.Dataset.{Dataset}
-use Rattle.xr_values.specs.WellFormed.{IsIndex, AreAttributes, AreSeen, names_of, labelled}
+use Rattle.xr_defs.specs.WellFormed.{IsIndex, AreAttributes, AreSeen, names_of, labelled}
 use Rattle.xr_values.specs.Stands.{array_in, dataset_in, shape_named, IsNodeOf}
 
 -- positions that 32 bits count

@@ -4,7 +4,7 @@ ghost use Rattle.xr_arrays.specs.Arrays.{Array};
 ghost use Rattle.xr_arrays.specs.Nodes.{IsBelow, picked_from, taken_from};
 ghost use Rattle.xr_defs.specs.Values.{chosen_axis, chosen_axes, chosen_cells, chosen_content, chosen_coord, no_axis};
 ghost use Rattle.xr_defs.specs.Selecting.{content_at, coord_at, coords_at, label_coord};
-ghost use Rattle.xr_values.specs.WellFormed.{IsIndex};
+ghost use Rattle.xr_defs.specs.WellFormed.{IsIndex};
 ghost use Rattle.xr_indexing.specs.Labels.{HasPositions, IsAlong};
 
 use crate::axes::{axes_without, position_of};

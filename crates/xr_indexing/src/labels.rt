@@ -4,7 +4,7 @@ ghost use Rattle.xr_types.specs.Kinds.{InRange};
 ghost use Rattle.xr_defs.specs.Values.{label_count, chosen, chosen_list, chosen_axis};
 ghost use Rattle.xr_defs.specs.Selecting.{label_content};
 ghost use Rattle.xr_defs.specs.Building.{is_integer_kind};
-ghost use Rattle.xr_values.specs.WellFormed.{AreLabels, IsIndex};
+ghost use Rattle.xr_defs.specs.WellFormed.{AreLabels, IsIndex};
 ghost use Rattle.xr_indexing.specs.Labels.{scalar};
 ghost use Rattle.std.specs.Option.{option_map};
 ghost use Rattle.xr_types.specs.declared.axis.Labels.{Labels as Index};

@@ -25,7 +25,7 @@ use Rattle.xr_defs.specs.Parts.{as_set, is_taken, set_of_array}
 use Rattle.xr_values.specs.declared.data_array.DataArray.{DataArray}
 use Rattle.xr_values.specs.declared.variable.Variable.{Variable}
 use Rattle.xr_values.specs.declared.dataset.Dataset.{Dataset}
-use Rattle.xr_values.specs.WellFormed.{AreCells, IsContent, IsCoordinate, IsDataArray, IsDimension, labelled, names_of}
+use Rattle.xr_defs.specs.WellFormed.{AreCells, IsContent, IsCoordinate, IsDataArray, IsDimension, labelled, names_of}
 use Rattle.xr_values.specs.Stands.{array_in, dataset_in, IsArrayIn, IsDatasetIn, IsNodeOf, shape_named}
 use Rattle.xr_values.proofs.Named.{bytes_eq_swap}
 use Rattle.xr_parts.specs.Frames.{IsThere}

@@ -13,7 +13,7 @@ use Rattle.xr_defs.specs.Values.{axis_position, no_axis}
 use Rattle.xr_defs.specs.Selecting.{axis_called}
 use Rattle.xr_defs.specs.Encoding.{coords_over, all_among}
 use Rattle.xr_defs.specs.Parts.{axes_called}
-use Rattle.xr_values.specs.WellFormed.{IsCoordinate, IsDimension, names_of}
+use Rattle.xr_defs.specs.WellFormed.{IsCoordinate, IsDimension, names_of}
 use Rattle.xr_values.proofs.Named.{bytes_eq_swap}
 use Rattle.xr_parts.specs.Frames.{IsThere, IsFrame}
 use Rattle.xr_parts.proofs.Words.{AreAmong, AreAbsent, absent_among, distinct_left, distinct_parts, each_left, each_named_left, each_weaker, itself, join, same_text, split}

@@ -23,7 +23,7 @@ use Rattle.xr_values.specs.declared.value.Value.{Value}
 use Rattle.xr_values.specs.declared.value.Value.TheVariants as variants
 use Rattle.xr_values.specs.Meaning.{meaning, with_key}
 use Rattle.xr_arguments.proofs.Variants.{is_number}
-use Rattle.xr_values.specs.WellFormed.{AreAttributes, IsAttribute}
+use Rattle.xr_defs.specs.WellFormed.{AreAttributes, IsAttribute}
 use Rattle.xr_values.specs.Stands.{IsArrayIn, IsDatasetIn}
 use Rattle.xr_values.proofs.Places as places
 use Rattle.xr_values.proofs.Places.{put_over}

@@ -18,7 +18,7 @@ use Rattle.xr_types.specs.Results.{◌>>=◌, all_of, unless}
 use Rattle.xr_types.specs.declared.fault.Fault.{Fault}
 use Rattle.xr_types.specs.declared.fault.Fault.TheVariants.{NoVariable}
 use Rattle.xr_values.specs.declared.data_array.DataArray.{DataArray}
-use Rattle.xr_values.specs.WellFormed.{AreCells, AreDimensions, IsContent, IsCoordinate, IsDimension, names_of}
+use Rattle.xr_defs.specs.WellFormed.{AreCells, AreDimensions, IsContent, IsCoordinate, IsDimension, names_of}
 use Rattle.xr_values.specs.Stands.{array_in, IsArrayIn, IsNodeOf}
 use Rattle.xr_parts.specs.Frames.{IsFrame, IsThere}
 use Rattle.xr_parts.specs.Kept.{check_coordinates}

@@ -21,7 +21,7 @@ use Rattle.xr_types.specs.declared.fault.Fault.{Fault}
 use Rattle.xr_types.specs.declared.fault.Fault.TheVariants.{NoVariable}
 use Rattle.xr_values.specs.declared.variable.Variable.{Variable}
 use Rattle.xr_values.specs.declared.dataset.Dataset.{Dataset}
-use Rattle.xr_values.specs.WellFormed.{AreCells, IsCoordinate, IsDataset, IsDimension, IsVariable, labelled, names_of, variable_names}
+use Rattle.xr_defs.specs.WellFormed.{AreCells, IsCoordinate, IsDataset, IsDimension, IsVariable, labelled, names_of, variable_names}
 use Rattle.xr_values.specs.Stands.{dataset_in, variable_in, IsDatasetIn, IsNodeOf, shape_named}
 use Rattle.xr_values.proofs.Named.{bytes_eq_swap}
 use Rattle.xr_parts.specs.Frames.{IsFrame, IsThere}

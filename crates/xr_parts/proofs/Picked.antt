@@ -26,7 +26,7 @@ use Rattle.xr_defs.specs.Parts.{axes_called, coordinate_of, is_labelled_as, not_
 use Rattle.xr_values.specs.declared.data_array.DataArray.{DataArray}
 use Rattle.xr_values.specs.declared.variable.Variable.{Variable}
 use Rattle.xr_values.specs.declared.dataset.Dataset.{Dataset}
-use Rattle.xr_values.specs.WellFormed.{AreAttributes, AreCells, IsCoordinate, IsContent, IsDataArray, IsDimension, IsVariable, names_of}
+use Rattle.xr_defs.specs.WellFormed.{AreAttributes, AreCells, IsCoordinate, IsContent, IsDataArray, IsDimension, IsVariable, names_of}
 use Rattle.xr_values.specs.Stands.{array_in, dataset_in, variable_in, with_cells, IsArrayIn, IsDatasetIn, IsNodeOf, shape_named}
 use Rattle.xr_values.proofs.Grown.{pushed_array, pushed_cells}
 use Rattle.xr_parts.specs.Frames.{IsFrame, IsThere}

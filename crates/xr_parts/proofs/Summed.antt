@@ -29,7 +29,7 @@ use Rattle.xr_types.specs.Names.{axis_names, shape_over}
 use Rattle.xr_defs.specs.Values.{array_of, is_scalar, present, total}
 use Rattle.plan_core.proofs.Tabs.{flat_same, tab_read}
 use Rattle.xr_values.specs.declared.data_array.DataArray.{DataArray}
-use Rattle.xr_values.specs.WellFormed.{IsCoordinate, IsDataArray, names_of}
+use Rattle.xr_defs.specs.WellFormed.{IsCoordinate, IsDataArray, names_of}
 use Rattle.xr_values.specs.Stands.{array_in, IsArrayIn}
 use Rattle.xr_values.proofs.Grown.{array_value, node_valued, pushed_array, pushed_cells}
 use Rattle.xr_parts.specs.Frames.{IsThere}

@@ -22,7 +22,7 @@ use Rattle.plan_core.specs.Strides.{moved_sizes}
 use Rattle.plan_core.proofs.Moves.{moving_inside}
 use Rattle.plan_core.proofs.Tabs.{All-tab, place_below, tab-length}
 use Rattle.xr_values.specs.declared.data_array.DataArray.{DataArray}
-use Rattle.xr_values.specs.WellFormed.{AreCells, IsCoordinate, IsDataArray}
+use Rattle.xr_defs.specs.WellFormed.{AreCells, IsCoordinate, IsDataArray}
 use Rattle.xr_values.specs.Stands.{array_in, IsArrayIn}
 use Rattle.xr_values.proofs.Grown.{array_value, node_valued, pushed_array, pushed_cells}
 use Rattle.xr_parts.specs.Frames.{IsFrame, IsThere}

@@ -7,7 +7,7 @@ ghost use Rattle.xr_defs.specs.Calls as calls;
 ghost use Rattle.xr_values.specs.Answers.{AnswersArray, AnswersSet};
 ghost use Rattle.xr_values.specs.Meaning.{given, meaning, with_key};
 ghost use Rattle.xr_values.specs.Stands.{array_in, dataset_in, IsArrayIn, IsDatasetIn};
-ghost use Rattle.xr_values.specs.WellFormed.{AreAttributes, IsAttribute};
+ghost use Rattle.xr_defs.specs.WellFormed.{AreAttributes, IsAttribute};
 ghost use Rattle.xr_parts.specs.Numbered.{attr_place, in_four_bytes, number_attr};
 
 use std::alloc::{AllocError, Global};

@@ -21,7 +21,7 @@ ghost use Rattle.xr_defs.specs.Parts as of;
 ghost use Rattle.plan_core.specs.Plans.{Grows};
 ghost use Rattle.xr_values.specs.Answers.{AnswersArray};
 ghost use Rattle.xr_values.specs.Stands.{array_in, dataset_in, IsArrayIn, IsDatasetIn};
-ghost use Rattle.xr_values.specs.WellFormed.{AreAttributes, AreLabels, IsCoordinate, IsDimension, IsIndex};
+ghost use Rattle.xr_defs.specs.WellFormed.{AreAttributes, AreLabels, IsCoordinate, IsDimension, IsIndex};
 ghost use Rattle.xr_parts.specs.Frames.{IsFrame, IsThere};
 ghost use Rattle.xr_parts.specs.Pieces.{array_over, cells_array, index_found, labels_array, other_part, AnswersFound, IsMade};
 

@@ -13,7 +13,7 @@ use Rattle.xr_defs.specs.declared.value.Content.TheVariants as contents
 use Rattle.xr_defs.specs.declared.value.Coord.{Coord}
 use Rattle.xr_values.specs.declared.data_array.DataArray.{DataArray}
 use Rattle.xr_values.specs.declared.dataset.Dataset.{Dataset}
-use Rattle.xr_values.specs.WellFormed.{AreLabels, IsIndex, IsDimension, IsContent, IsCoordinate}
+use Rattle.xr_defs.specs.WellFormed.{AreLabels, IsIndex, IsDimension, IsContent, IsCoordinate}
 use Rattle.xr_values.specs.Stands.{IsArrayIn, IsDatasetIn}
 use Rattle.xr_print.specs.Conditions.{AreTimes, HasTimes, IsTimeContent, HoldsTime}
 

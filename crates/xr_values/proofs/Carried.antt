@@ -19,11 +19,12 @@ use Rattle.xr_defs.specs.declared.value.Content.TheVariants.{Cells, Text, Time}
 use Rattle.xr_defs.specs.declared.value.Coord.{Coord}
 use Rattle.xr_defs.specs.Values as of
 use Rattle.xr_types.specs.Names.{axis_names}
-use Rattle.xr_values.specs.declared.carrying.Carry.{Carry}
-use Rattle.xr_values.specs.declared.carrying.Parts.{Parts}
+use Rattle.xr_defs.specs.declared.carrying.Carry.{Carry}
+use Rattle.xr_defs.specs.declared.carrying.Parts.{Parts}
 use Rattle.xr_values.specs.declared.data_array.DataArray.{DataArray}
 use Rattle.xr_values.specs.Stands.{array_in}
-use Rattle.xr_values.specs.Carrying.{attrs_among, carried, coords_among, first_named, has_place, is_agreed, is_new, kept_here, name_among, named_as, same_cell, same_content, same_coord, stands, the_attrs, the_coords, the_names}
+use Rattle.xr_defs.specs.Carrying.{attrs_among, carried, coords_among, first_named, has_place, is_agreed, is_new, name_among, named_as, same_cell, same_content, same_coord, stands}
+use Rattle.xr_values.specs.Carrying.{kept_here, the_attrs, the_coords, the_names}
 
 -- ---- arrays in a plan
 

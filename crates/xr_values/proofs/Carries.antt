@@ -13,11 +13,11 @@ use Rattle.xr_types.specs.Names.{are_distinct}
 use Rattle.xr_defs.specs.Selecting.{axis_called}
 use Rattle.xr_defs.specs.Values as of
 use Rattle.xr_types.specs.Names.{axis_names}
-use Rattle.xr_values.specs.declared.carrying.Carry.{Carry}
-use Rattle.xr_values.specs.declared.carrying.Carry.TheVariants.{Keep, Method, Binary, Where, First}
-use Rattle.xr_values.specs.Carrying.{attr_rule, carried, coord_rule, coords_among, first_attrs, first_name, first_named, has_place, is_agreed, is_new, name_rule, named_as, same_name, shared_name, stands}
-use Rattle.xr_values.specs.Carries.{AreParts, IsOperand, Shares}
-use Rattle.xr_values.specs.WellFormed.{AreAttributes, AreDimensions, IsCoordinate, names_of}
+use Rattle.xr_defs.specs.declared.carrying.Carry.{Carry}
+use Rattle.xr_defs.specs.declared.carrying.Carry.TheVariants.{Keep, Method, Binary, Where, First}
+use Rattle.xr_defs.specs.Carrying.{attr_rule, carried, coord_rule, coords_among, first_attrs, first_name, first_named, has_place, is_agreed, is_new, name_rule, named_as, same_name, shared_name, stands}
+use Rattle.xr_defs.specs.Carries.{AreParts, IsOperand, Shares}
+use Rattle.xr_defs.specs.WellFormed.{AreAttributes, AreDimensions, IsCoordinate, names_of}
 use Rattle.xr_values.proofs.Named.{bytes_eq_swap}
 use Rattle.xr_values.proofs.Carried.{agreed_behind, new_agrees}
 

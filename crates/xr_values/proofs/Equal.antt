@@ -6,7 +6,7 @@ use Rattle.std.proofs.Math.Seq.{drop-length}
 use Rattle.std.specs.Prelude.{zip, option_map, nat_eq, ⊤}
 use Rattle.std.specs.Cmp.Lexicographic.{pointwise}
 use Rattle.xr_arrays.specs.Arrays.{hidden, cell}
-use Rattle.xr_values.specs.Carrying.{same_cell}
+use Rattle.xr_defs.specs.Carrying.{same_cell}
 
 abbrev pub of_mask : Option (Bor (List ℕ)) → Option (List ℕ)
 of_mask mask = option_map (λ m. m.now) mask

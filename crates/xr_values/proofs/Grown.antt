@@ -13,7 +13,7 @@ use Rattle.plan_core.proofs.Plans.{grown-length, grown_value, values-length}
 use Rattle.xr_values.specs.declared.data_array.DataArray.{DataArray}
 use Rattle.xr_values.specs.declared.variable.Variable.{Variable}
 use Rattle.xr_values.specs.declared.dataset.Dataset.{Dataset}
-use Rattle.xr_values.specs.WellFormed.{IsDataArray, IsDataset}
+use Rattle.xr_defs.specs.WellFormed.{IsDataArray, IsDataset}
 use Rattle.xr_values.specs.Stands.{array_in, with_cells, variable_in, dataset_in, shape_named, IsNodeOf, IsArrayIn, IsDatasetIn}
 
 -- ---- nodes

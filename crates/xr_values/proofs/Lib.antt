@@ -6,6 +6,5 @@ pub mod Meaning
 pub mod Equal
 pub mod Carried
 pub mod Carries
-pub mod CarryExamples
 pub mod Places
 pub mod Rooms

@@ -1,8 +1,6 @@
 pub mod Stands
 pub mod Variables
-pub mod WellFormed
 pub mod Answers
 pub mod Trees
 pub mod Meaning
 pub mod Carrying
-pub mod Carries

@@ -9,7 +9,7 @@ use Rattle.xr_defs.specs.Selecting.{axis_called}
 use Rattle.xr_values.specs.declared.data_array.DataArray.{DataArray}
 use Rattle.xr_values.specs.declared.variable.Variable.{Variable}
 use Rattle.xr_values.specs.declared.dataset.Dataset.{Dataset}
-use Rattle.xr_values.specs.WellFormed.{IsDataArray, IsDataset}
+use Rattle.xr_defs.specs.WellFormed.{IsDataArray, IsDataset}
 
 -- an array with these cells in place of its node
 abbrev pub with_cells : DataArray → List (Option ℤ) → of.DataArray

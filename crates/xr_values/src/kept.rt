@@ -3,7 +3,8 @@ ghost use Rattle.std.specs.Prelude.{◌≡◌, ◌&&◌, ◌++◌, map, IfOk, On
 ghost use Rattle.std.specs.List.{list_all};
 ghost use Rattle.xr_types.specs.Names.{among};
 ghost use Rattle.xr_types.specs.Names.{axis_names};
-ghost use Rattle.xr_values.specs.Carrying.{coords_among, has_place, is_agreed, is_new, kept_here, the_coords};
+ghost use Rattle.xr_defs.specs.Carrying.{coords_among, has_place, is_agreed, is_new};
+ghost use Rattle.xr_values.specs.Carrying.{kept_here, the_coords};
 
 use crate::copies::copy_coord;
 use crate::data_array::DataArray;
@@ -53,7 +54,7 @@ fn have_axes(axes: &[Axis], some: &[Axis]) -> bool
     true
 }
 
-#[tactic(auto, unfolding(crate::specs::Carrying::has_place))]
+#[tactic(auto, unfolding(xr_defs::specs::Carrying::has_place))]
 fn has_place(axes: &[Axis], coord: &Coord) -> bool
     ensures { result ≡ has_place axes.now coord.now }
 {
@@ -72,7 +73,7 @@ fn is_new(before: &[&Coord], coord: &Coord) -> bool
 }
 
 // Whether those of its name are equal to it.
-#[tactic(auto, unfolding(crate::specs::Carrying::is_agreed))]
+#[tactic(auto, unfolding(xr_defs::specs::Carrying::is_agreed))]
 fn is_agreed(alloc: Global, others: &[&Coord], coord: &Coord) -> Result<bool, AllocError>
     ensures { IfOk result (λ agreed. agreed ≡ is_agreed (map (λ c. c.now) others.now) coord.now) }
 {

@@ -2,7 +2,6 @@
 #![tactic(auto)]
 
 mod args;
-mod carrying;
 mod copies;
 mod copy;
 mod cx;
@@ -16,7 +15,6 @@ mod variable;
 mod variables;
 
 pub use args::Args;
-pub use carrying::{Carry, Parts};
 pub use copies::{copy_content, copy_coord, copy_coords};
 pub use cx::Cx;
 pub use data_array::DataArray;
@@ -26,3 +24,4 @@ pub use same::same_coord;
 pub use value::Value;
 pub use variable::Variable;
 pub use variables::Variables;
+pub use xr_defs::{Carry, Parts};

@@ -3,12 +3,13 @@ ghost use Rattle.std.specs.Prelude.{◌≡◌, List, map, IfOk};
 ghost use Rattle.std.specs.List.{list_all};
 ghost use Rattle.xr_arrays.specs.declared.node.Node.{Node};
 ghost use Rattle.xr_values.specs.Stands.{array_in};
-ghost use Rattle.xr_values.specs.Carrying.{attrs_among, carried, coords_among, first_attrs, first_name, name_among, same_name, shared_name, the_attrs, the_coords, the_names};
+ghost use Rattle.xr_defs.specs.Carrying.{attrs_among, carried, coords_among, first_attrs, first_name, name_among, same_name, shared_name};
+ghost use Rattle.xr_values.specs.Carrying.{the_attrs, the_coords, the_names};
 
-use crate::carrying::{Carry, Parts};
 use crate::data_array::DataArray;
 use crate::kept::coords_among;
 use std::alloc::{AllocError, Global};
+use xr_defs::{Carry, Parts};
 use xr_types::{Attr, Axis, DeepCopy, Items, Name, NoMemory};
 
 fn first_name(alloc: Global, operands: &[DataArray]) -> Result<Option<Name>, AllocError>

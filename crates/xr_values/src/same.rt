@@ -4,7 +4,7 @@ ghost use Rattle.std.specs.Str.{bytes_eq};
 ghost use Rattle.std.specs.Cmp.Lexicographic.{pointwise};
 ghost use Rattle.xr_arrays.specs.Arrays.{hidden, wide};
 ghost use Rattle.xr_types.specs.Names.{axis_names};
-ghost use Rattle.xr_values.specs.Carrying.{same_cell, same_content, same_coord};
+ghost use Rattle.xr_defs.specs.Carrying.{same_cell, same_content, same_coord};
 
 use std::alloc::{AllocError, Global};
 use stored_cells::as_typed;
@@ -116,7 +116,7 @@ fn same_arrays(alloc: Global, a: &ArrayValue, b: &ArrayValue) -> Result<bool, Al
     Ok(a.shape() == b.shape() && same_cells(cells, mask, others, hides))
 }
 
-#[tactic(auto, unfolding(crate::specs::Carrying::same_content))]
+#[tactic(auto, unfolding(xr_defs::specs::Carrying::same_content))]
 fn same_content(alloc: Global, a: &Content, b: &Content) -> Result<bool, AllocError>
     ensures { IfOk result (λ same. same ≡ same_content a.now b.now) }
 {
@@ -129,7 +129,7 @@ fn same_content(alloc: Global, a: &Content, b: &Content) -> Result<bool, AllocEr
 }
 
 /// Whether two coordinates have the same dimensions and equal cells. Numbers are compared whatever their kind.
-#[tactic(auto, unfolding(crate::specs::Carrying::same_coord))]
+#[tactic(auto, unfolding(xr_defs::specs::Carrying::same_coord))]
 pub fn same_coord(alloc: Global, a: &Coord, b: &Coord) -> Result<bool, AllocError>
     ensures { IfOk result (λ same. same ≡ same_coord a.now b.now) }
 {

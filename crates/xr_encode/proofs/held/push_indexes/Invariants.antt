@@ -1,7 +1,7 @@
 use Rattle.std.proofs.Common.{◌≡◌, drop}
 use Rattle.std.specs.List.{filter_map, AllByRecursion}
 use Rattle.xr_defs.specs.Encoding.{stored_index}
-use Rattle.xr_values.specs.WellFormed.{IsDimension}
+use Rattle.xr_defs.specs.WellFormed.{IsDimension}
 use Rattle.xr_encode.specs.Walk.{vars_from}
 use Rattle.xr_encode.proofs.held.push_indexes.Given as goal
 

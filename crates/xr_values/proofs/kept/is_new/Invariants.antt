@@ -1,5 +1,5 @@
 use Rattle.std.proofs.Common.{◌≡◌, drop, map}
-use Rattle.xr_values.specs.Carrying.{is_new}
+use Rattle.xr_defs.specs.Carrying.{is_new}
 use Rattle.xr_values.proofs.kept.is_new.Given as goal
 
 abbrev pub invariant-loop-other : goal.invariant-loop-other

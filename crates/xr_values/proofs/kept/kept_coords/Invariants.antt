@@ -1,5 +1,5 @@
 use Rattle.std.proofs.Common.{◌≡◌, map, take, filter}
-use Rattle.xr_values.specs.Carrying.{stands, first_named}
+use Rattle.xr_defs.specs.Carrying.{stands, first_named}
 use Rattle.xr_values.proofs.kept.kept_coords.Given as goal
 
 abbrev pub invariant-loop-i : goal.invariant-loop-i

@@ -1,5 +1,5 @@
 //! What a result has of its operands beside cells and axes.
-use xr_defs::Coord;
+use crate::value::Coord;
 use xr_types::{Attr, Items, Name};
 
 /// By what kind of operation a result comes from its operands.
@@ -7,13 +7,13 @@ use xr_types::{Attr, Items, Name};
 pub enum Carry {
     /// One array, by a call that keeps all its attributes.
     Keep,
-    /// One array, by any other call.
+    /// One array, by any other call: the attributes that name fill numbers are dropped.
     Method,
-    /// A binary operation.
+    /// A binary operation, or the function `where`: the attributes are joined, without those that name fill numbers.
     Binary,
     /// The method `where`, whose receiver is the first operand.
     Where,
-    /// A combination.
+    /// A combination: the attributes are joined.
     First,
 }
 

@@ -2,7 +2,7 @@
 -- each point, missing only where the array is masked, and no more of all than the limits allow (xarray user guide, "Data
 -- Structures").
 use Rattle.std.specs.Prelude.{◌≡◌, ◌≤◌, ◌++◌, ◌+◌, ◌/◌, ◌*◌, ℕ, ℤ, Bool, true, false, List, [], length, map, filter, Option, is_some, MatchOption, All, ⊤}
-use Rattle.std.specs.List.{AllByRecursion}
+use Rattle.std.specs.List.{AllByRecursion, list_all}
 use Rattle.xr_types.specs.Kinds.{InRange}
 use Rattle.xr_types.specs.declared.attr.Attr.{Attr}
 use Rattle.xr_types.specs.declared.axis.Axis.{Axis}
@@ -23,6 +23,7 @@ use Rattle.xr_defs.specs.Limits.{most_cells, most_dimensions, most_variables}
 use Rattle.xr_types.specs.Names.{axis_names, shape_over}
 use Rattle.xr_defs.specs.Values.{DataArray, Dataset, Variable, label_count}
 use Rattle.xr_defs.specs.Selecting.{axis_called}
+use Rattle.xr_defs.specs.Decoding.{is_kept}
 use Rattle.xr_defs.specs.Building.{is_integer_kind}
 use Rattle.xr_arrays.specs.Times.{IsTime}
 
@@ -125,5 +126,7 @@ pub record IsDataset (s : Dataset) : Type 0 where
   -- no coordinate is named as an axis, and no variable as a coordinate or an index
   pub coords_distinct : are_distinct (axis_names s.axes ++ names_of s.coords) ≡ true
   pub vars_distinct : are_distinct (axis_names (labelled s.axes) ++ (names_of s.coords ++ variable_names s.vars)) ≡ true
+  -- a bare axis is one of a coordinate or a variable
+  pub busy : list_all (is_kept s.coords s.vars) s.axes ≡ true
   pub attrs : AreAttributes s.attrs
   pub few : length s.coords + length s.vars ≤ most_variables

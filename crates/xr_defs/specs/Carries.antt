@@ -8,8 +8,8 @@ use Rattle.xr_types.specs.Names.{are_distinct}
 use Rattle.xr_defs.specs.Selecting.{axis_called}
 use Rattle.xr_types.specs.Names.{axis_names}
 use Rattle.xr_defs.specs.Values.{DataArray}
-use Rattle.xr_values.specs.declared.carrying.Parts.{Parts}
-use Rattle.xr_values.specs.WellFormed.{AreAttributes, IsCoordinate, IsDataArray, names_of}
+use Rattle.xr_defs.specs.declared.carrying.Parts.{Parts}
+use Rattle.xr_defs.specs.WellFormed.{AreAttributes, IsCoordinate, IsDataArray, names_of}
 
 -- an axis of an operand that the result has too is the same there
 pub record Shares (own axes : List Axis) : Type 0 where
