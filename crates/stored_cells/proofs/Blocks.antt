@@ -4,7 +4,7 @@ use Rattle.std.specs.List.{range_with_len, slice_range}
 use Rattle.std.proofs.lemmas.List.{drop-map, take-map, drop-drop, drop-take, take-take, length-take-le}
 use Rattle.std.proofs.lemmas.List.FromFn.{take-map-range_with_len}
 use Rattle.xr_types.specs.declared.attr.NcType.{NcType}
-use Rattle.xr_types.specs.declared.attr.NcType.TheVariants.{Byte, Char, Short, Int, Float, Double}
+use Rattle.xr_types.specs.declared.attr.NcType.TheVariants.{Byte, Char, Short, Int, Float, Double, UByte, UShort, UInt, Int64, UInt64}
 use Rattle.xr_types.specs.declared.kind.DType.{DType}
 use Rattle.xr_arrays.specs.Arrays.{Array}
 use Rattle.xr_types.specs.Widths.{width}
@@ -84,6 +84,11 @@ narrow Short = omega arith
 narrow Int = omega arith
 narrow Float = omega arith
 narrow Double = omega arith
+narrow UByte = omega arith
+narrow UShort = omega arith
+narrow UInt = omega arith
+narrow Int64 = omega arith
+narrow UInt64 = omega arith
 
 times_le : (a b c d : ℕ) → a ≤ b → c ≤ d → a * c ≤ b * d
 times_le a b c d le few = grind arith

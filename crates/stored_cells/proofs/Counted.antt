@@ -1,7 +1,7 @@
 -- Sums that leave out numbers.
-use Rattle.std.proofs.Common.{◌≡◌, ◌+◌, ◌%◌, ◌^◌, ◌<◌, ℕ, ℤ, pos, ◌+ℤ◌, Bool, true, false, not, cond, List, [], ◌∷◌, FitsSigned, zero-add, refl, sym, ap, ◌∙◌, arith}
-use Rattle.std.specs.Int.{w64, cast_signed, cast_unsigned, int_wrap}
-use Rattle.std.proofs.lemmas.Int.{ints, wrapping_add_onto, int_wrap-add_left}
+use Rattle.std.proofs.Common.{◌≡◌, ◌+◌, ℕ, ℤ, pos, ◌+ℤ◌, Bool, true, false, not, cond, List, [], ◌∷◌, zero-add, refl, sym, ap, ◌∙◌, arith}
+use Rattle.std.specs.Int.{w64, int_wrap}
+use Rattle.std.proofs.lemmas.Int.{ints, int_wrap-add_left, int_wrap-add_right}
 use Rattle.std.proofs.lemmas.List.FromFn.{filter_of_map_range_with_len_more}
 use Rattle.xr_types.specs.declared.attr.NcType.{NcType}
 use Rattle.xr_arrays.specs.Folds.{sum_of}
@@ -32,11 +32,9 @@ sum_more kind raw fills i =
     ∙ ap (λ (n : ℤ). sum_of before +ℤ n) (one_more (is_fill fills (f i)) (f i))
 
 -- a sum that wraps on the way wraps as the whole does
-pub sum_step : (kind : NcType) (raw : List ℕ) (fills : List ℤ) (i m : ℕ) (b : ℤ) → m < 2 ^ 64 → FitsSigned w64 b → b ≡ counted fills (number_in kind (value_at kind raw i)) → cast_signed w64 m ≡ int_wrap w64 (sum_to kind raw fills i)
-    → cast_signed w64 ((m + cast_unsigned w64 b) % 2 ^ 64) ≡ int_wrap w64 (sum_to kind raw fills (i + 1))
-sum_step kind raw fills i m b fits small is so_far =
-    wrapping_add_onto w64 m b fits small
-    ∙ ap (λ (t : ℤ). int_wrap w64 (t +ℤ b)) so_far
-    ∙ int_wrap-add_left w64 (sum_to kind raw fills i) b
-    ∙ ap (λ (n : ℤ). int_wrap w64 (sum_to kind raw fills i +ℤ n)) is
-    ∙ ap (int_wrap w64) (sym (sum_more kind raw fills i))
+pub sum_step : (kind : NcType) (raw : List ℕ) (fills : List ℤ) (i : ℕ) (total more next : ℤ) → next ≡ int_wrap w64 (total +ℤ more) → more ≡ int_wrap w64 (counted fills (number_in kind (value_at kind raw i))) → total ≡ int_wrap w64 (sum_to kind raw fills i)
+    → next ≡ int_wrap w64 (sum_to kind raw fills (i + 1))
+sum_step kind raw fills i total more next is is_more so_far =
+    let n = counted fills (number_in kind (value_at kind raw i)) in
+    let s = sum_to kind raw fills i in
+    is ∙ ap (λ (t : ℤ). int_wrap w64 (t +ℤ more)) so_far ∙ int_wrap-add_left w64 s more ∙ ap (λ (m : ℤ). int_wrap w64 (s +ℤ m)) is_more ∙ int_wrap-add_right w64 s n ∙ ap (int_wrap w64) (sym (sum_more kind raw fills i))

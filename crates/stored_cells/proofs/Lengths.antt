@@ -4,7 +4,7 @@ use Rattle.std.specs.Prelude.{MatchOption}
 use Rattle.std.proofs.lemmas.List.{length-map}
 use Rattle.std.proofs.lemmas.List.FromFn.{length-map-range_with_len}
 use Rattle.xr_types.specs.declared.attr.NcType.{NcType}
-use Rattle.xr_types.specs.declared.attr.NcType.TheVariants.{Byte, Char, Short, Int, Float, Double}
+use Rattle.xr_types.specs.declared.attr.NcType.TheVariants.{Byte, Char, Short, Int, Float, Double, UByte, UShort, UInt, Int64, UInt64}
 use Rattle.xr_types.specs.declared.kind.DType.TheVariants as kinds
 use Rattle.xr_arrays.specs.declared.typed.Cells.{Cells}
 use Rattle.xr_arrays.specs.declared.typed.Cells.TheVariants as cells
@@ -22,6 +22,11 @@ share_by Short n s e is = omega arith
 share_by Int n s e is = omega arith
 share_by Float n s e is = absurd cc
 share_by Double n s e is = absurd cc
+share_by UByte n s e is = omega arith
+share_by UShort n s e is = omega arith
+share_by UInt n s e is = omega arith
+share_by Int64 n s e is = omega arith
+share_by UInt64 n s e is = omega arith
 
 -- as many numbers as values
 pub numbers-length : (kind : NcType) (raw : List ℕ) (s : ℕ) → is_whole kind ≡ true → length raw ≡ s * width kind → length (numbers_of kind raw) ≡ s
@@ -43,6 +48,11 @@ not_bool Short e = cc
 not_bool Int e = cc
 not_bool Float e = cc
 not_bool Double e = cc
+not_bool UByte e = cc
+not_bool UShort e = cc
+not_bool UInt e = cc
+not_bool Int64 e = cc
+not_bool UInt64 e = cc
 
 -- numbers of a type are no truth values, so that they are in the range of their kind
 pub kept_in_kind : (kind : NcType) (cs : Cells) → kind_of cs ≡ cells_kind kind → InKind cs
@@ -52,3 +62,7 @@ kept_in_kind kind (cells.Int8 v) e = tt
 kept_in_kind kind (cells.Int16 v) e = tt
 kept_in_kind kind (cells.Int32 v) e = tt
 kept_in_kind kind (cells.Int64 v) e = tt
+kept_in_kind kind (cells.UInt8 v) e = tt
+kept_in_kind kind (cells.UInt16 v) e = tt
+kept_in_kind kind (cells.UInt32 v) e = tt
+kept_in_kind kind (cells.UInt64 v) e = tt

@@ -1,9 +1,14 @@
 -- Cells that a mask hides.
-use Rattle.std.proofs.Common.{◌≡◌, ◌+◌, ◌<◌, ℕ, ℤ, suc, Bool, true, false, cond, ◌||◌, List, [], ◌∷◌, ◌++◌, length, map, zip, take, drop, get_or, append-nil, Some, None, refl, sym, ap, ◌∙◌, arith}
+use Rattle.std.proofs.Common.{◌≡◌, ◌+◌, ◌<◌, ℕ, ℤ, suc, pos, ◌≤ℤ◌, Bool, true, false, cond, ◌&&◌, ◌||◌, List, [], ◌∷◌, ◌++◌, length, map, zip, take, drop, get_or, append-nil, Some, None, refl, sym, ap, subst, ◌∙◌, arith}
 use Rattle.std.specs.List.{list_any}
 use Rattle.std.specs.Ordering.{int_eq}
 use Rattle.std.proofs.lemmas.List.{take_more, length-map, take_all, drop_all}
 use Rattle.std.proofs.lemmas.List.Folds.{list_any-append}
+use Rattle.std.proofs.lemmas.Bool.Decides.{Decides-and, Decides-like, Decides-int_eq, same_from_decides}
+use Rattle.std.proofs.lemmas.Int.{ints}
+use Rattle.xr_types.specs.Kinds.{low, high, wrap_to}
+use Rattle.xr_types.specs.declared.kind.DType.{DType}
+use Rattle.xr_types.proofs.Wrapping.{wrapped_only}
 use Rattle.xr_arrays.specs.Arrays.{cell}
 use Rattle.xr_arrays.specs.Stored.{is_fill, unless_fill}
 use Rattle.stored_cells.specs.Masks.{mark, marks, Hides}
@@ -60,3 +65,12 @@ pub all_written : (new old : List ℕ) (n : ℕ) → length new ≡ n → length
 all_written new old n long same =
     let none : drop (length new) old ≡ [] = drop_all (length new) old (omega arith) in
     ap (λ rest. take n (new ++ rest)) none ∙ ap (take n) (append-nil new) ∙ take_all n new (omega arith)
+
+-- ---- a cell and a number
+
+-- a cell of a kind holds a number if it holds what the kind leaves of it, and that is the number
+pub held : (t : DType) (x near n : ℤ) → low t ≤ℤ x → x ≤ℤ high t → near ≡ wrap_to t n → (int_eq x near && int_eq near n) ≡ int_eq x n
+held t x near n from to is =
+    let both = Decides-and (int_eq x near) (int_eq near n) (Decides-int_eq x near) (Decides-int_eq near n) in
+    let same : x ≡ n → (x ≡ near) × (near ≡ n) = λ e. let left : near ≡ n = is ∙ sym (wrapped_only t n n (record { in_range = (subst (λ k. low t ≤ℤ k) e from, subst (λ k. k ≤ℤ high t) e to); turns = pos 0; congruent = omega (arith, ints) })) in (e ∙ sym left, left) in
+    same_from_decides (int_eq x near && int_eq near n) (int_eq x n) (Decides-like (int_eq x near && int_eq near n) (λ h. h.0 ∙ h.1) same both) (Decides-int_eq x n)

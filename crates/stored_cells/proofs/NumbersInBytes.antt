@@ -2,7 +2,7 @@
 use Rattle.std.proofs.Common.{◌≡◌, ◌+◌, ◌*◌, ◌<◌, ℕ, ℤ, pos, List, [], ◌∷◌, length, map, take, drop, get_or, slice_index, zero-add, add-zero, refl, sym, ap, ◌∙◌, arith, ◌≤◌, slice_set, ◌++◌, ◌/◌, suc, zero}
 use Rattle.std.specs.List.{range_with_len}
 use Rattle.std.proofs.Math.Seq.{take-suc}
-use Rattle.std.specs.Int.{w8, w16, w32, from_be_bytes}
+use Rattle.std.specs.Int.{w8, from_be_bytes}
 use Rattle.std.proofs.lemmas.List.{get_or-take, get_or-drop, take_more_set, take_all, map-append}
 use Rattle.std.proofs.lemmas.List.FromFn.{map-range_with_len_more}
 use Rattle.xr_types.specs.declared.attr.NcType.{NcType}
@@ -16,20 +16,16 @@ numbers_to kind raw n = map (λ i. number_in kind (value_at kind raw i)) (range_
 byte_of : (raw : List ℕ) (a k n : ℕ) → k < n → slice_index (take n (drop a raw)) k ≡ get_or raw (a + k) 0
 byte_of raw a k n lt = get_or-take n (drop a raw) k 0 lt ∙ get_or-drop a raw k 0
 
-pub four_bytes : (raw : List ℕ) (a : ℕ) → from_be_bytes w32 (take 4 (drop a raw)) ≡ get_or raw a 0 * 16777216 + get_or raw (a + 1) 0 * 65536 + get_or raw (a + 2) 0 * 256 + get_or raw (a + 3) 0
-four_bytes raw a = rw (byte_of raw a 0 4 (omega arith), byte_of raw a 1 4 (omega arith), byte_of raw a 2 4 (omega arith), byte_of raw a 3 4 (omega arith), add-zero a) refl
-
-pub two_bytes : (raw : List ℕ) (a : ℕ) → from_be_bytes w16 (take 2 (drop a raw)) ≡ get_or raw a 0 * 256 + get_or raw (a + 1) 0
-two_bytes raw a = rw (byte_of raw a 0 2 (omega arith), byte_of raw a 1 2 (omega arith), add-zero a) refl
-
 pub one_byte : (raw : List ℕ) (i : ℕ) → from_be_bytes w8 (take 1 (drop (i * 1) raw)) ≡ get_or raw i 0
 one_byte raw i = let e : i * 1 ≡ i = omega arith in rw (byte_of raw (i * 1) 0 1 (omega arith), add-zero (i * 1), e) refl
 
--- one more number, set at the end of those that are set
-pub numbers_more : (kind : NcType) (raw : List ℕ) (out : List ℤ) (i : ℕ) (n : ℤ) → i < length out → n ≡ number_in kind (value_at kind raw i) → take i out ≡ numbers_to kind raw i → take (i + 1) (slice_set out i n) ≡ numbers_to kind raw (i + 1)
-numbers_more kind raw out i n lt is so_far =
-    take_more_set out i n lt
-    ∙ ap (λ (l : List ℤ). l ++ n ∷ []) so_far
+-- one more cell, set at the end of those that are set
+pub cells_more : {X : Type 0} (number : X → ℤ) (kind : NcType) (raw : List ℕ) (out : List X) (i : ℕ) (x : X) → i < length out → number x ≡ number_in kind (value_at kind raw i) → map number (take i out) ≡ numbers_to kind raw i
+    → map number (take (i + 1) (slice_set out i x)) ≡ numbers_to kind raw (i + 1)
+cells_more number kind raw out i x lt is so_far =
+    ap (map number) (take_more_set out i x lt)
+    ∙ map-append number (take i out) (x ∷ [])
+    ∙ ap (λ (l : List ℤ). l ++ number x ∷ []) so_far
     ∙ ap (λ (m : ℤ). numbers_to kind raw i ++ m ∷ []) is
     ∙ sym (map-range_with_len_more (λ k. number_in kind (value_at kind raw k)) 0 i i (zero-add i))
 

@@ -13,10 +13,10 @@ fn width(kind: NcType) -> usize
     ensures { result ≡ width kind }
 {
     match kind {
-        NcType::Byte | NcType::Char => 1,
-        NcType::Short => 2,
-        NcType::Int | NcType::Float => 4,
-        NcType::Double => 8,
+        NcType::Byte | NcType::Char | NcType::UByte => 1,
+        NcType::Short | NcType::UShort => 2,
+        NcType::Int | NcType::Float | NcType::UInt => 4,
+        NcType::Double | NcType::Int64 | NcType::UInt64 => 8,
     }
 }
 

@@ -5,6 +5,7 @@ mod block;
 mod decode;
 mod kept;
 mod masks;
+mod number;
 mod sums;
 mod typed;
 

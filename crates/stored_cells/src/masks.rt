@@ -8,18 +8,24 @@ use std::alloc::{AllocError, Global};
 use xr_arrays::Cells;
 use xr_types::{Elem, Items};
 
-// The mask of one cell, given what it was by the fill numbers before.
-fn marked<T: Elem>(cell: T, fill: i64, before: u8) -> u8
-    ensures { result ≡ (if int_eq (T.number cell) fill then 1 else before) }
+/// Whether a cell holds a number.
+#[tactic(auto, using(crate::proofs::MaskedCells::held))]
+pub fn holds<T: Elem>(cell: T, number: i128) -> bool
+    ensures { result ≡ int_eq (T.number cell) number }
 {
-    if cell.widen() == i128::from(fill) {
-        1
-    } else {
-        before
-    }
+    // The comparison stays at the width of the cell where the number is the same one for many cells.
+    let near = T::wrap_from(number).widen();
+    cell.widen() == near && near == number
 }
 
-fn mark_row<T: Elem>(cells: &[T], fill: i64, mask: &mut [u8])
+// The mask of one cell, given what it was by the fill numbers before.
+fn marked<T: Elem>(cell: T, fill: i128, before: u8) -> u8
+    ensures { result ≡ (if int_eq (T.number cell) fill then 1 else before) }
+{
+    if holds(cell, fill) { 1 } else { before }
+}
+
+fn mark_row<T: Elem>(cells: &[T], fill: i128, mask: &mut [u8])
     requires { length mask.old ≡ length cells.now }
     ensures long { length mask.new ≡ length mask.old }
     ensures marks { (i : ℕ) (x : T) → i < length cells.now → get_or mask.new i 0 ≡ (if int_eq (T.number (get_or cells.now i x)) fill then 1 else get_or mask.old i 0) }
@@ -30,7 +36,7 @@ fn mark_row<T: Elem>(cells: &[T], fill: i64, mask: &mut [u8])
 }
 
 // The mask by several fill numbers, one after the other, so that each goes over the cells in one run.
-fn mask_row<T: Elem>(alloc: Global, cells: &[T], fills: &[i64]) -> Result<Items<u8>, AllocError>
+fn mask_row<T: Elem>(alloc: Global, cells: &[T], fills: &[i128]) -> Result<Items<u8>, AllocError>
     ensures { IfOk result (λ m. m ≡ marks fills.now (map T.number cells.now)) }
 {
     let mut mask = Vec::from_elem(alloc, 0u8, cells.len())?;
@@ -40,7 +46,7 @@ fn mask_row<T: Elem>(alloc: Global, cells: &[T], fills: &[i64]) -> Result<Items<
     Ok(Items::of(mask))
 }
 
-fn mask_of(alloc: Global, cells: &Cells, fills: &[i64]) -> Result<Items<u8>, AllocError>
+fn mask_of(alloc: Global, cells: &Cells, fills: &[i128]) -> Result<Items<u8>, AllocError>
     ensures { IfOk result (λ m. m ≡ marks fills.now (wide cells.now)) }
 {
     match cells {
@@ -49,6 +55,10 @@ fn mask_of(alloc: Global, cells: &Cells, fills: &[i64]) -> Result<Items<u8>, All
         Cells::Int16(v) => mask_row(alloc, v.as_slice(), fills),
         Cells::Int32(v) => mask_row(alloc, v.as_slice(), fills),
         Cells::Int64(v) => mask_row(alloc, v.as_slice(), fills),
+        Cells::UInt8(v) => mask_row(alloc, v.as_slice(), fills),
+        Cells::UInt16(v) => mask_row(alloc, v.as_slice(), fills),
+        Cells::UInt32(v) => mask_row(alloc, v.as_slice(), fills),
+        Cells::UInt64(v) => mask_row(alloc, v.as_slice(), fills),
     }
 }
 
@@ -57,7 +67,7 @@ fn mask_of(alloc: Global, cells: &Cells, fills: &[i64]) -> Result<Items<u8>, All
 pub fn mask_for(
     alloc: Global,
     cells: &Cells,
-    fills: &[i64],
+    fills: &[i128],
 ) -> Result<Option<Items<u8>>, AllocError>
     ensures { IfOk result (λ m. Hides fills.now (wide cells.now) m) }
 {

@@ -1,86 +1,23 @@
 //! Sums of the numbers of a file, straight from their bytes.
-ghost use Rattle.std.specs.Prelude.{◌≡◌, ◌/◌, ◌<◌, ℤ, pos, List, [], ◌∷◌, length, true, if◌then◌else◌};
+ghost use Rattle.std.specs.Prelude.{◌≡◌, ◌+ℤ◌, ℤ, pos, List, [], ◌∷◌, true, if◌then◌else◌};
 ghost use Rattle.xr_types.specs.Kinds.{wrap_to};
-ghost use Rattle.xr_types.specs.declared.attr.NcType.{NcType};
-ghost use Rattle.xr_types.specs.declared.attr.NcType.TheVariants.{Byte, Char, Short, Int};
 ghost use Rattle.xr_types.specs.declared.kind.DType.TheVariants.{Int64};
-ghost use Rattle.xr_types.specs.Widths.{width};
 ghost use Rattle.xr_arrays.specs.Folds.{sum_of};
-ghost use Rattle.xr_arrays.specs.Numbers.{is_whole, number_in, value_at, numbers_of};
+ghost use Rattle.xr_arrays.specs.Numbers.{is_whole, numbers_of};
 ghost use Rattle.xr_arrays.specs.Stored.{is_fill};
 ghost use Rattle.stored_cells.specs.Counted.{present};
 
-use crate::decode::{byte_at, int_at, short_at};
-use xr_types::NcType;
-
-// A type whose numbers stand in bytes.
-trait Number {
-    ghost kind: { NcType };
-
-    // How many of them stand in bytes.
-    fn count(raw: &[u8]) -> usize
-        ensures { result ≡ length raw.now / width kind };
-
-    fn at(raw: &[u8], i: usize) -> i64
-        requires { i < length raw.now / width kind }
-        ensures { result ≡ number_in kind (value_at kind raw.now i) };
-}
-
-impl Number for i8 {
-    ghost kind = { Byte };
-
-    fn count(raw: &[u8]) -> usize {
-        raw.len()
-    }
-
-    fn at(raw: &[u8], i: usize) -> i64 {
-        i64::from(byte_at(raw, i))
-    }
-}
-
-impl Number for u8 {
-    ghost kind = { Char };
-
-    fn count(raw: &[u8]) -> usize {
-        raw.len()
-    }
-
-    fn at(raw: &[u8], i: usize) -> i64 {
-        i64::from(raw[i])
-    }
-}
-
-impl Number for i16 {
-    ghost kind = { Short };
-
-    fn count(raw: &[u8]) -> usize {
-        raw.len() / 2
-    }
-
-    fn at(raw: &[u8], i: usize) -> i64 {
-        i64::from(short_at(raw, i))
-    }
-}
-
-impl Number for i32 {
-    ghost kind = { Int };
-
-    fn count(raw: &[u8]) -> usize {
-        raw.len() / 4
-    }
-
-    fn at(raw: &[u8], i: usize) -> i64 {
-        i64::from(int_at(raw, i))
-    }
-}
+use crate::masks::holds;
+use crate::number::Number;
+use xr_types::{Elem, NcType};
 
 // Numbers that stand for missing cells.
 trait Fills {
     ghost numbers: { Self → List ℤ };
 
-    // What a number adds to a sum.
-    fn counted(&self, n: i64) -> i64
-        ensures { result ≡ (if is_fill (numbers self.now) n then pos 0 else n) };
+    // Whether a cell holds one of them.
+    fn hide<T: Elem>(&self, cell: T) -> bool
+        ensures { result ≡ is_fill (numbers self.now) (T.number cell) };
 }
 
 #[derive(Clone, Copy)]
@@ -89,38 +26,38 @@ struct NoFill;
 impl Fills for NoFill {
     ghost numbers = { λ f. [] };
 
-    fn counted(&self, n: i64) -> i64 {
-        n
+    fn hide<T: Elem>(&self, _cell: T) -> bool {
+        false
     }
 }
 
 #[derive(Clone, Copy)]
 struct OneFill {
-    fill: i64,
+    fill: i128,
 }
 
 impl Fills for OneFill {
     ghost numbers = { λ f. f.fill ∷ [] };
 
-    fn counted(&self, n: i64) -> i64 {
-        if n == self.fill { 0 } else { n }
+    fn hide<T: Elem>(&self, cell: T) -> bool {
+        holds(cell, self.fill)
     }
 }
 
 #[derive(Clone, Copy)]
 struct SomeFills<'a> {
-    fills: &'a [i64],
+    fills: &'a [i128],
 }
 
 impl<'a> Fills for SomeFills<'a> {
     ghost numbers = { λ f. f.fills.now };
 
-    fn counted(&self, n: i64) -> i64 {
-        if is_fill(self.fills, n) { 0 } else { n }
+    fn hide<T: Elem>(&self, cell: T) -> bool {
+        is_fill(self.fills, cell.widen())
     }
 }
 
-fn is_fill(fills: &[i64], n: i64) -> bool
+fn is_fill(fills: &[i128], n: i128) -> bool
     ensures { result ≡ is_fill fills.now n }
 {
     for fill in fills {
@@ -131,12 +68,26 @@ fn is_fill(fills: &[i64], n: i64) -> bool
     false
 }
 
+#[tactic(auto, using(std::proofs::lemmas::Int::wraps))]
+fn added(a: i64, b: i64) -> i64
+    ensures { result ≡ wrap_to Int64 (a +ℤ b) }
+{
+    a.wrapping_add(b)
+}
+
+// What a cell adds to a sum.
+fn counted<T: Number, F: Fills>(cell: T, fills: &F) -> i64
+    ensures { result ≡ wrap_to Int64 (if is_fill (F.numbers fills.now) (T.number cell) then pos 0 else T.number cell) }
+{
+    if fills.hide(cell) { 0 } else { cell.low_bits() }
+}
+
 fn sum_in<T: Number, F: Fills>(raw: &[u8], fills: &F) -> i64
-    ensures { result ≡ wrap_to Int64 (sum_of (present (F.numbers fills.now) (numbers_of T.kind raw.now))) }
+    ensures { result ≡ wrap_to Int64 (sum_of (present (F.numbers fills.now) (numbers_of T.spelt raw.now))) }
 {
     let mut total: i64 = 0;
     for i in 0..T::count(raw) {
-        total = total.wrapping_add(fills.counted(T::at(raw, i)));
+        total = added(total, counted(T::at(raw, i), fills));
     }
     total
 }
@@ -150,13 +101,18 @@ fn sum_but<F: Fills>(kind: NcType, raw: &[u8], fills: &F) -> i64
         NcType::Char => sum_in::<u8, F>(raw, fills),
         NcType::Short => sum_in::<i16, F>(raw, fills),
         NcType::Int => sum_in::<i32, F>(raw, fills),
+        NcType::UByte => sum_in::<u8, F>(raw, fills),
+        NcType::UShort => sum_in::<u16, F>(raw, fills),
+        NcType::UInt => sum_in::<u32, F>(raw, fills),
+        NcType::Int64 => sum_in::<i64, F>(raw, fills),
+        NcType::UInt64 => sum_in::<u64, F>(raw, fills),
         // Nobody may ask for these.
         NcType::Float | NcType::Double => 0,
     }
 }
 
 /// The sum of the numbers that stand in bytes, but for those that stand for missing cells, as `int64` wraps it.
-pub fn sum(kind: NcType, raw: &[u8], fills: &[i64]) -> i64
+pub fn sum(kind: NcType, raw: &[u8], fills: &[i128]) -> i64
     requires { is_whole kind ≡ true }
     ensures { result ≡ wrap_to Int64 (sum_of (present fills.now (numbers_of kind raw.now))) }
 {

@@ -1,5 +1,5 @@
 use Rattle.std.proofs.Common.{◌≡◌, ◌∙◌, sym, ap, pos, rules, length, take, get_or}
-use Rattle.std.specs.Int.{w64}
+use Rattle.std.specs.Int.{w128}
 use Rattle.std.proofs.lemmas.Int.{to_z-of_z}
 use Rattle.std.proofs.lemmas.List.{take_all}
 use Rattle.stored_cells.specs.Masks.{mark}
@@ -17,7 +17,7 @@ loop-fill-preserved g c =
       long = ap length written ∙ kept ∙ c.loop-fill.invariant.long;
       marked = λ i x lt.
           ap (λ ms. get_or ms i 0) written
-          ∙ row_more fills k (pos 0) (g.T.Elem.number (get_or c.args.cells.now i x)) _ (get_or c.deref_mut.result.now i 0) (get_or c.mark_row.new.mask i 0) c.loop-fill-test.true (to_z-of_z w64 (get_or fills k (pos 0)) (search rules))
+          ∙ row_more fills k (pos 0) (g.T.Elem.number (get_or c.args.cells.now i x)) _ (get_or c.deref_mut.result.now i 0) (get_or c.mark_row.new.mask i 0) c.loop-fill-test.true (to_z-of_z w128 (get_or fills k (pos 0)) (search rules))
           (c.mark_row.ensures.marks i x lt) (ap (λ ms. get_or ms i 0) c.deref_mut.ensures.value ∙ c.loop-fill.invariant.marked i x lt);
     }
 
