@@ -1,0 +1,3 @@
+pub mod Alignment
+pub mod Arithmetic
+pub mod CellMethods
