@@ -23,7 +23,7 @@ use Rattle.xr_values.specs.declared.args.Args.{Args}
 use Rattle.xr_values.specs.Meaning.{meaning, layer, given, IsValueIn}
 use Rattle.xr_values.proofs.Meaning.{meaning_out}
 use Rattle.xr_defs.specs.Building.{assigned_to_array, assigned_to_set}
-use Rattle.xr_defs.specs.Calls.{method_called, of_both, uncomputed_method}
+use Rattle.xr_runs.specs.Calls.{method_called, of_both, uncomputed_method}
 use Rattle.plan_core.specs.Plans.{Grows}
 use Rattle.plan_core.proofs.Plans.{grows_by_none}
 use Rattle.xr_values.specs.Stands.{array_in, dataset_in}

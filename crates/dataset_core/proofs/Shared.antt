@@ -10,7 +10,7 @@ use Rattle.xr_types.specs.Results.{◌>>=◌, Answers}
 use Rattle.xr_values.specs.Answers.{Fails}
 use Rattle.xr_defs.specs.Meanings as of
 use Rattle.xr_defs.specs.Values as values
-use Rattle.xr_defs.specs.Calls.{of_array, of_both, as_dataset}
+use Rattle.xr_runs.specs.Calls.{of_array, of_both, as_dataset}
 use Rattle.xr_defs.specs.Parts.{own_name, as_set}
 use Rattle.xr_arguments.proofs.Variants.{is_array, is_set}
 use Rattle.xr_values.specs.declared.data_array.DataArray.{DataArray}

@@ -10,7 +10,7 @@ use Rattle.xr_files.specs.Files.{is_version}
 use Rattle.xr_defs.specs.Meanings as of
 use Rattle.xr_defs.specs.Values as sets
 use Rattle.xr_types.specs.Results.{◌>>=◌}
-use Rattle.xr_defs.specs.Calls.{Asked}
+use Rattle.xr_runs.specs.Calls.{Asked}
 use Rattle.xr_values.specs.declared.dataset.Dataset.{Dataset}
 use Rattle.xr_values.specs.declared.value.Value.{Value}
 use Rattle.xr_values.specs.Meaning.{meaning, IsValueIn}

@@ -11,7 +11,7 @@ use Rattle.xr_types.specs.Results.{◌>>=◌}
 use Rattle.xr_defs.specs.Arguments.{slice_given}
 use Rattle.xr_defs.specs.Meanings as of
 use Rattle.xr_defs.specs.Values as values
-use Rattle.xr_defs.specs.Calls.{uncomputed_method}
+use Rattle.xr_runs.specs.Calls.{uncomputed_method}
 use Rattle.xr_values.specs.declared.value.Value.{Value}
 use Rattle.xr_values.specs.declared.value.Value.TheOpen as held
 use Rattle.xr_values.specs.declared.value.Value.TheOpen.{Value-F}

@@ -3,7 +3,7 @@ ghost use Rattle.std.specs.Prelude.{◌≡◌, ℕ, List, Ok, false};
 ghost use denote.Param.Send.{IsSync};
 ghost use Rattle.xr_arrays.specs.declared.node.Node.{Node};
 ghost use Rattle.xr_defs.specs.Building.{assigned_to_array, assigned_to_set};
-ghost use Rattle.xr_defs.specs.Calls.{of_both};
+ghost use Rattle.xr_runs.specs.Calls.{of_both};
 ghost use Rattle.xr_values.specs.Meaning.{meaning, given, IsValueIn, AreArgsIn};
 ghost use Rattle.dataset_core.specs.Answers.{AnswersValue};
 ghost use Rattle.dataset_core.specs.Assigned.{coords_told, FollowsValue};
@@ -17,7 +17,7 @@ use xr_types::{CallFault, Fault};
 use xr_values::{Args, Cx, Value};
 
 /// `assign_coords(name=value)` of arrays and datasets.
-#[tactic(auto, using(xr_arguments::proofs::Variants::is_array, xr_arguments::proofs::Variants::is_set, xr_arguments::proofs::Inside::held_array, xr_arguments::proofs::Inside::held_set, xr_values::proofs::Meaning::meaning_out), unfolding(xr_defs::specs::Calls::of_both))]
+#[tactic(auto, using(xr_arguments::proofs::Variants::is_array, xr_arguments::proofs::Variants::is_set, xr_arguments::proofs::Inside::held_array, xr_arguments::proofs::Inside::held_set, xr_values::proofs::Meaning::meaning_out), unfolding(xr_runs::specs::Calls::of_both))]
 pub(crate) fn assign_coords<R: Threads + Sync, C: Compute>(
     rt: &R,
     alloc: Global,

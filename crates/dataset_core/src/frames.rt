@@ -3,7 +3,8 @@ ghost use Rattle.std.specs.Prelude.{◌≡◌, ◌++◌, true, IfOk};
 ghost use Rattle.xr_types.specs.Names.{are_distinct};
 ghost use Rattle.xr_arrays.specs.Added.{AddsAtMost};
 ghost use Rattle.xr_defs.specs.Room.{portions, room};
-ghost use Rattle.xr_defs.specs.Calls.{of_array, of_both, array_with_attrs as described_array, set_with_attrs as described_set, sum_called as summed};
+ghost use Rattle.xr_runs.specs.Calls.{of_array, of_both};
+ghost use Rattle.xr_defs.specs.Parts.{array_with_attrs as described_array, set_with_attrs as described_set, sum_called as summed};
 ghost use Rattle.xr_defs.specs.Parts.{dropped_of_array as left_of_array, dropped_of_set as left_of_set, renamed as named, to_dataset as as_dataset, transposed as reordered};
 ghost use Rattle.xr_defs.specs.Selecting.{isel_array as selected_array, isel_set as selected_set};
 ghost use Rattle.plan_core.specs.Plans.{Grows};
@@ -23,7 +24,7 @@ use xr_types::{CallFault, Fault};
 use xr_values::{Args, Value};
 
 /// `isel(x=..)`.
-#[tactic(auto, using(plan_core::proofs::Plans::grows_by_none, plan_core::proofs::Added::adds_none, xr_arguments::proofs::Variants::is_array, xr_arguments::proofs::Variants::is_set, xr_arguments::proofs::Inside::held_array, xr_arguments::proofs::Inside::held_set, xr_values::proofs::Meaning::meaning_out), unfolding(xr_defs::specs::Calls::of_both))]
+#[tactic(auto, using(plan_core::proofs::Plans::grows_by_none, plan_core::proofs::Added::adds_none, xr_arguments::proofs::Variants::is_array, xr_arguments::proofs::Variants::is_set, xr_arguments::proofs::Inside::held_array, xr_arguments::proofs::Inside::held_set, xr_values::proofs::Meaning::meaning_out), unfolding(xr_runs::specs::Calls::of_both))]
 pub(crate) fn isel(
     alloc: Global,
     plan: &mut Plan,
@@ -49,7 +50,7 @@ pub(crate) fn isel(
 }
 
 /// `transpose(d1, d2)`.
-#[tactic(auto, using(plan_core::proofs::Plans::grows_by_none, plan_core::proofs::Added::adds_none, xr_arguments::proofs::Variants::is_array, xr_arguments::proofs::Variants::is_set, xr_arguments::proofs::Inside::held_array, xr_arguments::proofs::Inside::held_set, xr_values::proofs::Meaning::meaning_out), unfolding(xr_defs::specs::Calls::of_array))]
+#[tactic(auto, using(plan_core::proofs::Plans::grows_by_none, plan_core::proofs::Added::adds_none, xr_arguments::proofs::Variants::is_array, xr_arguments::proofs::Variants::is_set, xr_arguments::proofs::Inside::held_array, xr_arguments::proofs::Inside::held_set, xr_values::proofs::Meaning::meaning_out), unfolding(xr_runs::specs::Calls::of_array))]
 pub(crate) fn transpose(
     alloc: Global,
     plan: &mut Plan,
@@ -71,7 +72,7 @@ pub(crate) fn transpose(
 }
 
 /// `drop_vars(name)`.
-#[tactic(auto, using(plan_core::proofs::Plans::grows_by_none, plan_core::proofs::Added::adds_none, xr_arguments::proofs::Variants::is_array, xr_arguments::proofs::Variants::is_set, xr_arguments::proofs::Inside::held_array, xr_arguments::proofs::Inside::held_set, xr_values::proofs::Meaning::meaning_out), unfolding(xr_defs::specs::Calls::of_both))]
+#[tactic(auto, using(plan_core::proofs::Plans::grows_by_none, plan_core::proofs::Added::adds_none, xr_arguments::proofs::Variants::is_array, xr_arguments::proofs::Variants::is_set, xr_arguments::proofs::Inside::held_array, xr_arguments::proofs::Inside::held_set, xr_values::proofs::Meaning::meaning_out), unfolding(xr_runs::specs::Calls::of_both))]
 pub(crate) fn drop_vars(
     alloc: Global,
     plan: &mut Plan,
@@ -97,7 +98,7 @@ pub(crate) fn drop_vars(
 }
 
 /// `assign_attrs(name=value)`.
-#[tactic(auto, using(plan_core::proofs::Plans::grows_by_none, plan_core::proofs::Added::adds_none, xr_arguments::proofs::Variants::is_array, xr_arguments::proofs::Variants::is_set, xr_arguments::proofs::Inside::held_array, xr_arguments::proofs::Inside::held_set, xr_values::proofs::Meaning::meaning_out), unfolding(xr_defs::specs::Calls::of_both))]
+#[tactic(auto, using(plan_core::proofs::Plans::grows_by_none, plan_core::proofs::Added::adds_none, xr_arguments::proofs::Variants::is_array, xr_arguments::proofs::Variants::is_set, xr_arguments::proofs::Inside::held_array, xr_arguments::proofs::Inside::held_set, xr_values::proofs::Meaning::meaning_out), unfolding(xr_runs::specs::Calls::of_both))]
 pub(crate) fn assign_attrs(
     alloc: Global,
     plan: &mut Plan,
@@ -123,7 +124,7 @@ pub(crate) fn assign_attrs(
 }
 
 /// `rename(name)`.
-#[tactic(auto, using(plan_core::proofs::Plans::grows_by_none, plan_core::proofs::Added::adds_none, xr_arguments::proofs::Variants::is_array, xr_arguments::proofs::Variants::is_set, xr_arguments::proofs::Inside::held_array, xr_arguments::proofs::Inside::held_set, xr_values::proofs::Meaning::meaning_out), unfolding(xr_defs::specs::Calls::of_array))]
+#[tactic(auto, using(plan_core::proofs::Plans::grows_by_none, plan_core::proofs::Added::adds_none, xr_arguments::proofs::Variants::is_array, xr_arguments::proofs::Variants::is_set, xr_arguments::proofs::Inside::held_array, xr_arguments::proofs::Inside::held_set, xr_values::proofs::Meaning::meaning_out), unfolding(xr_runs::specs::Calls::of_array))]
 pub(crate) fn rename(
     alloc: Global,
     plan: &mut Plan,
@@ -145,7 +146,7 @@ pub(crate) fn rename(
 }
 
 /// `to_dataset(name)`.
-#[tactic(auto, using(plan_core::proofs::Plans::grows_by_none, plan_core::proofs::Added::adds_none, xr_arguments::proofs::Variants::is_array, xr_arguments::proofs::Variants::is_set, xr_arguments::proofs::Inside::held_array, xr_arguments::proofs::Inside::held_set, xr_values::proofs::Meaning::meaning_out), unfolding(xr_defs::specs::Calls::of_array))]
+#[tactic(auto, using(plan_core::proofs::Plans::grows_by_none, plan_core::proofs::Added::adds_none, xr_arguments::proofs::Variants::is_array, xr_arguments::proofs::Variants::is_set, xr_arguments::proofs::Inside::held_array, xr_arguments::proofs::Inside::held_set, xr_values::proofs::Meaning::meaning_out), unfolding(xr_runs::specs::Calls::of_array))]
 pub(crate) fn to_dataset(
     alloc: Global,
     plan: &mut Plan,
@@ -167,7 +168,7 @@ pub(crate) fn to_dataset(
 }
 
 /// `sum()`.
-#[tactic(auto, using(plan_core::proofs::Plans::grows_by_none, plan_core::proofs::Added::adds_none, xr_arguments::proofs::Variants::is_array, xr_arguments::proofs::Variants::is_set, xr_arguments::proofs::Inside::held_array, xr_arguments::proofs::Inside::held_set, xr_values::proofs::Meaning::meaning_out), unfolding(xr_defs::specs::Calls::of_array))]
+#[tactic(auto, using(plan_core::proofs::Plans::grows_by_none, plan_core::proofs::Added::adds_none, xr_arguments::proofs::Variants::is_array, xr_arguments::proofs::Variants::is_set, xr_arguments::proofs::Inside::held_array, xr_arguments::proofs::Inside::held_set, xr_values::proofs::Meaning::meaning_out), unfolding(xr_runs::specs::Calls::of_array))]
 pub(crate) fn sum(
     alloc: Global,
     plan: &mut Plan,

@@ -5,7 +5,7 @@ ghost use Rattle.xr_arrays.specs.declared.node.Node.{Node};
 ghost use Rattle.xr_arrays.specs.Added.{AddsAtMost};
 ghost use Rattle.xr_defs.specs.Room.{portions, room, Portion};
 ghost use Rattle.xr_defs.specs.Building.{data_array};
-ghost use Rattle.xr_defs.specs.Calls.{function_over_values};
+ghost use Rattle.xr_runs.specs.Calls.{function_over_values};
 ghost use Rattle.plan_core.specs.Plans.{Grows};
 ghost use Rattle.xr_values.specs.Meaning.{given, meaning, IsValueIn, AreArgsIn};
 ghost use Rattle.xr_building.specs.Written.{array_written};
@@ -58,7 +58,7 @@ fn other_function(alloc: Global, name: &TextBytes, args: &Args) -> Result<Value,
 /// # Errors
 /// `UnknownName` for any other function; then those of the function. Where cells that the call needs are declined, it is that:
 /// `DataArray` needs those of each array that it makes a coordinate.
-#[tactic(auto, using(plan_core::proofs::Plans::grows_by_none, plan_core::proofs::Added::adds_none, crate::proofs::Labelling::follows_value), unfolding(xr_defs::specs::Calls::function_over_values, crate::specs::Assigned::function_told))]
+#[tactic(auto, using(plan_core::proofs::Plans::grows_by_none, plan_core::proofs::Added::adds_none, crate::proofs::Labelling::follows_value), unfolding(xr_runs::specs::Calls::function_over_values, crate::specs::Assigned::function_told))]
 pub fn call_function<R: Threads + Sync, C: Compute>(
     rt: &R,
     alloc: Global,

@@ -6,7 +6,7 @@ ghost use Rattle.xr_types.specs.Names.{are_distinct};
 ghost use Rattle.xr_arrays.specs.Added.{AddsAtMost};
 ghost use Rattle.xr_defs.specs.Room.{portions, room};
 ghost use Rattle.xr_types.specs.Names.{among};
-ghost use Rattle.xr_defs.specs.Calls.{method_called, uncomputed_method as uncomputed, other_method as other_method_called, is_labelled_data as is_labelled, promoting};
+ghost use Rattle.xr_runs.specs.Calls.{method_called, uncomputed_method as uncomputed, other_method as other_method_called, is_labelled_data as is_labelled, promoting};
 ghost use Rattle.plan_core.specs.Plans.{Grows};
 ghost use Rattle.xr_values.specs.Meaning.{meaning, given, IsValueIn, AreArgsIn};
 ghost use Rattle.xr_indexing.specs.Taken.{keywords};
@@ -47,7 +47,7 @@ pub(crate) fn is_labelled_data(value: &Value) -> bool
 }
 
 // Why there is no other method of this name.
-#[tactic(auto, unfolding(xr_defs::specs::Calls::other_method))]
+#[tactic(auto, unfolding(xr_runs::specs::Calls::other_method))]
 fn other_method(alloc: Global, on: &Value, name: &TextBytes) -> CallFault
     ensures { (nodes : List Node) → RefusesValue result (other_method_called (meaning nodes on.now) name.now) }
 {
@@ -66,7 +66,7 @@ fn other_method(alloc: Global, on: &Value, name: &TextBytes) -> CallFault
 }
 
 // The methods that compute no cells.
-#[tactic(auto, using(plan_core::proofs::Plans::grows_by_none), unfolding(xr_defs::specs::Calls::uncomputed_method))]
+#[tactic(auto, using(plan_core::proofs::Plans::grows_by_none), unfolding(xr_runs::specs::Calls::uncomputed_method))]
 fn uncomputed_method(
     alloc: Global,
     plan: &mut Plan,
@@ -107,7 +107,7 @@ fn uncomputed_method(
 /// `UnknownName` for any other method, but `WouldPromote` for those of arrays and datasets whose answers aren't whole
 /// numbers, `mean` and its like; then `WrongKind` for a receiver that hasn't the method; then those of the method. Where
 /// cells that the call needs are declined, it is that: `assign_coords` needs those of each array that it makes a coordinate.
-#[tactic(auto, using(plan_core::proofs::Plans::grows_by_none, plan_core::proofs::Added::adds_none, crate::proofs::Labelling::follows_value), unfolding(xr_defs::specs::Calls::method_called, crate::specs::Assigned::method_told))]
+#[tactic(auto, using(plan_core::proofs::Plans::grows_by_none, plan_core::proofs::Added::adds_none, crate::proofs::Labelling::follows_value), unfolding(xr_runs::specs::Calls::method_called, crate::specs::Assigned::method_told))]
 pub fn call_method<R: Threads + Sync, C: Compute>(
     rt: &R,
     alloc: Global,

@@ -2,7 +2,7 @@
 ghost use Rattle.std.specs.Prelude.{List, Some, option_map};
 ghost use Rattle.xr_arrays.specs.declared.node.Node.{Node};
 ghost use Rattle.xr_types.specs.Results.{Answers};
-ghost use Rattle.xr_defs.specs.Calls.{mask_given as mask_told, open_asked};
+ghost use Rattle.xr_runs.specs.Calls.{mask_given as mask_told, open_asked};
 ghost use Rattle.xr_values.specs.Meaning.{meaning, given};
 ghost use Rattle.dataset_core.specs.Answers.{AnswersOpening};
 
@@ -18,7 +18,7 @@ pub struct OpenRequest {
     pub mask: bool,
 }
 
-#[tactic(auto, using(xr_arguments::proofs::Variants::is_truth, xr_values::proofs::Meaning::meaning_out), unfolding(xr_defs::specs::Calls::mask_given))]
+#[tactic(auto, using(xr_arguments::proofs::Variants::is_truth, xr_values::proofs::Meaning::meaning_out), unfolding(xr_runs::specs::Calls::mask_given))]
 fn as_mask(value: &Value) -> Result<bool, CallFault>
     ensures { (nodes : List Node) → Answers (λ b. b) result (mask_told (Some (meaning nodes value.now))) }
 {
@@ -29,7 +29,7 @@ fn as_mask(value: &Value) -> Result<bool, CallFault>
 }
 
 // Whether missing cells are asked for.
-#[tactic(auto, unfolding(xr_defs::specs::Calls::mask_given))]
+#[tactic(auto, unfolding(xr_runs::specs::Calls::mask_given))]
 fn mask_given(value: Option<&Value>) -> Result<bool, CallFault>
     ensures { (nodes : List Node) → Answers (λ b. b) result (mask_told (option_map (λ v. meaning nodes v.now) value.entry)) }
 {
@@ -44,7 +44,7 @@ fn mask_given(value: Option<&Value>) -> Result<bool, CallFault>
 /// # Errors
 /// `BadArgument` for arguments that fit no parameter, and where there is no name; then `WrongKind` for a name that is no
 /// text; then for a mask that is no truth value.
-#[tactic(auto, unfolding(xr_defs::specs::Calls::open_asked))]
+#[tactic(auto, unfolding(xr_runs::specs::Calls::open_asked))]
 pub fn open_request(alloc: Global, args: &Args) -> Result<OpenRequest, CallFault>
     ensures { (nodes : List Node) → AnswersOpening result (open_asked (given nodes args.now)) }
 {

@@ -2,7 +2,7 @@
 ghost use Rattle.std.specs.Prelude.{◌++◌, IfOk};
 ghost use Rattle.xr_arrays.specs.Added.{AddsAtMost};
 ghost use Rattle.xr_defs.specs.Room.{portions, room};
-ghost use Rattle.xr_defs.specs.Calls.{part_picked};
+ghost use Rattle.xr_runs.specs.Calls.{part_picked};
 ghost use Rattle.plan_core.specs.Plans.{Grows};
 ghost use Rattle.xr_values.specs.Meaning.{meaning, IsValueIn};
 ghost use Rattle.dataset_core.specs.Answers.{AnswersValue};
@@ -18,7 +18,7 @@ use xr_values::Value;
 ///
 /// # Errors
 /// `WrongKind` for any other value; then those of the part.
-#[tactic(auto, using(plan_core::proofs::Plans::grows_by_none, xr_arguments::proofs::Variants::is_array, xr_arguments::proofs::Variants::is_set, xr_arguments::proofs::Inside::held_array, xr_arguments::proofs::Inside::held_set, xr_values::proofs::Meaning::meaning_out), unfolding(xr_defs::specs::Calls::part_picked))]
+#[tactic(auto, using(plan_core::proofs::Plans::grows_by_none, xr_arguments::proofs::Variants::is_array, xr_arguments::proofs::Variants::is_set, xr_arguments::proofs::Inside::held_array, xr_arguments::proofs::Inside::held_set, xr_values::proofs::Meaning::meaning_out), unfolding(xr_runs::specs::Calls::part_picked))]
 pub fn pick(
     alloc: Global,
     plan: &mut Plan,

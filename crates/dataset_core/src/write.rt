@@ -4,8 +4,8 @@ ghost use Rattle.xr_arrays.specs.declared.node.Node.{Node};
 ghost use Rattle.xr_files.specs.Files.{is_version};
 ghost use Rattle.xr_types.specs.Results.{Answers};
 ghost use Rattle.xr_defs.specs.Building.{option as option_at};
-ghost use Rattle.xr_defs.specs.Calls as calls;
-ghost use Rattle.xr_defs.specs.Calls.{write_asked};
+ghost use Rattle.xr_runs.specs.Calls as calls;
+ghost use Rattle.xr_runs.specs.Calls.{write_asked};
 ghost use Rattle.xr_values.specs.Meaning.{meaning, given, IsValueIn};
 ghost use Rattle.dataset_core.specs.Answers.{AnswersShared, AnswersRequest};
 
@@ -27,7 +27,7 @@ pub struct WriteRequest {
 }
 
 // The version of the format.
-#[tactic(auto, unfolding(xr_defs::specs::Calls::format_named))]
+#[tactic(auto, unfolding(xr_runs::specs::Calls::format_named))]
 fn format_named(name: &TextBytes) -> Result<u8, CallFault>
     ensures told { Answers (λ v. v) result (calls.format_named name.now) }
     ensures known { IfOk result (λ v. is_version v ≡ true) }
@@ -41,7 +41,7 @@ fn format_named(name: &TextBytes) -> Result<u8, CallFault>
     }
 }
 
-#[tactic(auto, unfolding(xr_defs::specs::Calls::format_given))]
+#[tactic(auto, unfolding(xr_runs::specs::Calls::format_given))]
 fn format_given(value: Option<&Value>) -> Result<u8, CallFault>
     ensures told { (nodes : List Node) → Answers (λ v. v) result (calls.format_given (option_map (λ v. meaning nodes v.now) value.entry)) }
     ensures known { IfOk result (λ v. is_version v ≡ true) }
@@ -55,7 +55,7 @@ fn format_given(value: Option<&Value>) -> Result<u8, CallFault>
     }
 }
 
-#[tactic(auto, using(xr_arguments::proofs::Variants::is_number, xr_values::proofs::Meaning::meaning_out), unfolding(xr_defs::specs::Calls::fill_given))]
+#[tactic(auto, using(xr_arguments::proofs::Variants::is_number, xr_values::proofs::Meaning::meaning_out), unfolding(xr_runs::specs::Calls::fill_given))]
 fn as_fill(value: &Value) -> Result<Option<i128>, CallFault>
     ensures { (nodes : List Node) → Answers (λ n. n) result (calls.fill_given (Some (meaning nodes value.now))) }
 {
@@ -66,7 +66,7 @@ fn as_fill(value: &Value) -> Result<Option<i128>, CallFault>
 }
 
 // The number that stands for a missing cell.
-#[tactic(auto, unfolding(xr_defs::specs::Calls::fill_given))]
+#[tactic(auto, unfolding(xr_runs::specs::Calls::fill_given))]
 fn fill_given(value: Option<&Value>) -> Result<Option<i128>, CallFault>
     ensures { (nodes : List Node) → Answers (λ n. n) result (calls.fill_given (option_map (λ v. meaning nodes v.now) value.entry)) }
 {
@@ -77,7 +77,7 @@ fn fill_given(value: Option<&Value>) -> Result<Option<i128>, CallFault>
 }
 
 // The dimension that becomes the record dimension.
-#[tactic(auto, unfolding(xr_defs::specs::Calls::unlimited_given))]
+#[tactic(auto, unfolding(xr_runs::specs::Calls::unlimited_given))]
 fn unlimited_given(alloc: Global, value: Option<&Value>) -> Result<Option<TextBytes>, CallFault>
     ensures { (nodes : List Node) → Answers (λ t. t) result (calls.unlimited_given (option_map (λ v. meaning nodes v.now) value.entry)) }
 {
@@ -110,7 +110,7 @@ fn unlimited_of(alloc: Global, values: &[Option<&Value>]) -> Result<Option<TextB
     unlimited_given(alloc, option(values, 3))
 }
 
-#[tactic(auto, unfolding(xr_defs::specs::Calls::options_given))]
+#[tactic(auto, unfolding(xr_runs::specs::Calls::options_given))]
 fn options_given(alloc: Global, values: &[Option<&Value>]) -> Result<WriteOptions, CallFault>
     ensures told { (nodes : List Node) → Answers (λ o. o) result (calls.options_given (map (option_map (λ v. meaning nodes v.now)) values.now)) }
     ensures known { IfOk result (λ o. is_version o.version ≡ true) }
@@ -126,7 +126,7 @@ fn options_given(alloc: Global, values: &[Option<&Value>]) -> Result<WriteOption
 }
 
 // An array is written as the dataset of it.
-#[tactic(auto, using(xr_arguments::proofs::Variants::is_array, xr_arguments::proofs::Variants::is_set, xr_arguments::proofs::Inside::held_array, xr_arguments::proofs::Inside::held_set, xr_values::proofs::Meaning::meaning_out), unfolding(xr_defs::specs::Calls::as_dataset))]
+#[tactic(auto, using(xr_arguments::proofs::Variants::is_array, xr_arguments::proofs::Variants::is_set, xr_arguments::proofs::Inside::held_array, xr_arguments::proofs::Inside::held_set, xr_values::proofs::Meaning::meaning_out), unfolding(xr_runs::specs::Calls::as_dataset))]
 fn as_dataset(alloc: Global, on: &Value) -> Result<Rc<Dataset>, CallFault>
     ensures { (nodes : List Node) → IsValueIn nodes on.now → AnswersShared nodes result (calls.as_dataset (meaning nodes on.now)) }
 {
@@ -147,7 +147,7 @@ fn as_dataset(alloc: Global, on: &Value) -> Result<Rc<Dataset>, CallFault>
 /// `WrongKind` for a receiver that is no array or dataset; then `BadArgument` for arguments that fit no parameter, and where
 /// there is no name; then, for each argument in turn, `WrongKind` for a value of another kind, and `BadArgument` for a format
 /// that isn't one of the two; then `BadArgument` for an array that has no name, and the faults of a dataset of it.
-#[tactic(auto, unfolding(xr_defs::specs::Calls::write_asked, xr_types::specs::Results::unless))]
+#[tactic(auto, unfolding(xr_runs::specs::Calls::write_asked, xr_types::specs::Results::unless))]
 pub fn write_request(alloc: Global, on: &Value, args: &Args) -> Result<WriteRequest, CallFault>
     ensures { (nodes : List Node) → IsValueIn nodes on.now → AnswersRequest nodes result (write_asked (meaning nodes on.now) (given nodes args.now)) }
 {

@@ -7,7 +7,7 @@ use Rattle.xr_defs.specs.declared.write_options.WriteOptions.{WriteOptions}
 use Rattle.xr_defs.specs.Meanings.{Value, Text, Number, Set, Given}
 use Rattle.xr_defs.specs.Arguments.{as_text}
 use Rattle.xr_defs.specs.Building.{bound}
-use Rattle.xr_defs.specs.Calls.{open_asked, open_dataset, opened_set, mask_given, text_printed, write_asked, set_written, method_called, uncomputed_method, other_method, of_array, options_given, format_given, fill_given, unlimited_given, format_named}
+use Rattle.xr_runs.specs.Calls.{open_asked, open_dataset, opened_set, mask_given, text_printed, write_asked, set_written, method_called, uncomputed_method, other_method, of_array, options_given, format_given, fill_given, unlimited_given, format_named}
 
 -- a dataset of nothing is printed as its first line
 printed : text_printed (Set (record { axes = []; coords = []; vars = []; attrs = []; skipped = [] })) ≡ Ok (codes "Dataset\n")

@@ -21,7 +21,8 @@ use Rattle.xr_defs.specs.Parts.{new_name, to_dataset, set_name, name_given, tran
 use Rattle.xr_defs.specs.Building as build
 use Rattle.xr_defs.specs.Building.{elements, data_array, array_built, bound, check_elements, dims_given, entries_given, check_table_entry, kind_given, check_entry, check_place, check_coordinate, check_labels, as_labels, with_entries, with_entry, with_labels, with_coordinate, coordinate_given, check_numbers, entries_assigned, coords_assigned, assigned_to_array, assigned_to_set}
 use Rattle.xr_defs.specs.Encoding.{file_of, check_unlimited, check_names, check_records, check_fill, check_fit, check_cells}
-use Rattle.xr_defs.specs.Calls.{sum_called, set_written, write_asked, as_dataset, options_given, format_given, format_named, fill_given, unlimited_given}
+use Rattle.xr_defs.specs.Sums.{sum_called}
+use Rattle.xr_runs.specs.Calls.{set_written, write_asked, as_dataset, options_given, format_given, format_named, fill_given, unlimited_given}
 use Rattle.xr_defs.specs.Printing.{array_text, set_text}
 
 abbrev numbers : List ℤ → Values

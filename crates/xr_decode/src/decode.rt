@@ -1,7 +1,7 @@
 //! From a file, or from its bytes, to a dataset.
 ghost use Rattle.std.specs.Prelude.{◌≡◌, ◌∷◌, [], IfOk};
 ghost use Rattle.xr_defs.specs.Decoding.{set_of};
-ghost use Rattle.xr_defs.specs.Calls.{set_in};
+ghost use Rattle.xr_defs.specs.Decoding.{set_in};
 ghost use Rattle.xr_arrays.specs.Added.{AddsAtMost};
 ghost use Rattle.xr_defs.specs.Room.{of_set, room};
 ghost use Rattle.plan_core.specs.Plans.{Grows};
@@ -62,7 +62,7 @@ pub fn decode_set<C: Compute>(
 ///
 /// # Errors
 /// `BadFile`, with the first fault and its byte, where the bytes spell no file; and what `decode_into` answers.
-#[tactic(auto, unfolding(xr_defs::specs::Calls::set_in))]
+#[tactic(auto, unfolding(xr_defs::specs::Decoding::set_in))]
 pub fn decode_bytes(
     alloc: Global,
     plan: &mut Plan,

@@ -89,6 +89,18 @@ is_integer_kind kinds.UInt16 = true
 is_integer_kind kinds.UInt32 = true
 is_integer_kind kinds.UInt64 = true
 
+abbrev pub is_chars : DType → Bool
+is_chars kinds.Char = true
+is_chars kinds.Bool = false
+is_chars kinds.Int8 = false
+is_chars kinds.Int16 = false
+is_chars kinds.Int32 = false
+is_chars kinds.Int64 = false
+is_chars kinds.UInt8 = false
+is_chars kinds.UInt16 = false
+is_chars kinds.UInt32 = false
+is_chars kinds.UInt64 = false
+
 abbrev pub is_dimension : List Axis → List ℕ → Bool
 is_dimension axes name = is_some (axis_position name axes)
 

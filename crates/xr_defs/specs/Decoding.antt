@@ -1,11 +1,11 @@
 -- The dataset of a classic file (CF Conventions, "Coordinate Systems" and "Missing data"; xarray, `decode_cf`). An index that
 -- counts times stays one of whole numbers so far.
-use Rattle.std.specs.Prelude.{◌+◌, ◌-◌, ◌*◌, ◌==◌, ◌&&◌, ◌||◌, ℕ, ℤ, pos, negsuc, List, [], ◌∷◌, ◌++◌, length, map, filter, find, take, drop, flat_map, Option, Some, None, is_some, option_map, Result, Ok, Bool, true, false, not, if◌then◌else◌, nat_lt, nat_le, codes}
+use Rattle.std.specs.Prelude.{◌+◌, ◌-◌, ◌*◌, ◌==◌, ◌&&◌, ◌||◌, ℕ, ℤ, pos, negsuc, List, [], ◌∷◌, ◌++◌, length, map, filter, find, take, drop, flat_map, Option, Some, None, is_some, option_map, Result, Ok, Err, Bool, true, false, not, if◌then◌else◌, nat_lt, nat_le, codes}
 use Rattle.std.specs.Fmt.{decimal}
 use Rattle.std.specs.Str.{is_utf8, bytes_eq}
 use Rattle.std.specs.List.{list_any, suffix_len, slice_split, range_with_len}
 use Rattle.xr_types.specs.declared.fault.Fault.{Fault}
-use Rattle.xr_types.specs.declared.fault.Fault.TheVariants.{TooLarge}
+use Rattle.xr_types.specs.declared.fault.Fault.TheVariants.{BadFile, TooLarge}
 use Rattle.xr_types.specs.declared.attr.Attr.{Attr}
 use Rattle.xr_types.specs.declared.attr.NcType.{NcType}
 use Rattle.xr_types.specs.declared.attr.NcType.TheVariants.{Byte, Char}
@@ -23,7 +23,7 @@ use Rattle.xr_types.specs.Results.{◌>>=◌, unless}
 use Rattle.xr_types.specs.Points.{size}
 use Rattle.xr_types.specs.Names.{among}
 use Rattle.xr_files.specs.Classic.{dim_at}
-use Rattle.xr_files.specs.Files.{positions, shape_of}
+use Rattle.xr_files.specs.Files.{file_in, positions, shape_of}
 use Rattle.xr_arrays.specs.Numbers.{is_whole, cells_kind, numbers_of}
 use Rattle.xr_arrays.specs.Stored.{stored_cells}
 use Rattle.xr_defs.specs.Limits.{are_different, most_cells, most_dimensions, most_variables}
@@ -272,3 +272,7 @@ check_count set = unless (nat_le (length set.coords + length set.vars) most_vari
 -- the dataset of a file, with missing cells where it is asked for them
 unfoldable pub set_of : CdfFile → Bool → Result Dataset Fault
 set_of f mask = check_count (dataset_in f mask) >>= λ u. Ok (dataset_in f mask)
+
+-- the dataset of a file's bytes
+unfoldable pub set_in : List ℕ → Bool → Result Dataset Fault
+set_in bytes mask = elim (file_in bytes) [ Err x ↦ Err (BadFile x.0 x.1) | Ok f ↦ set_of f mask ]

@@ -6,8 +6,6 @@ pub mod Limits
 pub mod Stores
 pub mod Meanings
 pub mod Arguments
-pub mod Evaluation
-pub mod Runs
 pub mod Decoding
 pub mod Printing
 pub mod Encoding
@@ -18,4 +16,4 @@ pub mod Building
 pub mod Carrying
 pub mod WellFormed
 pub mod Carries
-pub mod Calls
+pub mod Sums

@@ -1,5 +1,5 @@
 -- What the expressions of a script stand for.
-use Rattle.std.specs.Prelude.{ℕ, ℤ, Bool, List, Option}
+use Rattle.std.specs.Prelude.{ℕ, ℤ, Bool, List, [], ◌∷◌, ◌++◌, Option}
 use Rattle.xr_defs.specs.declared.slice.Part.{Part}
 use Rattle.xr_defs.specs.Values.{DataArray, Dataset}
 
@@ -34,3 +34,12 @@ mutual
 pub record Given : Type 0 where
   pub plain : List Value
   pub keyed : List (List ℕ × Value)
+
+abbrev pub no_arguments : Given
+no_arguments = record { plain = []; keyed = [] }
+
+abbrev pub and_plain : Given → Value → Given
+and_plain g v = record g { plain = g.plain ++ v ∷ [] }
+
+abbrev pub and_keyed : Given → List ℕ → Value → Given
+and_keyed g name v = record g { keyed = g.keyed ++ (name, v) ∷ [] }

@@ -137,6 +137,12 @@ each_attr attrs (kv ∷ kvs) = attr_given kv >>= λ a. each_attr (with_attr attr
 unfoldable pub attrs_assigned : List Attr → Given → Result (List Attr) Fault
 attrs_assigned attrs g = unless (length g.plain == 0) BadArgument >>= λ u. all_of check_attr g.keyed >>= λ v. each_attr attrs g.keyed
 
+unfoldable pub array_with_attrs : Given → DataArray → Result DataArray Fault
+array_with_attrs g a = attrs_assigned a.attrs g >>= λ attrs. Ok (record a { attrs = attrs })
+
+unfoldable pub set_with_attrs : Given → Dataset → Result Dataset Fault
+set_with_attrs g s = attrs_assigned s.attrs g >>= λ attrs. Ok (record s { attrs = attrs })
+
 -- ---- transpose(d1, d2): every dimension once, or none for the reversed order
 
 unfoldable pub as_texts : List Value → Result (List (List ℕ)) Fault

@@ -18,7 +18,7 @@ use Rattle.xr_types.specs.declared.operation.OpKind.TheVariants as ops
 use Rattle.xr_arrays.specs.Arrays.{Array, at}
 use Rattle.xr_arrays.specs.Elements.{elem, unary_of}
 use Rattle.xr_defs.specs.Arguments.{wrong}
-use Rattle.xr_defs.specs.Building.{is_integer_kind, truth_number}
+use Rattle.xr_defs.specs.Building.{is_chars, is_integer_kind, truth_number}
 use Rattle.xr_defs.specs.Carrying.{attr_rule, coord_rule, name_rule}
 use Rattle.xr_defs.specs.declared.carrying.Carry.TheVariants as carry
 use Rattle.xr_defs.specs.Meanings as of
@@ -71,18 +71,6 @@ compares Order = true
 compares Arithmetic = false
 compares Bitwise = false
 compares Division = false
-
-abbrev pub is_chars : DType → Bool
-is_chars kinds.Char = true
-is_chars kinds.Bool = false
-is_chars kinds.Int8 = false
-is_chars kinds.Int16 = false
-is_chars kinds.Int32 = false
-is_chars kinds.Int64 = false
-is_chars kinds.UInt8 = false
-is_chars kinds.UInt16 = false
-is_chars kinds.UInt32 = false
-is_chars kinds.UInt64 = false
 
 abbrev pub is_truths : DType → Bool
 is_truths t = not (is_integer_kind t || is_chars t)

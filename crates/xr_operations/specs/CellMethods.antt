@@ -15,7 +15,7 @@ use Rattle.xr_types.specs.declared.operation.OpKind.{OpKind}
 use Rattle.xr_types.specs.declared.operation.OpKind.TheVariants as ops
 use Rattle.xr_arrays.specs.Elements.{choose, elem, unary_of}
 use Rattle.xr_defs.specs.Arguments.{wrong, unfit, only, as_text, nothing_given}
-use Rattle.xr_defs.specs.Building.{argument, bound, is_integer_kind, kind_named, kinds_named, option, required, truth_number}
+use Rattle.xr_defs.specs.Building.{argument, bound, is_chars, kind_named, kinds_named, option, required, truth_number}
 use Rattle.xr_defs.specs.Carrying.{attr_rule, coord_rule, name_rule}
 use Rattle.xr_defs.specs.declared.carrying.Carry.{Carry}
 use Rattle.xr_defs.specs.declared.carrying.Carry.TheVariants as carry
@@ -24,7 +24,7 @@ use Rattle.xr_defs.specs.Meanings.{Given, Value}
 use Rattle.xr_defs.specs.Selecting.{check_array}
 use Rattle.xr_defs.specs.Values.{DataArray, array_of}
 use Rattle.xr_operations.specs.Alignment.{aligned, fitted}
-use Rattle.xr_operations.specs.Arithmetic.{cell_along, is_chars, is_truths}
+use Rattle.xr_operations.specs.Arithmetic.{cell_along, is_truths}
 
 -- ---- astype(kind), isnull(), notnull()
 

@@ -3,7 +3,7 @@ ghost use Rattle.std.specs.Prelude.{◌≡◌, ◌<◌, List, length, map, IfOk,
 ghost use Rattle.xr_arrays.specs.declared.node.Node.{Node};
 ghost use Rattle.xr_types.specs.Results.{Answers, all_of};
 ghost use Rattle.xr_defs.specs.Parts as of;
-ghost use Rattle.xr_defs.specs.Calls as calls;
+ghost use Rattle.xr_defs.specs.Parts as calls;
 ghost use Rattle.xr_values.specs.Answers.{AnswersArray, AnswersSet};
 ghost use Rattle.xr_values.specs.Meaning.{given, meaning, with_key};
 ghost use Rattle.xr_values.specs.Stands.{array_in, dataset_in, IsArrayIn, IsDatasetIn};
@@ -144,7 +144,7 @@ fn attrs_assigned(alloc: Global, attrs: &Items<Attr>, args: &Args) -> Result<Ite
 /// # Errors
 /// `BadArgument` for a plain argument; then `WrongKind` for a value that is neither a text nor a number; then `DoesNotFit`
 /// for a number that isn't one of 32 bits.
-#[tactic(auto, using(crate::proofs::Described::array_described), unfolding(xr_defs::specs::Calls::array_with_attrs))]
+#[tactic(auto, using(crate::proofs::Described::array_described), unfolding(xr_defs::specs::Parts::array_with_attrs))]
 pub fn array_with_attrs(alloc: Global, on: &DataArray, args: &Args) -> Result<DataArray, CallFault>
     ensures { (nodes : List Node) → IsArrayIn nodes on.now → AnswersArray nodes result (calls.array_with_attrs (given nodes args.now) (array_in nodes on.now)) }
 {
@@ -158,7 +158,7 @@ pub fn array_with_attrs(alloc: Global, on: &DataArray, args: &Args) -> Result<Da
 ///
 /// # Errors
 /// As of `array_with_attrs`.
-#[tactic(auto, using(crate::proofs::Described::set_described), unfolding(xr_defs::specs::Calls::set_with_attrs))]
+#[tactic(auto, using(crate::proofs::Described::set_described), unfolding(xr_defs::specs::Parts::set_with_attrs))]
 pub fn set_with_attrs(alloc: Global, on: &Dataset, args: &Args) -> Result<Dataset, CallFault>
     ensures { (nodes : List Node) → IsDatasetIn nodes on.now → AnswersSet nodes result (calls.set_with_attrs (given nodes args.now) (dataset_in nodes on.now)) }
 {

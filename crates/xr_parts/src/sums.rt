@@ -3,7 +3,8 @@ ghost use Rattle.std.specs.Prelude.{◌≡◌, List, [], ◌∷◌, filter, leng
 ghost use Rattle.xr_arrays.specs.declared.node.Node.{Node};
 ghost use Rattle.xr_arrays.specs.declared.node.Feed.TheVariants as feed;
 ghost use Rattle.xr_defs.specs.Values.{is_scalar};
-ghost use Rattle.xr_defs.specs.Calls as calls;
+ghost use Rattle.xr_defs.specs.Building as build;
+ghost use Rattle.xr_defs.specs.Sums as calls;
 ghost use Rattle.xr_arrays.specs.Added.{AddsAtMost};
 ghost use Rattle.xr_defs.specs.Room.{of_array, room, AddsForAny};
 ghost use Rattle.plan_core.specs.Plans.{Grows};
@@ -21,7 +22,7 @@ use xr_types::{CallFault, DType, DeepCopy, Fault, Items, NoMemory};
 use xr_values::{Args, DataArray, copy_coord};
 
 fn is_chars(kind: DType) -> bool
-    ensures { result ≡ calls.is_chars kind }
+    ensures { result ≡ build.is_chars kind }
 {
     match kind {
         DType::Char => true,
@@ -82,7 +83,7 @@ fn total(alloc: Global, plan: &mut Plan, on: &DataArray) -> Result<DataArray, No
 ///
 /// # Errors
 /// `WrongKind` for an array of chars; then `BadArgument` for any argument.
-#[tactic(auto, unfolding(xr_defs::specs::Calls::sum_called, xr_types::specs::Results::unless))]
+#[tactic(auto, unfolding(xr_defs::specs::Sums::sum_called, xr_types::specs::Results::unless))]
 pub fn sum_called(
     alloc: Global,
     plan: &mut Plan,

@@ -8,9 +8,9 @@ use Rattle.xr_syntax.specs.Syntax as tree
 use Rattle.xr_syntax.specs.Syntax.{Tree, Args, Line}
 use Rattle.xr_defs.specs.Meanings as of
 use Rattle.xr_defs.specs.Meanings.{Given}
-use Rattle.xr_defs.specs.Calls.{set_written}
-use Rattle.xr_defs.specs.Evaluation.{Names, value_of, given_of}
-use Rattle.xr_defs.specs.Runs.{State, step, with_file}
+use Rattle.xr_runs.specs.Calls.{set_written}
+use Rattle.xr_runs.specs.Evaluation.{Names, value_of, given_of}
+use Rattle.xr_runs.specs.Runs.{State, step, with_file}
 use Rattle.xr_run.specs.declared.effect.Effect.{Effect}
 use Rattle.xr_run.specs.declared.effect.Effect.TheVariants.{Bind, Print, Write}
 use Rattle.xr_run.specs.declared.stopped.Stopped.{Stopped}

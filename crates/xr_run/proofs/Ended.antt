@@ -11,7 +11,7 @@ use Rattle.xr_defs.specs.Messages.{status_line}
 use Rattle.xr_syntax.specs.Syntax.{Line}
 use Rattle.xr_syntax.specs.Tokens.{text_fault, tokens_of}
 use Rattle.xr_syntax.specs.Scripts.{IsScriptText, IsFirstFault, FirstFault}
-use Rattle.xr_defs.specs.Runs.{Ended, ended, start, run_from, Run, no_words, no_script, script, ScriptRun, not_begun, begun as run_begun, IsPutInRun, put_by}
+use Rattle.xr_runs.specs.Runs.{Ended, ended, start, run_from, Run, no_words, no_script, script, ScriptRun, not_begun, begun as run_begun, IsPutInRun, put_by}
 use Rattle.xr_run.specs.declared.stopped.Stopped.{Stopped}
 use Rattle.xr_run.specs.declared.stopped.Stopped.TheVariants as stops
 use Rattle.xr_outside.specs.Outside.{Rose}

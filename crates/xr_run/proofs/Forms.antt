@@ -14,8 +14,8 @@ use Rattle.xr_syntax.specs.Syntax.{Tree, Args, tree_of}
 use Rattle.xr_defs.specs.Meanings as of
 use Rattle.xr_defs.specs.Meanings.{Values, Entries, With, Entry, Given}
 use Rattle.xr_defs.specs.Arguments.{wrong}
-use Rattle.xr_defs.specs.Calls.{function_called, method_called, part_picked}
-use Rattle.xr_defs.specs.Evaluation.{Names, value_of, values_of, entries_of, given_of, constant_value, named}
+use Rattle.xr_runs.specs.Calls.{function_called, method_called, part_picked}
+use Rattle.xr_runs.specs.Evaluation.{Names, value_of, values_of, entries_of, given_of, constant_value, named}
 use Rattle.xr_run.specs.declared.stopped.Stopped.{Stopped}
 use Rattle.xr_run.specs.declared.stopped.Stopped.TheVariants.{Refused, Storage, NoMemory}
 use Rattle.xr_run.specs.Answers.{Gives, GivesOrFails, Tallied}

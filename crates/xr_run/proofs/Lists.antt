@@ -8,7 +8,8 @@ use Rattle.xr_defs.specs.Stores.{Files}
 use Rattle.xr_syntax.specs.Syntax as tree
 use Rattle.xr_syntax.specs.Syntax.{Tree, tree_of, arguments, trees, all_arguments, all_trees, all_entries, with_name, with_key}
 use Rattle.xr_defs.specs.Meanings.{With, Entry, NoValue, NoEntry}
-use Rattle.xr_defs.specs.Evaluation.{Names, value_of, values_of, entries_of, given_of, and_plain, and_keyed, no_arguments}
+use Rattle.xr_runs.specs.Evaluation.{Names, value_of, values_of, entries_of, given_of}
+use Rattle.xr_defs.specs.Meanings.{and_plain, and_keyed, no_arguments}
 use Rattle.xr_run.specs.Arguments.{given_rest, values_rest, entries_rest}
 
 and_ok : {A : Type 0} (r : Result A Fault) → r ≡ (r >>= λ x. Ok x)

@@ -4,7 +4,8 @@ use Rattle.xr_types.specs.declared.fault.CdfKind.TheVariants.{TooLarge}
 use Rattle.xr_types.specs.declared.fault.Fault.TheVariants.{BadFile, NoFile}
 use Rattle.xr_files.specs.Files.{file_in}
 use Rattle.xr_defs.specs.Stores.{Files}
-use Rattle.xr_defs.specs.Calls.{set_in, opened_set}
+use Rattle.xr_defs.specs.Decoding.{set_in}
+use Rattle.xr_runs.specs.Calls.{opened_set}
 use Rattle.xr_run.specs.Functions.{set_value}
 
 long_bytes : (bytes : List ℕ) (mask : Bool) → 268435456 < length bytes → set_value (set_in bytes mask) ≡ Err (BadFile TooLarge 0)

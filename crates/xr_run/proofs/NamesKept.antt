@@ -5,7 +5,7 @@ use Rattle.std.specs.Borrow.{Bor}
 use Rattle.std.specs.Str.{bytes_eq}
 use Rattle.std.specs.declared.alloc.Global.{Global}
 use Rattle.std.specs.BTreeMap.{BTreeMap, get_by_text}
-use Rattle.xr_defs.specs.Runs.{put}
+use Rattle.xr_runs.specs.Runs.{put}
 use Rattle.std.proofs.Math.Path.{fun_ext}
 use Rattle.xr_arrays.specs.declared.node.Node.{Node}
 use Rattle.plan_core.specs.Plans.{Grows}

@@ -5,7 +5,7 @@ use Rattle.xr_types.specs.declared.status.Status.TheVariants.{BadScript}
 use Rattle.xr_defs.specs.Stores.{Files}
 use Rattle.xr_syntax.specs.Syntax.{Line}
 use Rattle.xr_syntax.specs.Scripts.{IsScriptText, IsFirstFault}
-use Rattle.xr_defs.specs.Runs.{Ended, ended, start, run_from, Run, no_words, no_script, script, ScriptRun, not_begun, begun}
+use Rattle.xr_runs.specs.Runs.{Ended, ended, start, run_from, Run, no_words, no_script, script, ScriptRun, not_begun, begun}
 
 abbrev pub OneTree : Type 0
 OneTree = (bytes : List ℕ) (ls ms : List Line) → IsScriptText bytes ls → IsScriptText bytes ms → ls ≡ ms

@@ -7,8 +7,8 @@ use Rattle.std.proofs.lemmas.List.{append-nil}
 use Rattle.std.proofs.lemmas.Slice.Eq.{bytes_eq-Decides}
 use Rattle.xr_types.specs.declared.text.TextBytes.{TextBytes}
 use Rattle.xr_defs.specs.Stores.{Files}
-use Rattle.xr_defs.specs.Evaluation.{Names}
-use Rattle.xr_defs.specs.Runs.{put}
+use Rattle.xr_runs.specs.Evaluation.{Names}
+use Rattle.xr_runs.specs.Runs.{put}
 use Rattle.xr_arrays.specs.declared.node.Node.{Node}
 use Rattle.xr_values.specs.declared.value.Value.{Value}
 use Rattle.xr_values.specs.Meaning.{meaning}

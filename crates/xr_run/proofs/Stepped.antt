@@ -8,8 +8,8 @@ use Rattle.xr_syntax.specs.declared.syntax.Statement.{Statement}
 use Rattle.xr_syntax.specs.Syntax as tree
 use Rattle.xr_syntax.specs.Syntax.{Line, line_of}
 use Rattle.xr_defs.specs.Stores.{Files}
-use Rattle.xr_defs.specs.Evaluation.{Names}
-use Rattle.xr_defs.specs.Runs.{State, step, run_from, start, Ended, ended, IsPut, put_now, put_later}
+use Rattle.xr_runs.specs.Evaluation.{Names}
+use Rattle.xr_runs.specs.Runs.{State, step, run_from, start, Ended, ended, IsPut, put_now, put_later}
 use Rattle.xr_run.specs.declared.stopped.Stopped.{Stopped}
 use Rattle.xr_run.specs.declared.stopped.Stopped.TheVariants.{Refused, Storage, NoMemory}
 use Rattle.xr_run.specs.Steps.{at, StepIs, StepKeeps, PutsName, BothTallied}

@@ -7,7 +7,8 @@ use Rattle.xr_types.specs.Results.{◌>>=◌}
 use Rattle.xr_defs.specs.Stores.{Files}
 use Rattle.xr_syntax.specs.Syntax.{tree_of}
 use Rattle.xr_defs.specs.Meanings.{Value, Values, Entries, With, Entry, Given}
-use Rattle.xr_defs.specs.Evaluation.{Names, value_of, and_plain, and_keyed}
+use Rattle.xr_runs.specs.Evaluation.{Names, value_of}
+use Rattle.xr_defs.specs.Meanings.{and_plain, and_keyed}
 
 -- an argument more, by its keyword where it has one
 abbrev pub and_argument : Given → Option TextBytes → Value → Given

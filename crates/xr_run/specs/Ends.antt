@@ -5,7 +5,7 @@ use Rattle.xr_types.specs.declared.status.Status.TheVariants as statuses
 use Rattle.xr_defs.specs.Stores.{Files}
 use Rattle.xr_syntax.specs.Syntax.{Line}
 use Rattle.xr_syntax.specs.Scripts.{IsScriptText}
-use Rattle.xr_defs.specs.Runs.{Ended, Run, ScriptRun, IsPut, IsPutInRun, start}
+use Rattle.xr_runs.specs.Runs.{Ended, Run, ScriptRun, IsPut, IsPutInRun, start}
 use Rattle.xr_run.specs.declared.stopped.Stopped.{Stopped}
 use Rattle.xr_run.specs.declared.stopped.Stopped.TheVariants.{Refused, Storage, NoMemory}
 use Rattle.xr_outside.specs.Outside.{Rose}

@@ -4,7 +4,7 @@ use Rattle.xr_types.specs.declared.fault.Fault.{Fault}
 use Rattle.xr_types.specs.Results.{◌>>=◌}
 use Rattle.xr_defs.specs.Stores.{Files}
 use Rattle.xr_defs.specs.Values.{Dataset}
-use Rattle.xr_defs.specs.Calls.{open_asked, opened_set}
+use Rattle.xr_runs.specs.Calls.{open_asked, opened_set}
 use Rattle.xr_defs.specs.Meanings.{Value, Set, Given}
 
 -- a dataset as a value

@@ -3,7 +3,7 @@ use Rattle.std.specs.Prelude.{ℕ, List, option_map, IfSome, String}
 use Rattle.std.specs.BTreeMap.{BTreeMap, get_by_text}
 use Rattle.std.specs.declared.alloc.Global.{Global}
 use Rattle.xr_arrays.specs.declared.node.Node.{Node}
-use Rattle.xr_defs.specs.Evaluation.{Names}
+use Rattle.xr_runs.specs.Evaluation.{Names}
 use Rattle.xr_values.specs.declared.value.Value.{Value}
 use Rattle.xr_values.specs.Meaning.{meaning, IsValueIn}
 use Rattle.xr_run.specs.declared.names.NameMap.{NameMap}

@@ -3,8 +3,8 @@ use Rattle.std.specs.Prelude.{◌≡◌, ◌≢◌, ◌≤◌, ◌⊎◌, ℕ, B
 use Rattle.xr_defs.specs.Stores.{Files}
 use Rattle.xr_syntax.specs.Syntax as tree
 use Rattle.xr_syntax.specs.Syntax.{Line}
-use Rattle.xr_defs.specs.Evaluation.{Names}
-use Rattle.xr_defs.specs.Runs.{State, step, with_name, with_text, with_file}
+use Rattle.xr_runs.specs.Evaluation.{Names}
+use Rattle.xr_runs.specs.Runs.{State, step, with_name, with_text, with_file}
 use Rattle.xr_arrays.specs.declared.node.Node.{Node}
 use Rattle.xr_values.specs.Meaning.{meaning, IsValueIn}
 use Rattle.xr_run.specs.declared.effect.Effect.{Effect}

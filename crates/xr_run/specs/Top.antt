@@ -4,7 +4,7 @@ use Rattle.xr_types.specs.declared.status.Status.{Status}
 use Rattle.xr_types.specs.declared.status.Status.TheVariants.{Done, Refused, BadWords, NoScript, BadScript, Storage, NoMemory}
 use Rattle.xr_defs.specs.Stores.{Files}
 use Rattle.xr_defs.specs.Messages.{status_line}
-use Rattle.xr_defs.specs.Runs.{Ended, Run}
+use Rattle.xr_runs.specs.Runs.{Ended, Run}
 use Rattle.xr_outside.specs.Outside.{Rose}
 use Rattle.xr_run.specs.Ends.{IsEnd}
 

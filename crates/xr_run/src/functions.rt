@@ -1,7 +1,8 @@
 //! The functions of scripts: those over values, and the one that takes a file from the store.
 ghost use Rattle.std.specs.Prelude.{◌≡◌, IsTrue, IfOk};
 ghost use denote.Param.Send.{IsSync};
-ghost use Rattle.xr_defs.specs.Calls.{opened_set, set_in, function_called, function_over_values};
+ghost use Rattle.xr_runs.specs.Calls.{opened_set, function_called, function_over_values};
+ghost use Rattle.xr_defs.specs.Decoding.{set_in};
 ghost use Rattle.plan_core.specs.Plans.{Grows};
 ghost use Rattle.xr_values.specs.Meaning.{meaning, given, IsValueIn, AreArgsIn};
 ghost use Rattle.xr_run.specs.Answers.{Gives, GivesOrFails, Tallied};
@@ -40,7 +41,7 @@ fn opened_value(
 }
 
 // The dataset of the file of a name. The whole file is taken.
-#[tactic(auto, using(plan_core::proofs::Plans::grows_by_none), unfolding(xr_defs::specs::Calls::opened_set))]
+#[tactic(auto, using(plan_core::proofs::Plans::grows_by_none), unfolding(xr_runs::specs::Calls::opened_set))]
 fn open_file<S: Store>(
     alloc: Global,
     name: &TextBytes,
@@ -110,7 +111,7 @@ fn value_function<R: Threads + Sync>(
 }
 
 /// Calls a function by its name.
-#[tactic(auto, unfolding(xr_defs::specs::Calls::function_called, xr_defs::specs::Calls::open_dataset))]
+#[tactic(auto, unfolding(xr_runs::specs::Calls::function_called, xr_runs::specs::Calls::open_dataset))]
 pub(crate) fn call_function<R: Threads + Sync, S: Store>(
     rt: &R,
     alloc: Global,

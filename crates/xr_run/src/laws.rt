@@ -1,7 +1,7 @@
 //! That a run has one end.
 ghost use Rattle.std.specs.Prelude.{◌≡◌, ℕ, List, Option};
 ghost use Rattle.xr_defs.specs.Stores.{Files};
-ghost use Rattle.xr_defs.specs.Runs.{Ended, Run};
+ghost use Rattle.xr_runs.specs.Runs.{Ended, Run};
 
 use xr_grammar::one_answer_fits;
 

@@ -1,7 +1,7 @@
 //! The values of names.
 ghost use Rattle.std.specs.Prelude.{◌≡◌, List, None, option_map, IfSome, OnOk, OnErr};
 ghost use Rattle.xr_arrays.specs.declared.node.Node.{Node};
-ghost use Rattle.xr_defs.specs.Runs.{put};
+ghost use Rattle.xr_runs.specs.Runs.{put};
 ghost use Rattle.xr_values.specs.Meaning.{meaning, IsValueIn};
 ghost use Rattle.xr_run.specs.Named.{names_of, AreNamesIn};
 

@@ -2,7 +2,7 @@
 ghost use Rattle.std.specs.Prelude.{◌≡◌, ◌∷◌, [], ◌++◌, IfOk};
 ghost use Rattle.std.specs.Fmt.{signed_decimal};
 ghost use denote.Param.Send.{IsSync};
-ghost use Rattle.xr_defs.specs.Calls.{text_printed, truth_line as truth_line_of};
+ghost use Rattle.xr_runs.specs.Calls.{text_printed, truth_line as truth_line_of};
 ghost use Rattle.xr_values.specs.Meaning.{meaning, IsValueIn};
 ghost use Rattle.xr_values.specs.Stands.{array_in, IsArrayIn};
 ghost use Rattle.xr_defs.specs.Printing.{array_text as array_text_of};
@@ -64,7 +64,7 @@ fn truth_line(alloc: Global, truth: bool) -> Result<Vec<u8>, AllocError>
 
 /// The bytes that `print` prints of a value: an array or a dataset in its printed form; a number, a text as it is, `True` or
 /// `False` on a line. Another value is of a wrong kind.
-#[tactic(auto, using(xr_arguments::proofs::Variants::is_truth, xr_arguments::proofs::Variants::is_number, xr_arguments::proofs::Variants::is_text, xr_arguments::proofs::Variants::is_array, xr_values::proofs::Meaning::meaning_out), unfolding(xr_defs::specs::Calls::text_printed))]
+#[tactic(auto, using(xr_arguments::proofs::Variants::is_truth, xr_arguments::proofs::Variants::is_number, xr_arguments::proofs::Variants::is_text, xr_arguments::proofs::Variants::is_array, xr_values::proofs::Meaning::meaning_out), unfolding(xr_runs::specs::Calls::text_printed))]
 pub(crate) fn printed<R: Threads + Sync>(
     rt: &R,
     alloc: Global,

@@ -2,7 +2,7 @@
 ghost use Rattle.std.specs.Prelude.{◌≡◌, map, IsTrue};
 ghost use denote.Param.Send.{IsSync};
 ghost use Rattle.xr_syntax.specs.Syntax.{line_of};
-ghost use Rattle.xr_defs.specs.Runs.{run_from, start};
+ghost use Rattle.xr_runs.specs.Runs.{run_from, start};
 ghost use Rattle.xr_run.specs.Ends.{Ends, StatementsKeep, StatusTallied, Untouched, status_of};
 
 use crate::names::NameMap;

@@ -23,7 +23,7 @@ use xr_types::{DeepCopy, Fault, TextBytes};
 use xr_values::Cx;
 
 // `name = expr`
-#[tactic(auto, unfolding(xr_defs::specs::Runs::step))]
+#[tactic(auto, unfolding(xr_runs::specs::Runs::step))]
 fn assign<R: Threads + Sync, S: Store>(
     rt: &R,
     alloc: Global,
@@ -50,7 +50,7 @@ fn assign<R: Threads + Sync, S: Store>(
 }
 
 // `a, b = align(..)`. Nothing aligns so far.
-#[tactic(auto, unfolding(xr_defs::specs::Runs::step))]
+#[tactic(auto, unfolding(xr_runs::specs::Runs::step))]
 fn align<R: Threads + Sync, S: Store>(
     rt: &R,
     alloc: Global,
@@ -81,7 +81,7 @@ fn align<R: Threads + Sync, S: Store>(
 }
 
 // `name["v"] = expr`. No variable is set in a dataset so far.
-#[tactic(auto, unfolding(xr_defs::specs::Runs::step))]
+#[tactic(auto, unfolding(xr_runs::specs::Runs::step))]
 fn place<R: Threads + Sync, S: Store>(
     rt: &R,
     alloc: Global,
@@ -116,7 +116,7 @@ fn place<R: Threads + Sync, S: Store>(
 }
 
 // `print(expr)`
-#[tactic(auto, unfolding(xr_defs::specs::Runs::step))]
+#[tactic(auto, unfolding(xr_runs::specs::Runs::step))]
 fn print<R: Threads + Sync, S: Store>(
     rt: &R,
     alloc: Global,
@@ -145,7 +145,7 @@ fn print<R: Threads + Sync, S: Store>(
 }
 
 // `receiver.to_netcdf(..)`
-#[tactic(auto, unfolding(xr_defs::specs::Runs::step))]
+#[tactic(auto, unfolding(xr_runs::specs::Runs::step))]
 fn write<R: Threads + Sync, S: Store>(
     rt: &R,
     alloc: Global,

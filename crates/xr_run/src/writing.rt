@@ -1,7 +1,7 @@
 //! The file that a statement puts.
 ghost use Rattle.std.specs.Prelude.{◌≡◌, true, IfOk};
 ghost use denote.Param.Send.{IsSync};
-ghost use Rattle.xr_defs.specs.Calls.{set_written};
+ghost use Rattle.xr_runs.specs.Calls.{set_written};
 ghost use Rattle.xr_files.specs.Canonical.{IsFile};
 ghost use Rattle.xr_defs.specs.Encoding.{file_of};
 ghost use Rattle.xr_files.specs.Files.{is_version};
@@ -44,7 +44,7 @@ fn encoded<R: Threads + Sync>(
 }
 
 /// The name of the file that `to_netcdf` puts, and its bytes in pieces, once all checks are passed.
-#[tactic(auto, unfolding(xr_defs::specs::Calls::set_written))]
+#[tactic(auto, unfolding(xr_runs::specs::Calls::set_written))]
 pub(crate) fn written<R: Threads + Sync>(
     rt: &R,
     alloc: Global,

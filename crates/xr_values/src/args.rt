@@ -1,7 +1,7 @@
 //! What a call is given.
 ghost use Rattle.std.specs.Prelude.{◌≡◌, List, OnOk, OnErr};
 ghost use Rattle.xr_arrays.specs.declared.node.Node.{Node};
-ghost use Rattle.xr_defs.specs.Evaluation.{no_arguments, and_plain, and_keyed};
+ghost use Rattle.xr_defs.specs.Meanings.{no_arguments, and_plain, and_keyed};
 ghost use Rattle.xr_values.specs.Meaning.{meaning, given, IsValueIn, AreArgsIn};
 
 use crate::value::Value;

@@ -1,5 +1,5 @@
 use Rattle.std.proofs.Common.{rules}
-use Rattle.xr_defs.specs.Calls.{open_asked}
+use Rattle.xr_runs.specs.Calls.{open_asked}
 use Rattle.dataset_core.proofs.open.open_request.Goals as goal
 
 pub returns-in_err-required : goal.returns-in_err-required

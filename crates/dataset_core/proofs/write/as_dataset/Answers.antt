@@ -1,6 +1,6 @@
 use Rattle.std.specs.Borrow.{Bor}
 use Rattle.xr_types.specs.declared.text.TextBytes.{TextBytes}
-use Rattle.xr_defs.specs.Calls.{as_dataset}
+use Rattle.xr_runs.specs.Calls.{as_dataset}
 use Rattle.xr_defs.specs.Parts.{own_name, as_set}
 use Rattle.xr_values.specs.Meaning.{meaning}
 use Rattle.xr_values.specs.Stands.{array_in}

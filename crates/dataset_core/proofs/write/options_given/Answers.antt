@@ -1,5 +1,5 @@
 use Rattle.std.proofs.Common.{rules}
-use Rattle.xr_defs.specs.Calls.{options_given}
+use Rattle.xr_runs.specs.Calls.{options_given}
 use Rattle.dataset_core.proofs.write.options_given.Goals as goal
 
 pub returns-in_err-version-clause-told : goal.returns-in_err-version-clause-told

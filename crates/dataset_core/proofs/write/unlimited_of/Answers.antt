@@ -1,5 +1,5 @@
 use Rattle.std.proofs.Common.{subst}
-use Rattle.xr_defs.specs.Calls as calls
+use Rattle.xr_runs.specs.Calls as calls
 use Rattle.xr_types.specs.Results.{Answers}
 use Rattle.dataset_core.proofs.write.unlimited_of.Goals as goal
 

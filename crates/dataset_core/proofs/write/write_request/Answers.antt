@@ -1,5 +1,5 @@
 use Rattle.std.proofs.Common.{rules}
-use Rattle.xr_defs.specs.Calls.{write_asked}
+use Rattle.xr_runs.specs.Calls.{write_asked}
 use Rattle.xr_types.specs.Results.{unless}
 use Rattle.dataset_core.proofs.write.write_request.Goals as goal
 

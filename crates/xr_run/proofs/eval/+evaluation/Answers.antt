@@ -9,7 +9,7 @@ use Rattle.xr_types.specs.declared.text.TextBytes.{TextBytes}
 use Rattle.xr_arrays.specs.declared.node.Node.{Node}
 use Rattle.xr_defs.specs.Meanings.{Values, Entries, With, Entry}
 use Rattle.xr_syntax.specs.Syntax.{tree_of, all_arguments, all_trees, all_entries}
-use Rattle.xr_defs.specs.Evaluation.{value_of, given_of, values_of, entries_of}
+use Rattle.xr_runs.specs.Evaluation.{value_of, given_of, values_of, entries_of}
 use Rattle.plan_core.proofs.Plans.{grows_by_none, grows_on}
 use Rattle.xr_values.specs.declared.value.Value.{Value}
 use Rattle.xr_values.proofs.Meaning.{no_values, no_entries, meaning_kept, stays_value, given_kept, stay_args, stay_values}

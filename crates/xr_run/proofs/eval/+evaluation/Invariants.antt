@@ -1,7 +1,7 @@
 use Rattle.std.proofs.Common.{◌≡◌, drop, All}
 use Rattle.std.specs.Prelude.{IsTrue}
 use Rattle.xr_syntax.specs.Syntax.{all_arguments, all_trees, all_entries}
-use Rattle.xr_defs.specs.Evaluation.{given_of, values_of, entries_of}
+use Rattle.xr_runs.specs.Evaluation.{given_of, values_of, entries_of}
 use Rattle.plan_core.specs.Plans.{Grows}
 use Rattle.xr_values.specs.Meaning.{given, IsValueIn, IsEntryIn, AreArgsIn}
 use Rattle.xr_values.specs.Meaning.{all_values as values_meant}

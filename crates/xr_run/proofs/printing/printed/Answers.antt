@@ -1,5 +1,5 @@
 use Rattle.std.proofs.Common.{All, Ok, ap, sym, subst, ◌∙◌}
-use Rattle.xr_defs.specs.Calls.{text_printed}
+use Rattle.xr_runs.specs.Calls.{text_printed}
 use Rattle.xr_defs.specs.Printing.{set_text}
 use Rattle.xr_arguments.proofs.Variants.{is_set}
 use Rattle.xr_arguments.proofs.Inside.{inside_array, inside_set}

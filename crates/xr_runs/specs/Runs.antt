@@ -12,8 +12,8 @@ use Rattle.xr_syntax.specs.Syntax.{Line, Tree}
 use Rattle.xr_syntax.specs.Scripts.{IsScriptText, IsFirstFault}
 use Rattle.xr_defs.specs.Stores.{Files}
 use Rattle.xr_defs.specs.Meanings.{Value}
-use Rattle.xr_defs.specs.Calls.{text_printed, set_written}
-use Rattle.xr_defs.specs.Evaluation.{Names, named, value_of, given_of}
+use Rattle.xr_runs.specs.Calls.{text_printed, set_written}
+use Rattle.xr_runs.specs.Evaluation.{Names, named, value_of, given_of}
 
 -- a run so far: what its names stand for, the files, and the text printed. A name stands for a value and not for a
 -- file, so a later write doesn't change it.

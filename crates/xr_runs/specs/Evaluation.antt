@@ -1,6 +1,6 @@
 -- The value of an expression: its parts from left to right, a receiver before its arguments, and then the call itself;
 -- the first fault is the answer.
-use Rattle.std.specs.Prelude.{ℕ, true, false, List, [], ◌∷◌, ◌++◌, Option, Some, None, Result, Ok, Err}
+use Rattle.std.specs.Prelude.{ℕ, true, false, List, Option, Some, None, Result, Ok, Err}
 use Rattle.xr_types.specs.declared.fault.Fault.{Fault}
 use Rattle.xr_types.specs.declared.fault.Fault.TheVariants.{UnknownName}
 use Rattle.xr_syntax.specs.declared.syntax.Constant.{Constant}
@@ -9,9 +9,9 @@ use Rattle.xr_types.specs.Results.{◌>>=◌}
 use Rattle.xr_defs.specs.Stores.{Files}
 use Rattle.xr_syntax.specs.Syntax as tree
 use Rattle.xr_syntax.specs.Syntax.{Tree, Trees, Args}
-use Rattle.xr_defs.specs.Meanings.{Value, Values, Entries, Absent, Missing, Truth, Number, Text, Sequence, Table, NoValue, With, NoEntry, Entry, Given}
+use Rattle.xr_defs.specs.Meanings.{Value, Values, Entries, Absent, Missing, Truth, Number, Text, Sequence, Table, NoValue, With, NoEntry, Entry, Given, no_arguments, and_plain, and_keyed}
 use Rattle.xr_defs.specs.Arguments.{wrong}
-use Rattle.xr_defs.specs.Calls.{function_called, method_called, part_picked}
+use Rattle.xr_runs.specs.Calls.{function_called, method_called, part_picked}
 
 -- the value that each name stands for
 abbrev pub Names : Type 0
@@ -25,15 +25,6 @@ constant_value constant.True = Truth true
 constant_value constant.False = Truth false
 constant_value constant.None = Absent
 constant_value constant.Na = Missing
-
-abbrev pub no_arguments : Given
-no_arguments = record { plain = []; keyed = [] }
-
-abbrev pub and_plain : Given → Value → Given
-and_plain g v = record g { plain = g.plain ++ v ∷ [] }
-
-abbrev pub and_keyed : Given → List ℕ → Value → Given
-and_keyed g name v = record g { keyed = g.keyed ++ (name, v) ∷ [] }
 
 -- no operator takes these values so far
 unfoldable mutual

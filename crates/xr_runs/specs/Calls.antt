@@ -1,27 +1,25 @@
 -- The functions and methods of scripts. Every call is checked in one order: it exists, its receiver is of a kind that has it, its arguments fit its signature, each argument has its
 -- kind and then its value, the dimensions that it names exist, and then come its own checks.
-use Rattle.std.specs.Prelude.{ℕ, ℤ, Bool, true, false, not, List, [], ◌∷◌, ◌++◌, Option, Some, None, Result, Ok, Err, if◌then◌else◌, codes}
+use Rattle.std.specs.Prelude.{ℕ, ℤ, Bool, true, false, List, [], ◌∷◌, ◌++◌, Option, Some, None, Result, Ok, Err, if◌then◌else◌, codes}
 use Rattle.std.specs.Str.{bytes_eq}
 use Rattle.std.specs.Fmt.{signed_decimal}
 use Rattle.xr_types.specs.declared.fault.Fault.{Fault}
-use Rattle.xr_types.specs.declared.fault.Fault.TheVariants.{UnknownName, WrongKind, WouldPromote, NoFile, BadFile}
-use Rattle.xr_types.specs.declared.kind.DType.{DType}
-use Rattle.xr_types.specs.declared.kind.DType.TheVariants as kinds
+use Rattle.xr_types.specs.declared.fault.Fault.TheVariants.{UnknownName, WrongKind, WouldPromote, NoFile}
 use Rattle.xr_defs.specs.declared.write_options.WriteOptions.{WriteOptions}
 use Rattle.xr_types.specs.Results.{◌>>=◌, unless}
 use Rattle.xr_types.specs.Names.{among}
-use Rattle.xr_files.specs.Files.{file_in}
 use Rattle.xr_files.specs.Canonical.{canonical}
 use Rattle.xr_defs.specs.Stores.{Files}
-use Rattle.xr_defs.specs.Values.{DataArray, Dataset, total}
-use Rattle.xr_defs.specs.Decoding.{set_of}
+use Rattle.xr_defs.specs.Values.{DataArray, Dataset}
+use Rattle.xr_defs.specs.Decoding.{set_in}
 use Rattle.xr_defs.specs.Encoding.{file_of}
 use Rattle.xr_defs.specs.Printing.{array_text, set_text}
 use Rattle.xr_defs.specs.Selecting.{isel_array, isel_set}
-use Rattle.xr_defs.specs.Parts.{picked_of_set, picked_of_array, renamed, to_dataset, own_name, as_set, attrs_assigned, transposed, dropped_of_array, dropped_of_set}
+use Rattle.xr_defs.specs.Parts.{picked_of_set, picked_of_array, renamed, to_dataset, own_name, as_set, array_with_attrs, set_with_attrs, transposed, dropped_of_array, dropped_of_set}
+use Rattle.xr_defs.specs.Sums.{sum_called}
 use Rattle.xr_defs.specs.Building.{bound, argument, option, required, data_array, assigned_to_array, assigned_to_set}
 use Rattle.xr_defs.specs.Meanings.{Value, Truth, Number, Text, Array, Set, Given}
-use Rattle.xr_defs.specs.Arguments.{wrong, unfit, as_text, slice_given, nothing_given}
+use Rattle.xr_defs.specs.Arguments.{wrong, unfit, as_text, slice_given}
 
 -- ---- functions
 
@@ -30,9 +28,6 @@ unfoldable pub mask_given : Option Value → Result Bool Fault
 mask_given None = Ok false
 mask_given (Some (Truth b)) = Ok b
 mask_given (Some v) = wrong
-
-unfoldable pub set_in : List ℕ → Bool → Result Dataset Fault
-set_in bytes mask = elim (file_in bytes) [ Err x ↦ Err (BadFile x.0 x.1) | Ok f ↦ set_of f mask ]
 
 unfoldable pub opened_set : Files → List ℕ → Bool → Result Dataset Fault
 opened_set files name mask = elim (files name) [ None ↦ Err (NoFile name) | Some bytes ↦ set_in bytes mask ]
@@ -76,20 +71,6 @@ unfoldable pub of_both : (DataArray → Result DataArray Fault) → (Dataset →
 of_both array_call set_call (Array a) = array_call a >>= λ b. Ok (Array b)
 of_both array_call set_call (Set s) = set_call s >>= λ t. Ok (Set t)
 of_both array_call set_call v = wrong
-
-abbrev pub is_chars : DType → Bool
-is_chars kinds.Char = true
-is_chars kind = false
-
--- chars have no sum
-unfoldable pub sum_called : Given → DataArray → Result Value Fault
-sum_called g a = unless (not (is_chars a.kind)) WrongKind >>= λ u. nothing_given g >>= λ v. Ok (Array (total a))
-
-unfoldable pub array_with_attrs : Given → DataArray → Result DataArray Fault
-array_with_attrs g a = attrs_assigned a.attrs g >>= λ attrs. Ok (record a { attrs = attrs })
-
-unfoldable pub set_with_attrs : Given → Dataset → Result Dataset Fault
-set_with_attrs g s = attrs_assigned s.attrs g >>= λ attrs. Ok (record s { attrs = attrs })
 
 abbrev pub is_labelled_data : Value → Bool
 is_labelled_data (Array a) = true

@@ -1,0 +1,3 @@
+pub mod Evaluation
+pub mod Runs
+pub mod Calls
