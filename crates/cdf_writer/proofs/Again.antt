@@ -1,14 +1,13 @@
 -- The canonical bytes of a file spell it.
-use Rattle.std.proofs.Common.{◌≡◌, ℕ, ◌+◌, ◌*◌, ◌<◌, true, false, cond, eqb, leb, ◌&&◌, List, [], ◌∷◌, ◌++◌, length, map, refl, subst, sym, ap, ◌∙◌, arith}
-use Rattle.std.proofs.lemmas.Bool.{and_parts, leb-true, ne_eqb}
+use Rattle.std.proofs.Common.{◌≡◌, ℕ, ◌+◌, ◌*◌, ◌<◌, true, leb, ◌&&◌, List, [], ◌∷◌, ◌++◌, length, map, refl, subst, sym, ap, ◌∙◌, arith}
+use Rattle.std.proofs.lemmas.Bool.{and_parts, leb-true}
 use Rattle.std.proofs.lemmas.List.{append-nil}
 use Rattle.std.specs.List.{AllByRecursion, flat_map, list_all, range_with_len}
 use Rattle.xr_files.specs.declared.file.CdfVar.{CdfVar}
 use Rattle.xr_files.specs.declared.file.CdfFile.{CdfFile}
-use Rattle.xr_files.specs.Files.{Spells, is_inside, least, most_bytes, records_in, records_of, streaming, var_of}
-use Rattle.xr_files.specs.Files.{record_vars as head_record_vars}
+use Rattle.xr_files.specs.Files.{Spells, is_inside, most_bytes, var_of}
 use Rattle.xr_files.specs.Canonical.{IsFile, can_hold, canonical, canonical_size, fixed_size, fixed_vars, header_size, header_text, is_small, placed, record_text, record_vars, recsize, values_text, with_filling}
-use Rattle.cdf_writer.proofs.Heads.{behind_magic, head_of, header_of, header_spelled, heads}
+use Rattle.cdf_writer.proofs.Heads.{behind_magic, head_of, header_of, header_spelled}
 use Rattle.cdf_writer.proofs.Held.{IsHeld, held}
 use Rattle.cdf_writer.proofs.Places.{placed_vars}
 use Rattle.cdf_writer.proofs.Reread.{There, all_there}
@@ -40,11 +39,6 @@ record_stands f all r lt =
 
 -- ---- the file that they are read as
 
-count_is : (f : CdfFile) (bytes : ℕ) → IsFile f → records_of (header_of f) bytes ≡ f.numrecs
-count_is f bytes file =
-    let counted : eqb f.numrecs streaming ≡ false = ne_eqb f.numrecs streaming (λ e. omega (arith, file.numrecs, e)) in
-    ap (λ b. cond b (least (map (records_in (header_of f) bytes) (head_record_vars f.dims (heads f)))) f.numrecs) counted
-
 vars_same : (f : CdfFile) (bytes : List ℕ) (ps : List (CdfVar × ℕ)) → AllByRecursion (There bytes f) ps → map (var_of bytes (header_of f) f.numrecs) (map head_of ps) ≡ map (λ x. x.0) ps
 vars_same f bytes [] all = refl
 vars_same f bytes (x ∷ xs) all = ap (λ v. v ∷ map (var_of bytes (header_of f) f.numrecs) (map head_of xs)) all.0.same ∙ ap (λ l. x.0 ∷ l) (vars_same f bytes xs all.1)
@@ -53,8 +47,8 @@ vars_inside : (f : CdfFile) (bytes : List ℕ) (ps : List (CdfVar × ℕ)) → A
 vars_inside f bytes [] all = refl
 vars_inside f bytes (x ∷ xs) all = ap (λ b. b && list_all (is_inside (header_of f) f.numrecs (length bytes)) (map head_of xs)) all.0.inside ∙ vars_inside f bytes xs all.1
 
-file_with : CdfFile → ℕ → List CdfVar → CdfFile
-file_with f n vs = record { version = f.version; numrecs = n; dims = f.dims; attrs = f.attrs; vars = vs }
+file_with : CdfFile → List CdfVar → CdfFile
+file_with f vs = record { version = f.version; numrecs = f.numrecs; dims = f.dims; attrs = f.attrs; vars = vs }
 
 pub spelled : (f : CdfFile) → IsFile f → can_hold f ≡ true → is_small f ≡ true → Spells (canonical f) f
 unfolding canonical file_with
@@ -63,7 +57,6 @@ spelled f file can small =
     let all = held f file can in
     let there = all_there f bytes f.vars (header_size f) (header_size f + fixed_size f) all (fixed_stand f) (record_stands f all) in
     let vars = vars_same f bytes (placed f) there ∙ placed_vars f f.vars (header_size f) (header_size f + fixed_size f) in
-    let count = count_is f (length bytes) file in
     let size = leb-true (canonical_size f) most_bytes (and_parts (leb (canonical_size f) most_bytes) (leb (recsize f) most_bytes) small).0 in
     record {
       short = omega (arith, canonical_length f file can, size);
@@ -73,6 +66,6 @@ spelled f file can small =
       rest = values_text f;
       parts = refl;
       spelled = header_spelled f file can small;
-      inside = ap (λ n. list_all (is_inside (header_of f) n (length bytes)) (heads f)) count ∙ vars_inside f bytes (placed f) there;
-      file = sym (ap (λ n. file_with f n (map (var_of bytes (header_of f) n) (heads f))) count ∙ ap (file_with f f.numrecs) vars);
+      inside = vars_inside f bytes (placed f) there;
+      file = sym (ap (file_with f) vars);
     }

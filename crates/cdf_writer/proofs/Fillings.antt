@@ -7,7 +7,7 @@ use Rattle.std.specs.Str.{bytes_eq}
 use Rattle.std.specs.Prelude.{codes}
 use Rattle.xr_types.specs.declared.attr.Attr.{Attr}
 use Rattle.xr_types.specs.declared.attr.NcType.{NcType}
-use Rattle.xr_types.specs.declared.attr.NcType.TheVariants.{Byte, Char, Short, Int, Float, Double}
+use Rattle.xr_types.specs.declared.attr.NcType.TheVariants.{Byte, Char, Short, Int, Float, Double, UByte, UShort, UInt, Int64, UInt64}
 use Rattle.xr_files.specs.declared.file.CdfVar.{CdfVar}
 use Rattle.xr_files.specs.declared.file.CdfFile.{CdfFile}
 use Rattle.xr_types.specs.Points.{size}
@@ -28,6 +28,11 @@ wide Short fill e = λ k. omega arith
 wide Int fill e = λ k. omega arith
 wide Float fill e = λ k. omega arith
 wide Double fill e = λ k. omega arith
+wide UByte fill e = λ k. omega arith
+wide UShort fill e = λ k. omega arith
+wide UInt fill e = λ k. omega arith
+wide Int64 fill e = λ k. omega arith
+wide UInt64 fill e = λ k. omega arith
 
 default_enough : (kind : NcType) → enough kind (default_fill kind)
 unfolding enough
@@ -37,6 +42,11 @@ default_enough Short = λ k. omega arith
 default_enough Int = λ k. omega arith
 default_enough Float = λ k. omega arith
 default_enough Double = λ k. omega arith
+default_enough UByte = λ k. omega arith
+default_enough UShort = λ k. omega arith
+default_enough UInt = λ k. omega arith
+default_enough Int64 = λ k. omega arith
+default_enough UInt64 = λ k. omega arith
 
 found_enough : (kind : NcType) (attrs : List Attr) → enough kind (elim (find (is_own_fill kind) attrs) [ None ↦ default_fill kind | Some a ↦ a.raw ])
 found_enough kind [] = default_enough kind

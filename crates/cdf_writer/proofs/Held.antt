@@ -1,5 +1,5 @@
 -- Variables of a file that its version can hold: their values are so many bytes a record.
-use Rattle.std.proofs.Common.{◌≡◌, ℕ, ◌*◌, ◌<◌, Bool, true, false, not, cond, List, [], ◌∷◌, length, get_or, refl, subst, sym, ap, ◌∙◌}
+use Rattle.std.proofs.Common.{◌≡◌, ℕ, ◌*◌, ◌<◌, Bool, true, false, not, cond, leb, ◌&&◌, List, [], ◌∷◌, length, get_or, refl, subst, sym, ap, ◌∙◌}
 use Rattle.std.proofs.lemmas.Bool.{and_parts}
 use Rattle.std.proofs.Math.Nat.{mul_assoc, one-mul}
 use Rattle.std.specs.List.{AllByRecursion, list_all}
@@ -8,23 +8,34 @@ use Rattle.xr_files.specs.declared.file.CdfVar.{CdfVar}
 use Rattle.xr_files.specs.declared.file.CdfFile.{CdfFile}
 use Rattle.xr_types.specs.Points.{size}
 use Rattle.xr_types.specs.Widths.{width}
-use Rattle.xr_files.specs.Classic.{dim_at, is_record_dim}
+use Rattle.xr_files.specs.Classic.{dim_at, has_type, is_record_dim}
 use Rattle.xr_files.specs.Files.{positions, shape_of, is_record_var}
 use Rattle.cdf_writer.proofs.Each.{each_at}
-use Rattle.xr_files.specs.Canonical.{IsFile, IsVar, can_hold, in_place, is_record, slab}
+use Rattle.xr_files.specs.Canonical.{IsFile, IsVar, can_hold, can_hold_var, count_record_dims, has_types, in_place, is_record, slab}
 
 pub record IsHeld (f : CdfFile) (v : CdfVar) : Type 0 where
   pub var : IsVar f v
+  pub kind : has_type f.version v.kind ≡ true
+  pub types : has_types f.version v.attrs ≡ true
   pub place : in_place f.dims v.dims ≡ true
 
-pub all_held : (f : CdfFile) (vs : List CdfVar) → AllByRecursion (IsVar f) vs → list_all (λ (v : CdfVar). in_place f.dims v.dims) vs ≡ true → AllByRecursion (IsHeld f) vs
+pub all_held : (f : CdfFile) (vs : List CdfVar) → AllByRecursion (IsVar f) vs → list_all (can_hold_var f) vs ≡ true → AllByRecursion (IsHeld f) vs
 all_held f [] vars places = tt
 all_held f (v ∷ vs) vars places =
-    let both = and_parts (in_place f.dims v.dims) (list_all (λ (w : CdfVar). in_place f.dims w.dims) vs) places in
-    (record { var = vars.0; place = both.0 }, all_held f vs vars.1 both.1)
+    let both = and_parts (can_hold_var f v) (list_all (can_hold_var f) vs) places in
+    let own = and_parts (has_type f.version v.kind && has_types f.version v.attrs) (in_place f.dims v.dims) both.0 in
+    let types = and_parts (has_type f.version v.kind) (has_types f.version v.attrs) own.0 in
+    (record { var = vars.0; kind = types.0; types = types.1; place = own.1 }, all_held f vs vars.1 both.1)
+
+-- what a version must have to hold a file
+pub parts_held : (f : CdfFile) → can_hold f ≡ true → (leb (count_record_dims f.dims) 1 ≡ true) × (has_types f.version f.attrs ≡ true) × (list_all (can_hold_var f) f.vars ≡ true)
+parts_held f can =
+    let own = and_parts (leb (count_record_dims f.dims) 1 && has_types f.version f.attrs) (list_all (can_hold_var f) f.vars) can in
+    let few = and_parts (leb (count_record_dims f.dims) 1) (has_types f.version f.attrs) own.0 in
+    (few.0, few.1, own.1)
 
 pub held : (f : CdfFile) → IsFile f → can_hold f ≡ true → AllByRecursion (IsHeld f) f.vars
-held f file can = all_held f f.vars file.vars (and_parts _ (list_all (λ (v : CdfVar). in_place f.dims v.dims) f.vars) can).1
+held f file can = all_held f f.vars file.vars (parts_held f can).2
 
 pub held_at : (f : CdfFile) (i : ℕ) (v : CdfVar) → IsFile f → can_hold f ≡ true → i < length f.vars → v ≡ get_or f.vars i v → IsHeld f v
 held_at f i v file can lt is = subst (IsHeld f) (sym is) (each_at (IsHeld f) f.vars i v (held f file can) lt)

@@ -1,7 +1,7 @@
 -- How many bytes the parts of a header take.
 use Rattle.std.proofs.Common.{◌≡◌, ℕ, ◌+◌, ◌*◌, ◌<◌, suc, true, false, cond, eqb, List, [], ◌∷◌, ◌++◌, length, take, get_or, refl, sym, ap, ◌∙◌, append_assoc, arith}
 use Rattle.std.proofs.lemmas.Bool.{ne_eqb}
-use Rattle.std.proofs.lemmas.List.{flat_map_more, length-append, length-replicate, take_more}
+use Rattle.std.proofs.lemmas.List.{append-nil, flat_map_more, length-append, length-replicate, take_more}
 use Rattle.std.proofs.lemmas.List.Concat.{length-flat_map}
 use Rattle.std.proofs.lemmas.List.Sums.{sum_by_more}
 use Rattle.std.specs.List.{flat_map}
@@ -10,22 +10,30 @@ use Rattle.xr_files.specs.declared.file.CdfDim.{CdfDim}
 use Rattle.xr_files.specs.declared.file.CdfVar.{CdfVar}
 use Rattle.xr_files.specs.Classic.{padding, place_width}
 use Rattle.xr_files.specs.Files.{padded}
-use Rattle.xr_files.specs.Canonical.{name_text, attr_text, var_text, list_text, number_text, zeros}
-use Rattle.cdf_writer.specs.Sizes.{list_front, place_bytes}
+use Rattle.xr_files.specs.Canonical.{name_text, attr_text, count_text, var_text, list_text, number_text, zeros}
+use Rattle.cdf_writer.specs.Sizes.{count_bytes, list_front, place_bytes}
 
-pub name_length : (t : List ℕ) → length (name_text t) ≡ 4 + padded (length t)
-name_length t = omega (arith, length-append t (zeros (padding (length t))), length-replicate {A = ℕ} (padding (length t)) 0)
+pub count_length : (version n : ℕ) → length (count_text version n) ≡ count_bytes version
+count_length version n = elim (eqb version 5) as (λ b. length (to_be_bytes (cond b w64 w32) n) ≡ cond b 8 4) [ true ↦ refl | false ↦ refl ]
+
+pub name_length : (version : ℕ) (t : List ℕ) → length (name_text version t) ≡ count_bytes version + padded (length t)
+name_length version t =
+    let text = t ++ zeros (padding (length t)) in
+    length-append (count_text version (length t)) text ∙ omega (arith, count_length version (length t), length-append t (zeros (padding (length t))), length-replicate {A = ℕ} (padding (length t)) 0)
 
 -- an empty list takes as many bytes as the tag and the count of another
-pub list_length : {A : Type 0} (tag : ℕ) (entry : A → List ℕ) (xs : List A) → length (list_text tag entry xs) ≡ 8 + length (flat_map entry xs)
-list_length tag entry [] = refl
-list_length tag entry (x ∷ xs) = omega arith
+pub list_length : {A : Type 0} (version tag : ℕ) (entry : A → List ℕ) (xs : List A) → length (list_text version tag entry xs) ≡ 4 + count_bytes version + length (flat_map entry xs)
+list_length version tag entry [] = omega (arith, count_length version 0)
+list_length version tag entry (x ∷ xs) =
+    let n = length (x ∷ xs) in
+    omega (arith, length-append (count_text version n) (flat_map entry (x ∷ xs)), count_length version n)
 
-pub list_is : {A : Type 0} (tag : ℕ) (entry : A → List ℕ) (xs : List A) → list_text tag entry xs ≡ list_front tag (length xs) ++ flat_map entry xs
-list_is tag entry [] = refl
-list_is tag entry (x ∷ xs) =
+pub list_is : {A : Type 0} (version tag : ℕ) (entry : A → List ℕ) (xs : List A) → list_text version tag entry xs ≡ list_front version tag (length xs) ++ flat_map entry xs
+list_is version tag entry [] = sym (append-nil (number_text 0 ++ count_text version 0))
+list_is version tag entry (x ∷ xs) =
     let some : eqb (suc (length xs)) 0 ≡ false = ne_eqb (suc (length xs)) 0 (λ e. omega arith) in
-    ap (λ b. number_text (cond b 0 tag) ++ (number_text (suc (length xs)) ++ flat_map entry (x ∷ xs))) (sym some)
+    let n = length (x ∷ xs) in
+    sym (append_assoc (number_text tag) (count_text version n) (flat_map entry (x ∷ xs))) ∙ ap (λ b. (number_text (cond b 0 tag) ++ count_text version n) ++ flat_map entry (x ∷ xs)) (sym some)
 
 -- one entry more behind what stands already
 pub flat_step : {X : Type 0} (T : X → List ℕ) (xs : List X) (i : ℕ) (x : X) (old front out new : List ℕ) → i < length xs → get_or xs i x ≡ x
@@ -43,10 +51,12 @@ flat_length_more f xs i d h = omega (arith, length-flat_map f (take (i + 1) xs),
 pub place_length : (version n : ℕ) → length (to_be_bytes (place_width version) n) ≡ place_bytes version
 place_length version n = elim (eqb version 1) as (λ b. length (to_be_bytes (cond b w32 w64) n) ≡ cond b 4 8) [ true ↦ refl | false ↦ refl ]
 
-pub numbers_length : (ids : List ℕ) → length (flat_map number_text ids) ≡ 4 * length ids
-numbers_length [] = refl
-numbers_length (n ∷ ids) = omega (arith, length-append (number_text n) (flat_map number_text ids), numbers_length ids)
+pub numbers_length : (version : ℕ) (ids : List ℕ) → length (flat_map (count_text version) ids) ≡ length ids * count_bytes version
+numbers_length version [] = omega arith
+numbers_length version (n ∷ ids) =
+    let more : suc (length ids) * count_bytes version ≡ count_bytes version + length ids * count_bytes version = grind arith in
+    length-append (count_text version n) (flat_map (count_text version) ids) ∙ omega (arith, count_length version n, numbers_length version ids, more)
 
 pub var_length : (version : ℕ) (dims : List CdfDim) (v : CdfVar) (place : ℕ) → length (var_text version dims (v, place))
-    ≡ length (name_text v.name) + (4 * length v.dims + (length (list_text 12 attr_text v.attrs) + (12 + place_bytes version)))
-var_length version dims v place = simp (length-append, numbers_length, place_length) (omega arith)
+    ≡ length (name_text version v.name) + (length v.dims * count_bytes version + (length (list_text version 12 (attr_text version) v.attrs) + (4 + 2 * count_bytes version + place_bytes version)))
+var_length version dims v place = simp (length-append, numbers_length, place_length, count_length) (omega arith)

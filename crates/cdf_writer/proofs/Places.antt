@@ -67,7 +67,7 @@ placed_at f begins i v are lt is =
 -- ---- they fit
 
 -- four bytes hold a variable's place and its padded size
-pub record Fits (f : CdfFile) (x : CdfVar × ℕ) : Type 0 where
+pub record Small (f : CdfFile) (x : CdfVar × ℕ) : Type 0 where
   pub begin : x.1 < 2 ^ 32
   pub size : padded (slab f.dims x.0) < 2 ^ 32
 
@@ -75,14 +75,14 @@ padded_near : (f : CdfFile) (v : CdfVar) → padded (slab f.dims v) ≤ room f v
 padded_near f v = elim (is_record f v && eqb (length (record_vars f)) 1) as (λ b. padded (slab f.dims v) ≤ cond b (slab f.dims v) (padded (slab f.dims v)) + 3) [ true ↦ omega arith | false ↦ omega arith ]
 
 pub placed_fit : (f : CdfFile) (m : ℕ) (vs : List CdfVar) (a b : ℕ) → m + 3 < 2 ^ 32 → a + sum (map (room f) (filter (λ v. not (is_record f v)) vs)) ≤ m → b + sum (map (room f) (filter (is_record f) vs)) ≤ m
-    → AllByRecursion (Fits f) (placed_from f vs a b)
+    → AllByRecursion (Small f) (placed_from f vs a b)
 unfolding next
 placed_fit f m [] a b lim fixed records = tt
 placed_fit f m (v ∷ vs) a b lim fixed records =
     let others = filter (λ w. not (is_record f w)) vs in
     let same = filter (is_record f) vs in
     let near = padded_near f v in
-    elim (is_record f v) as (λ r. a + sum (map (room f) (cond (not r) (v ∷ others) others)) ≤ m → b + sum (map (room f) (cond r (v ∷ same) same)) ≤ m → AllByRecursion (Fits f) (next f r v vs a b)) [
+    elim (is_record f v) as (λ r. a + sum (map (room f) (cond (not r) (v ∷ others) others)) ≤ m → b + sum (map (room f) (cond r (v ∷ same) same)) ≤ m → AllByRecursion (Small f) (next f r v vs a b)) [
       | true ↦ λ h k.
           let more = sum_by-cons (λ n. n) (room f v) (map (room f) same) in
           (record { begin = omega (arith, k); size = omega (arith, k, more, near) }, placed_fit f m vs a (b + room f v) lim h (omega (arith, k, more)))
@@ -91,7 +91,7 @@ placed_fit f m (v ∷ vs) a b lim fixed records =
           (record { begin = omega (arith, h); size = omega (arith, h, more, near) }, placed_fit f m vs (a + room f v) b lim (omega (arith, h, more)) k)
     ] fixed records
 
-pub all_fit : (f : CdfFile) → is_small f ≡ true → AllByRecursion (Fits f) (placed f)
+pub all_fit : (f : CdfFile) → is_small f ≡ true → AllByRecursion (Small f) (placed f)
 all_fit f small =
     let both = and_parts (leb (canonical_size f) most_bytes) (leb (recsize f) most_bytes) small in
     let size = leb-true (canonical_size f) most_bytes both.0 in

@@ -7,8 +7,9 @@ use Rattle.std.proofs.lemmas.Nat.{mul-le}
 use Rattle.std.specs.List.{AllByRecursion, filter, flat_map, range_with_len}
 use Rattle.xr_files.specs.declared.file.CdfVar.{CdfVar}
 use Rattle.xr_files.specs.declared.file.CdfFile.{CdfFile}
-use Rattle.xr_files.specs.Canonical.{IsFile, attr_text, can_hold, canonical, canonical_size, dim_text, fixed_size, fixed_vars, header_size, header_text, is_record, list_text, number_text, placed, placed_from, recsize, record_text, record_vars, room, slab, var_text, with_filling}
+use Rattle.xr_files.specs.Canonical.{IsFile, attr_text, can_hold, canonical, canonical_size, count_text, dim_text, fixed_size, fixed_vars, header_size, header_text, is_record, list_text, placed, placed_from, recsize, record_text, record_vars, room, slab, var_text, with_filling}
 use Rattle.xr_files.specs.Files.{magic}
+use Rattle.cdf_writer.specs.Sizes.{count_bytes}
 use Rattle.cdf_writer.proofs.Lengths.{list_length, var_length}
 use Rattle.cdf_writer.proofs.Held.{IsHeld, held, fixed_length, not_true, record_length}
 use Rattle.cdf_writer.proofs.Fillings.{filled_length}
@@ -29,16 +30,16 @@ placed_length f version (v ∷ vs) a b =
     ]
 
 abbrev front : CdfFile → List ℕ
-front f = magic f.version ++ (number_text f.numrecs ++ (list_text 10 dim_text f.dims ++ list_text 12 attr_text f.attrs))
+front f = magic f.version ++ (count_text f.version f.numrecs ++ (list_text f.version 10 (dim_text f.version) f.dims ++ list_text f.version 12 (attr_text f.version) f.attrs))
 
-header_parts : (f : CdfFile) (ps : List (CdfVar × ℕ)) → length (header_text f ps) ≡ length (front f) + length (list_text 11 (var_text f.version f.dims) ps)
+header_parts : (f : CdfFile) (ps : List (CdfVar × ℕ)) → length (header_text f ps) ≡ length (front f) + length (list_text f.version 11 (var_text f.version f.dims) ps)
 header_parts f ps = simp length-append (omega arith)
 
 pub header_length : (f : CdfFile) → length (header_text f (placed f)) ≡ header_size f
 header_length f =
     let T = var_text f.version f.dims in
     let zero_places = map (λ (v : CdfVar). (v, 0)) f.vars in
-    let vars : length (list_text 11 T (placed f)) ≡ length (list_text 11 T zero_places) = list_length 11 T (placed f) ∙ ap (λ n. 8 + n) (placed_length f f.version f.vars (header_size f) (header_size f + fixed_size f)) ∙ sym (list_length 11 T zero_places) in
+    let vars : length (list_text f.version 11 T (placed f)) ≡ length (list_text f.version 11 T zero_places) = list_length f.version 11 T (placed f) ∙ ap (λ n. 4 + count_bytes f.version + n) (placed_length f f.version f.vars (header_size f) (header_size f + fixed_size f)) ∙ sym (list_length f.version 11 T zero_places) in
     header_parts f (placed f) ∙ ap (λ n. length (front f) + n) vars ∙ sym (header_parts f zero_places)
 
 -- ---- the values

@@ -15,8 +15,8 @@ pub struct Layout {
     pub length: u64,
 }
 
-/// Why a file is not written: the version has no place for its record dimensions, the file or a record would be
-/// larger than a file may be, or memory is wanting.
+/// Why a file is not written: the version lacks one of its types or has no place for its record dimensions, the file
+/// or a record would be larger than a file may be, or memory is wanting.
 #[derive(Clone, Copy, PartialEq, Eq)]
 pub enum WriteFault {
     CannotHold,

@@ -1,4 +1,4 @@
-//! Writes classic netCDF files, versions 1 and 2, in their one canonical spelling (Unidata, "The NetCDF Classic
+//! Writes classic netCDF files, versions 1, 2 and 5, in their one canonical spelling (Unidata, "The NetCDF Classic
 //! Format Specification").
 #![tactic(auto)]
 

@@ -11,6 +11,7 @@ use crate::values::{put_each_record, put_filling, record_vars};
 use bytes::{Bytes, BytesQueue};
 use std::alloc::{AllocError, Global};
 use xr_files::{CdfFile, CdfVar};
+
 fn filling_piece(alloc: Global, var: &CdfVar, n: usize) -> Result<Bytes, AllocError>
     ensures { IfOk result (λ piece. piece ≡ filling var.now n) }
 {

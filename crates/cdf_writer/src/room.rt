@@ -16,12 +16,10 @@ pub fn width(kind: NcType) -> u64
     ensures { result ≡ width kind }
 {
     match kind {
-        NcType::Byte => 1,
-        NcType::Char => 1,
-        NcType::Short => 2,
-        NcType::Int => 4,
-        NcType::Float => 4,
-        NcType::Double => 8,
+        NcType::Byte | NcType::Char | NcType::UByte => 1,
+        NcType::Short | NcType::UShort => 2,
+        NcType::Int | NcType::Float | NcType::UInt => 4,
+        NcType::Double | NcType::Int64 | NcType::UInt64 => 8,
     }
 }
 

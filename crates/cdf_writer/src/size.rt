@@ -3,7 +3,7 @@ ghost use Rattle.std.specs.Prelude.{◌≡◌, length, map, flat_map};
 ghost use Rattle.xr_files.specs.Classic.{padding};
 ghost use Rattle.xr_files.specs.Files.{padded};
 ghost use Rattle.xr_files.specs.Canonical.{attr_text, dim_text, header_size, list_text, name_text, var_text};
-ghost use Rattle.cdf_writer.specs.Sizes.{capped, place_bytes};
+ghost use Rattle.cdf_writer.specs.Sizes.{capped, count_bytes, place_bytes};
 
 use xr_files::{CdfDim, CdfFile, CdfVar};
 use xr_types::{Attr, Name};
@@ -22,43 +22,49 @@ pub fn padded_size(n: u64) -> u64
     n.saturating_add(padding(n))
 }
 
-fn name_size(name: &Name) -> u64
-    ensures { result ≡ capped (length (name_text name.now)) }
+fn count_bytes(version: u8) -> u64
+    ensures { result ≡ count_bytes version }
 {
-    padded_size(name.as_bytes().len() as u64).saturating_add(4)
+    if version == 5 { 8 } else { 4 }
 }
 
-fn dim_size(dim: &CdfDim) -> u64
-    ensures { result ≡ capped (length (dim_text dim.now)) }
+fn name_size(version: u8, name: &Name) -> u64
+    ensures { result ≡ capped (length (name_text version name.now)) }
 {
-    name_size(&dim.name).saturating_add(4)
+    padded_size(name.as_bytes().len() as u64).saturating_add(count_bytes(version))
 }
 
-fn dims_size(dims: &[CdfDim]) -> u64
-    ensures { result ≡ capped (length (list_text 10 dim_text dims.now)) }
+fn dim_size(version: u8, dim: &CdfDim) -> u64
+    ensures { result ≡ capped (length (dim_text version dim.now)) }
 {
-    let mut total: u64 = 8;
+    name_size(version, &dim.name).saturating_add(count_bytes(version))
+}
+
+fn dims_size(version: u8, dims: &[CdfDim]) -> u64
+    ensures { result ≡ capped (length (list_text version 10 (dim_text version) dims.now)) }
+{
+    let mut total: u64 = 4 + count_bytes(version);
     for dim in dims {
-        total = total.saturating_add(dim_size(dim));
+        total = total.saturating_add(dim_size(version, dim));
     }
     total
 }
 
-fn attr_size(attr: &Attr) -> u64
-    ensures { result ≡ capped (length (attr_text attr.now)) }
+fn attr_size(version: u8, attr: &Attr) -> u64
+    ensures { result ≡ capped (length (attr_text version attr.now)) }
 {
     let values = padded_size(attr.raw.as_slice().len() as u64);
-    name_size(&attr.name)
+    name_size(version, &attr.name)
         .saturating_add(values)
-        .saturating_add(8)
+        .saturating_add(4 + count_bytes(version))
 }
 
-fn attrs_size(attrs: &[Attr]) -> u64
-    ensures { result ≡ capped (length (list_text 12 attr_text attrs.now)) }
+fn attrs_size(version: u8, attrs: &[Attr]) -> u64
+    ensures { result ≡ capped (length (list_text version 12 (attr_text version) attrs.now)) }
 {
-    let mut total: u64 = 8;
+    let mut total: u64 = 4 + count_bytes(version);
     for attr in attrs {
-        total = total.saturating_add(attr_size(attr));
+        total = total.saturating_add(attr_size(version, attr));
     }
     total
 }
@@ -72,17 +78,21 @@ fn place_bytes(version: u8) -> u64
 fn var_size(file: &CdfFile, var: &CdfVar) -> u64
     ensures { result ≡ capped (length (var_text file.now.version file.now.dims (var.now, 0))) }
 {
-    let numbers = (var.dims.as_slice().len() as u64).saturating_mul(4);
-    let rest = attrs_size(var.attrs.as_slice()).saturating_add(12 + place_bytes(file.version));
-    name_size(&var.name)
+    let version = file.version;
+    let count = count_bytes(version);
+    let numbers = (var.dims.as_slice().len() as u64).saturating_mul(count);
+    let rest = attrs_size(version, var.attrs.as_slice()).saturating_add(
+        4 + 2 * count + place_bytes(version),
+    );
+    name_size(version, &var.name)
         .saturating_add(numbers)
         .saturating_add(rest)
 }
 
 fn vars_size(file: &CdfFile) -> u64
-    ensures { result ≡ capped (length (list_text 11 (var_text file.now.version file.now.dims) (map (λ v. (v, 0)) file.now.vars))) }
+    ensures { result ≡ capped (length (list_text file.now.version 11 (var_text file.now.version file.now.dims) (map (λ v. (v, 0)) file.now.vars))) }
 {
-    let mut total: u64 = 8;
+    let mut total: u64 = 4 + count_bytes(file.version);
     for var in file.vars.as_slice() {
         total = total.saturating_add(var_size(file, var));
     }
@@ -93,9 +103,9 @@ fn vars_size(file: &CdfFile) -> u64
 pub fn header_size(file: &CdfFile) -> u64
     ensures { result ≡ capped (header_size file.now) }
 {
-    let dims = dims_size(file.dims.as_slice());
-    let attrs = attrs_size(file.attrs.as_slice());
+    let dims = dims_size(file.version, file.dims.as_slice());
+    let attrs = attrs_size(file.version, file.attrs.as_slice());
     dims.saturating_add(attrs)
         .saturating_add(vars_size(file))
-        .saturating_add(8)
+        .saturating_add(4 + count_bytes(file.version))
 }

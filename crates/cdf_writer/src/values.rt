@@ -17,7 +17,14 @@ fn default_fill(kind: NcType) -> &'static [u8]
         NcType::Byte => &[0x81],
         NcType::Char => &[0],
         NcType::Short => &[0x80, 0x01],
-        _ => &[],
+        NcType::UByte => &[0xff],
+        NcType::UShort => &[0xff, 0xff],
+        NcType::Int
+        | NcType::Float
+        | NcType::Double
+        | NcType::UInt
+        | NcType::Int64
+        | NcType::UInt64 => &[],
     }
 }
 

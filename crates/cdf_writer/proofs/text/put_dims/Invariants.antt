@@ -5,4 +5,4 @@ use Rattle.cdf_writer.specs.Sizes.{list_front}
 use Rattle.cdf_writer.proofs.text.put_dims.Given as goal
 
 abbrev pub invariant-loop-dim : goal.invariant-loop-dim
-invariant-loop-dim l = l.out.items ≡ l.fn.out.items ++ (list_front 10 (length l.file.dims) ++ flat_map dim_text (take l.dim-index l.file.dims))
+invariant-loop-dim l = l.out.items ≡ l.fn.out.items ++ (list_front l.file.version 10 (length l.file.dims) ++ flat_map (dim_text l.file.version) (take l.dim-index l.file.dims))

@@ -5,4 +5,4 @@ use Rattle.cdf_writer.specs.Sizes.{list_front}
 use Rattle.cdf_writer.proofs.text.put_vars.Given as goal
 
 abbrev pub invariant-loop-i : goal.invariant-loop-i
-invariant-loop-i l = l.out.items ≡ l.fn.out.items ++ (list_front 11 (length l.file.vars) ++ flat_map (var_text l.file.version l.file.dims) (take l.i (placed l.file)))
+invariant-loop-i l = l.out.items ≡ l.fn.out.items ++ (list_front l.file.version 11 (length l.file.vars) ++ flat_map (var_text l.file.version l.file.dims) (take l.i (placed l.file)))
