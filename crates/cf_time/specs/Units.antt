@@ -10,6 +10,7 @@ use Rattle.std.specs.Str.Parse.{digits_value}
 use Rattle.xr_types.specs.declared.axis.TimeUnit.{TimeUnit}
 use Rattle.xr_types.specs.declared.axis.TimeUnit.TheVariants.{Days, Hours, Minutes, Seconds}
 use Rattle.xr_types.specs.declared.axis.Units.{Units}
+use Rattle.xr_types.specs.declared.axis.Calendar.TheVariants.{Civil}
 use Rattle.xr_arrays.specs.Times.{month_days, time_of, is_gregorian}
 
 infixl 10 ◌>>=◌
@@ -145,7 +146,7 @@ reads_early (Some name) =
     else (if bytes_eq name (codes "proleptic_gregorian") then Some true else None)
 
 abbrev pub units : TimeUnit → ℤ → Bool → Option Units
-units u r early = if early || is_gregorian r then Some (record { unit = u; reference = r; early = early }) else None
+units u r early = if early || is_gregorian r then Some (record { unit = u; reference = r; calendar = Civil; early = early }) else None
 
 -- the units that a text and the text of a calendar stand for
 unfoldable pub units_of : List ℕ → Option (List ℕ) → Option Units

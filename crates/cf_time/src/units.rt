@@ -3,7 +3,7 @@ ghost use Rattle.std.specs.Prelude.{◌≡◌, ◌&&◌, ◌||◌, pos, IfSome, 
 ghost use Rattle.cf_time.specs.Units.{units};
 ghost use Rattle.xr_arrays.specs.Times.{IsTime, unit_seconds, is_time, is_gregorian, decoded};
 
-use xr_types::{TimeUnit, Units};
+use xr_types::{Calendar, TimeUnit, Units};
 
 /// The seconds of a unit.
 fn unit_seconds(unit: TimeUnit) -> i128
@@ -59,6 +59,7 @@ pub fn units_with(unit: TimeUnit, reference: i64, early: bool) -> Option<Units>
     Some(Units {
         unit,
         reference,
+        calendar: Calendar::Civil,
         early,
     })
 }
