@@ -4,3 +4,6 @@ pub mod Calendar
 pub mod Folds
 pub mod FoldRanges
 pub mod FeedPositions
+pub mod ElementRanges
+pub mod FeedRanges
+pub mod Gathers

@@ -118,10 +118,14 @@ choose (Some (negsuc n)) x y = x
 
 -- ---- arrays
 
--- an operation on each cell of one array, whose kind it has except for a cast; the result's kind is given
+-- the kind by which an operation of one operand goes: a cast by that to which it casts, and others by that of their operand
+abbrev pub unary_kind : OpKind → DType → DType → DType
+unary_kind ops.Cast kind t = kind
+unary_kind op kind t = t
+
+-- an operation on each cell of one array; the result's kind is given
 abbrev pub unary_of : OpKind → DType → Array → Array
-unary_of ops.Cast kind a = made kind a.shape (λ p. elem ops.Cast kind (at a p) None)
-unary_of op kind a = made kind a.shape (λ p. elem op a.kind (at a p) None)
+unary_of op kind a = made kind a.shape (λ p. elem op (unary_kind op kind a.kind) (at a p) None)
 
 -- an operation on the cells of two arrays of one shape and kind
 abbrev pub binary_of : OpKind → DType → Array → Array → Array
