@@ -1,5 +1,7 @@
 -- What the expressions of a script stand for.
 use Rattle.std.specs.Prelude.{ℕ, ℤ, Bool, List, [], ◌∷◌, ◌++◌, Option}
+use Rattle.xr_types.specs.declared.axis.TimeCoding.{TimeCoding}
+use Rattle.xr_defs.specs.declared.grouping.Grouping.{Grouping}
 use Rattle.xr_defs.specs.declared.slice.Part.{Part}
 use Rattle.xr_defs.specs.Values.{DataArray, Dataset}
 
@@ -19,6 +21,11 @@ mutual
     Slice : Part → Part → Option ℤ → Value
     Array : DataArray → Value
     Set : Dataset → Value
+    -- times in seconds, and how they stand in a file
+    Times : TimeCoding → List ℤ → Value
+    -- an array or a dataset with its positions in groups
+    GroupedArray : DataArray → Grouping → Value
+    GroupedSet : Dataset → Grouping → Value
 
   -- items of a list, the last one outermost
   pub data Values : Type 0 where

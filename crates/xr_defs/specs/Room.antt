@@ -1,5 +1,5 @@
 -- What a call may add to a plan: the cells of its nodes, beside the sizes of its operands and of its result.
-use Rattle.std.specs.Prelude.{◌+◌, ◌*◌, ℕ, List, [], ◌∷◌, length, map, filter, flat_map, is_some, max, if◌then◌else◌}
+use Rattle.std.specs.Prelude.{◌+◌, ◌*◌, ℕ, List, [], ◌∷◌, ◌++◌, length, map, filter, flat_map, is_some, max, if◌then◌else◌}
 use Rattle.std.specs.List.{sum_by}
 use Rattle.std.specs.Str.{bytes_eq}
 use Rattle.xr_types.specs.declared.axis.Axis.{Axis}
@@ -53,8 +53,27 @@ room ps = 256 * sum_by count ps * span (flat_map (λ (p : Portion). p.axes) ps)
 abbrev pub AddsForAny : List Node → List Node → DataArray → Type 0
 AddsForAny old new b = (p : Portion) → AddsAtMost old new (room (p ∷ of_array b ∷ []))
 
--- those of a value: an array or a dataset has one
-abbrev pub portions : of.Value → List Portion
-portions (of.Array a) = of_array a ∷ []
-portions (of.Set s) = of_set s ∷ []
-portions v = []
+abbrev mutual
+  -- those of a value: an array or a dataset has one, a grouped value that of what is grouped, and a list those of its members
+  pub portions : of.Value → List Portion
+  portions of.Absent = []
+  portions of.Missing = []
+  portions (of.Truth b) = []
+  portions (of.Number n) = []
+  portions (of.Text t) = []
+  portions (of.Sequence vs) = members vs
+  portions (of.Table es) = entries es
+  portions (of.Slice start stop step) = []
+  portions (of.Array a) = of_array a ∷ []
+  portions (of.Set s) = of_set s ∷ []
+  portions (of.Times coding ts) = []
+  portions (of.GroupedArray a g) = of_array a ∷ []
+  portions (of.GroupedSet s g) = of_set s ∷ []
+
+  pub members : of.Values → List Portion
+  members of.NoValue = []
+  members (of.With vs v) = members vs ++ portions v
+
+  pub entries : of.Entries → List Portion
+  entries of.NoEntry = []
+  entries (of.Entry es key v) = entries es ++ portions v

@@ -1,6 +1,6 @@
 -- The functions and methods of scripts. Every call is checked in one order: it exists, its receiver is of a kind that has it, its arguments fit its signature, each argument has its
 -- kind and then its value, the dimensions that it names exist, and then come its own checks.
-use Rattle.std.specs.Prelude.{ℕ, ℤ, Bool, true, false, List, [], ◌∷◌, ◌++◌, Option, Some, None, Result, Ok, Err, if◌then◌else◌, codes}
+use Rattle.std.specs.Prelude.{◌||◌, ℕ, ℤ, Bool, true, false, List, [], ◌∷◌, ◌++◌, Option, Some, None, Result, Ok, Err, if◌then◌else◌, codes}
 use Rattle.std.specs.Str.{bytes_eq}
 use Rattle.std.specs.Fmt.{signed_decimal}
 use Rattle.xr_types.specs.declared.fault.Fault.{Fault}
@@ -18,7 +18,7 @@ use Rattle.xr_defs.specs.Selecting.{isel_array, isel_set}
 use Rattle.xr_defs.specs.Parts.{picked_of_set, picked_of_array, renamed, to_dataset, own_name, as_set, array_with_attrs, set_with_attrs, transposed, dropped_of_array, dropped_of_set}
 use Rattle.xr_defs.specs.Sums.{sum_called}
 use Rattle.xr_defs.specs.Building.{bound, argument, option, required, data_array, assigned_to_array, assigned_to_set}
-use Rattle.xr_defs.specs.Meanings.{Value, Truth, Number, Text, Array, Set, Given}
+use Rattle.xr_defs.specs.Meanings.{Value, Truth, Number, Text, Array, Set, GroupedArray, GroupedSet, Given}
 use Rattle.xr_defs.specs.Arguments.{wrong, unfit, as_text, slice_given}
 
 -- ---- functions
@@ -77,13 +77,18 @@ is_labelled_data (Array a) = true
 is_labelled_data (Set s) = true
 is_labelled_data v = false
 
+abbrev pub is_grouped : Value → Bool
+is_grouped (GroupedArray a by) = true
+is_grouped (GroupedSet s by) = true
+is_grouped v = false
+
 -- methods whose answers aren't whole numbers
 abbrev pub promoting : List (List ℕ)
 promoting = codes "mean" ∷ codes "std" ∷ codes "var" ∷ codes "median" ∷ codes "quantile" ∷ codes "interp" ∷ []
 
 -- those, and methods that there aren't
 unfoldable pub other_method : Value → List ℕ → Result Value Fault
-other_method v name = if among promoting name then Err (if is_labelled_data v then WouldPromote else WrongKind) else Err (UnknownName name)
+other_method v name = if among promoting name then Err (if is_labelled_data v || is_grouped v then WouldPromote else WrongKind) else Err (UnknownName name)
 
 -- those that compute no cells
 unfoldable pub uncomputed_method : Value → List ℕ → Given → Result Value Fault
