@@ -7,7 +7,7 @@ use Rattle.std.proofs.lemmas.List.{map-append}
 use Rattle.std.proofs.lemmas.Bool.{cases_lt}
 use Rattle.std.proofs.lemmas.Int.{ints}
 use Rattle.std.specs.Prelude.{unsigned_abs, int_le, ◌==◌, if◌then◌else◌}
-use Rattle.cf_time.specs.Bins.{IsFreq, IsBin, IsFew, bin_number, rises_from, rises, first_midnight, first_bin, last_bin, bin_count}
+use Rattle.xr_arrays.specs.Bins.{IsFreq, IsBin, IsFew, bin_number, rises_from, rises, first_midnight, first_bin, last_bin, bin_count}
 use Rattle.xr_arrays.specs.declared.time.Freq.{Freq}
 use Rattle.xr_arrays.specs.declared.time.Freq.TheVariants as freq
 use Rattle.std.proofs.lemmas.List.Elements.{filter-append}

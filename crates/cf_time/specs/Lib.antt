@@ -1,5 +1,2 @@
-pub mod Units
 pub mod Parts
-pub mod Bins
-pub mod Counts
 pub mod Fields

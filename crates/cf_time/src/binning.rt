@@ -2,14 +2,13 @@
 ghost use Rattle.std.specs.Prelude.{◌≡◌, ◌+◌, ◌-◌, ◌*◌, ◌<◌, ◌≤◌, ◌^◌, ℕ, pos, All, IfOk, length, map, slice_index_or};
 ghost use Rattle.std.specs.List.{range_with_len};
 ghost use Rattle.xr_arrays.specs.Times.{IsTime};
-ghost use Rattle.cf_time.specs.Bins.{IsFreq, IsBin, IsFew, BinsAre, bin_number, bin_start, rises_from, rises, first_midnight, first_bin, bin_count, bin_starts, label_bins, bins_of};
+ghost use Rattle.xr_arrays.specs.Bins.{IsFreq, IsBin, IsFew, BinsAre, bin_number, bin_start, rises_from, rises, first_midnight, first_bin, bin_count, bin_starts, label_bins, bins_of};
 
-use crate::bin_list::BinList;
 use crate::date::since;
 use crate::read::time_at;
 use crate::run::{Run, next_run, run_at};
 use std::alloc::{AllocError, Global};
-use xr_arrays::Freq;
+use xr_arrays::{BinList, Freq};
 use xr_types::{CallFault, Fault, Items};
 
 /// Whether each time is at least the one before, the first at least this one.

@@ -1,7 +1,6 @@
 //! Times of the CF conventions: the fields and the text of a time, dates of a script, units of a file, and bins.
 #![tactic(auto)]
 
-mod bin_list;
 mod binning;
 mod counts;
 mod date;
@@ -11,7 +10,6 @@ mod run;
 mod units;
 mod units_text;
 
-pub use bin_list::BinList;
 pub use binning::bins;
 pub use counts::{count, written_unit};
 pub use date::{field, text};
@@ -19,3 +17,4 @@ pub use each_field::fields;
 pub use read::read_date;
 pub use units::decode;
 pub use units_text::read_units;
+pub use xr_arrays::BinList;

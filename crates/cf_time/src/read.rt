@@ -1,6 +1,6 @@
 //! Date texts of a script.
 ghost use Rattle.std.specs.Prelude.{◌≡◌, ◌≤◌, ◌<◌, ◌+◌, ◌*◌, ◌-ℤ◌, ◌&&◌, pos, length, true, if◌then◌else◌, Some, None, IfSome};
-ghost use Rattle.cf_time.specs.Units.{is_civil};
+ghost use Rattle.xr_arrays.specs.Units.{is_civil};
 ghost use Rattle.xr_arrays.specs.Times.{IsCivil, day_number, epoch, time_of, month_days, is_digit, has_two, two_at, has_year, year_in, has_month, has_day, has_clock, period, year_period, month_period, day_period, clock_period, second_period, date_period};
 
 use jiff_core::civil;

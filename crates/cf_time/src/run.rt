@@ -2,7 +2,7 @@
 ghost use Rattle.std.specs.Prelude.{◌≡◌, ◌-◌, ◌+◌, ◌*◌, ◌/◌, ◌<◌, ◌≤◌, ℕ, ℤ};
 ghost use Rattle.xr_arrays.specs.Times.{IsTime, seconds_since, year_at, month_at, year_days};
 ghost use Rattle.xr_arrays.specs.declared.time.Freq.TheVariants as freqs;
-ghost use Rattle.cf_time.specs.Bins.{IsFreq, IsRun, IsBin, bin_number};
+ghost use Rattle.xr_arrays.specs.Bins.{IsFreq, IsRun, IsBin, bin_number};
 
 use crate::date::{parts_at, since};
 use crate::read::month_days;

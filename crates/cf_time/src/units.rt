@@ -1,6 +1,6 @@
 //! Times as a file counts them.
 ghost use Rattle.std.specs.Prelude.{◌≡◌, ◌&&◌, ◌||◌, pos, IfSome, Some, None, if◌then◌else◌};
-ghost use Rattle.cf_time.specs.Units.{units};
+ghost use Rattle.xr_arrays.specs.Units.{units};
 ghost use Rattle.xr_arrays.specs.Times.{IsTime, unit_seconds, is_time, is_gregorian, decoded};
 
 use xr_types::{Calendar, TimeUnit, Units};

@@ -7,7 +7,7 @@ ghost use Rattle.std.specs.Str.{bytes_eq};
 ghost use Rattle.std.specs.Str.Parse.{digits_value};
 ghost use Rattle.xr_arrays.specs.Times.{IsCivil, IsTime};
 ghost use Rattle.cf_time.specs.Parts.{Says};
-ghost use Rattle.cf_time.specs.Units.{is_blank, is_dark, behind_blanks, behind_byte, number, part, civil, date, is_whole, clock, second, seconds, time_of_day, behind_mark, marked_time, day_second, reference, unit_named, unit, behind_since, behind_word, reads_early, units, units_of};
+ghost use Rattle.xr_arrays.specs.Units.{is_blank, is_dark, behind_blanks, behind_byte, number, part, civil, date, is_whole, clock, second, seconds, time_of_day, behind_mark, marked_time, day_second, reference, unit_named, unit, behind_since, behind_word, reads_early, units, units_of};
 
 use crate::read::{is_date, time_at};
 use crate::units::units_with;
@@ -100,7 +100,7 @@ fn number(text: &[u8], least: usize, most: usize) -> Option<(u16, &[u8])>
 }
 
 /// A byte and a number of one or two digits behind it.
-#[tactic(auto, unfolding(crate::specs::Units::part))]
+#[tactic(auto, unfolding(xr_arrays::specs::Units::part))]
 fn part(text: &[u8], byte: u8) -> Option<(u16, &[u8])>
     ensures { Says (λ x. (x.0, x.1.now)) result (part byte text.now) }
 {
@@ -132,7 +132,7 @@ fn civil(year: u16, month: u16, day: u16) -> Option<Day>
 }
 
 /// The date at the front.
-#[tactic(auto, unfolding(crate::specs::Units::date))]
+#[tactic(auto, unfolding(xr_arrays::specs::Units::date))]
 fn date(text: &[u8]) -> Option<(Day, &[u8])>
     ensures value { Says (λ x. ((x.0.year, x.0.month, x.0.day), x.1.now)) result (date text.now) }
     ensures civil { IfSome result (λ x. IsCivil x.0.year x.0.month x.0.day) }
@@ -172,7 +172,7 @@ fn clock(hour: u16, minute: u16, second: u16) -> Option<u32>
 }
 
 /// The second of the day, with the seconds behind the minutes.
-#[tactic(auto, unfolding(crate::specs::Units::second))]
+#[tactic(auto, unfolding(xr_arrays::specs::Units::second))]
 fn second(hour: u16, minute: u16, text: &[u8]) -> Option<u32>
     ensures value { result ≡ second hour minute text.now }
     ensures bound { IfSome result (λ s. s < 86400) }
@@ -196,7 +196,7 @@ fn seconds(hour: u16, minute: u16, text: &[u8]) -> Option<u32>
 }
 
 /// The second of the day that a text names.
-#[tactic(auto, unfolding(crate::specs::Units::time_of_day))]
+#[tactic(auto, unfolding(xr_arrays::specs::Units::time_of_day))]
 fn time_of_day(text: &[u8]) -> Option<u32>
     ensures value { result ≡ time_of_day text.now }
     ensures bound { IfSome result (λ s. s < 86400) }
@@ -222,7 +222,7 @@ fn behind_mark(text: &[u8]) -> Option<&[u8]>
     }
 }
 
-#[tactic(auto, unfolding(crate::specs::Units::marked_time))]
+#[tactic(auto, unfolding(xr_arrays::specs::Units::marked_time))]
 fn marked_time(text: &[u8]) -> Option<u32>
     ensures value { result ≡ marked_time text.now }
     ensures bound { IfSome result (λ s. s < 86400) }
@@ -243,7 +243,7 @@ fn day_second(text: &[u8]) -> Option<u32>
 }
 
 /// The time that a date, with or without a time of day, stands for.
-#[tactic(auto, unfolding(crate::specs::Units::reference))]
+#[tactic(auto, unfolding(xr_arrays::specs::Units::reference))]
 fn reference(text: &[u8]) -> Option<i64>
     ensures value { result ≡ reference text.now }
 {
@@ -276,7 +276,7 @@ fn unit_named(word: &[u8]) -> Option<TimeUnit>
 }
 
 /// The unit at the front, and the text behind its word.
-#[tactic(auto, unfolding(crate::specs::Units::unit))]
+#[tactic(auto, unfolding(xr_arrays::specs::Units::unit))]
 fn unit(text: &[u8]) -> Option<(TimeUnit, &[u8])>
     ensures { Says (λ x. (x.0, x.1.now)) result (unit text.now) }
 {
@@ -297,7 +297,7 @@ fn behind_since(text: &[u8]) -> Option<&[u8]>
 }
 
 /// The text behind `since` and the blanks round it.
-#[tactic(auto, unfolding(crate::specs::Units::behind_word))]
+#[tactic(auto, unfolding(xr_arrays::specs::Units::behind_word))]
 fn behind_word(text: &[u8]) -> Option<&[u8]>
     ensures { Says (λ t. t.now) result (behind_word text.now) }
 {
@@ -329,7 +329,7 @@ fn reads_early(calendar: Option<&[u8]>) -> Option<bool>
 /// is none, `standard`, `gregorian` or `proleptic_gregorian`. None where the text has another form, where there
 /// is no such date, and where the reference is before 1582-10-15 but the calendar isn't the last
 /// (CF Conventions, "Time Coordinate").
-#[tactic(auto, unfolding(crate::specs::Units::units_of))]
+#[tactic(auto, unfolding(xr_arrays::specs::Units::units_of))]
 pub fn read_units(text: &[u8], calendar: Option<&[u8]>) -> Option<Units>
     ensures { result ≡ units_of text.now (option_copied calendar.entry) }
 {

@@ -1,6 +1,6 @@
 ghost use Rattle.std.specs.Prelude.{All};
 ghost use Rattle.xr_arrays.specs.Times.{IsTime};
-ghost use Rattle.cf_time.specs.Bins.{IsFreq};
+ghost use Rattle.xr_arrays.specs.Bins.{IsFreq};
 
 use cf_time::{bins, count, decode, field, fields, read_date, read_units, text, written_unit};
 use std::alloc::Global;

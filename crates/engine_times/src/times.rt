@@ -1,7 +1,7 @@
 //! Fields and bins of times.
 ghost use Rattle.std.specs.Prelude.{All, IfOk};
 ghost use Rattle.xr_arrays.specs.Times.{IsTime};
-ghost use Rattle.cf_time.specs.Bins.{IsFreq};
+ghost use Rattle.xr_arrays.specs.Bins.{IsFreq};
 
 use anyhow::Result;
 use cf_time::{bins, fields};

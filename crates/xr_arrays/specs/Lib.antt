@@ -9,3 +9,6 @@ pub mod FeedPositions
 pub mod Elements
 pub mod Nodes
 pub mod Added
+pub mod Units
+pub mod Counts
+pub mod Bins

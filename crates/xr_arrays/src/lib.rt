@@ -2,6 +2,7 @@
 #![tactic(auto)]
 
 mod array;
+mod bin_list;
 mod feeds;
 mod node;
 mod search;
@@ -10,6 +11,7 @@ mod time;
 mod typed;
 
 pub use array::{ArrayValue, Form};
+pub use bin_list::BinList;
 pub use feeds::{Feeds, Positions};
 pub use node::{Feed, Node, Sources};
 pub use search::{Direction, Span};

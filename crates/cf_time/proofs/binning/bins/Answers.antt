@@ -1,5 +1,5 @@
 use Rattle.std.proofs.Common.{◌≡◌, true, arith, ◌∙◌, sym}
-use Rattle.cf_time.specs.Bins.{rises}
+use Rattle.xr_arrays.specs.Bins.{rises}
 use Rattle.cf_time.proofs.Binned.{few}
 use Rattle.cf_time.proofs.binning.bins.Goals as goal
 

@@ -1,6 +1,6 @@
 use Rattle.std.proofs.Common.{◌-◌, get_or, ap, ◌∙◌, pos, w64, FitsSigned, rules}
 use Rattle.std.proofs.lemmas.Int.{to_z-of_z}
-use Rattle.cf_time.specs.Bins.{bin_number}
+use Rattle.xr_arrays.specs.Bins.{bin_number}
 use Rattle.cf_time.proofs.Mapped.{one_more}
 use Rattle.cf_time.proofs.binning.places.Goals as goal
 

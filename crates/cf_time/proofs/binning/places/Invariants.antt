@@ -1,5 +1,5 @@
 use Rattle.std.proofs.Common.{◌≡◌, ◌++◌, ◌-◌, map, drop}
-use Rattle.cf_time.specs.Bins.{IsRun, IsBin, bin_number}
+use Rattle.xr_arrays.specs.Bins.{IsRun, IsBin, bin_number}
 use Rattle.cf_time.proofs.binning.places.Given as goal
 
 abbrev pub invariant-loop-label : goal.invariant-loop-label

@@ -1,6 +1,6 @@
 use Rattle.std.proofs.Common.{◌≡◌, map}
 use Rattle.std.specs.List.{range_with_len}
-use Rattle.cf_time.specs.Bins.{bin_start}
+use Rattle.xr_arrays.specs.Bins.{bin_start}
 use Rattle.cf_time.proofs.binning.starts_from.Given as goal
 
 abbrev pub invariant-loop-at : goal.invariant-loop-at

@@ -1,5 +1,5 @@
 use Rattle.std.proofs.Common.{sym, subst}
-use Rattle.cf_time.specs.Bins.{IsBin}
+use Rattle.xr_arrays.specs.Bins.{IsBin}
 use Rattle.cf_time.proofs.run.run_at.Goals as goal
 
 pub returns-in-Months-clause-bin : goal.returns-in-Months-clause-bin

@@ -10,7 +10,7 @@ use Rattle.xr_types.specs.declared.fault.Fault.TheVariants.{NotMonotonic, TooLar
 use Rattle.xr_arrays.specs.Times.{epoch, seconds_since, day_since, year_at, month_at, time_of}
 use Rattle.xr_arrays.specs.declared.time.Freq.{Freq}
 use Rattle.xr_arrays.specs.declared.time.Freq.TheVariants as freq
-use Rattle.cf_time.specs.declared.bin_list.BinList.{BinList}
+use Rattle.xr_arrays.specs.declared.bin_list.BinList.{BinList}
 
 -- a width is at least a second
 abbrev pub IsFreq : Freq → Type 0
