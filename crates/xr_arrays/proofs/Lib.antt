@@ -7,3 +7,4 @@ pub mod FeedPositions
 pub mod ElementRanges
 pub mod FeedRanges
 pub mod Gathers
+pub mod FeedLaws
