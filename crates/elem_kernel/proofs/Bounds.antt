@@ -1,4 +1,4 @@
--- The numbers of each kind lie between the ends of the widest signed one.
+-- The numbers of each kind lie between the least of the widest signed one and the greatest of the widest one without a sign.
 use Rattle.std.proofs.Common.{◌≡◌, ◌%◌, ℤ, pos, negsuc, neg_ℤ, ◌-ℤ◌, ◌*ℤ◌, ◌<ℤ◌, ◌≤ℤ◌, ◌<◌, ℕ, zero, suc, refl, sym, ap, ◌∙◌, arith, to_z, of_z}
 use Rattle.std.specs.Int.{int_rem_euclid}
 use Rattle.xr_arrays.specs.Elements.{floor_quotient, unless_zero}
@@ -8,9 +8,9 @@ use Rattle.std.specs.Prelude.{true, false}
 use mir.Val.{SFits}
 use mir.Syntax.{w128}
 use Rattle.xr_types.specs.Kinds.{low, high, InRange, wrap_to}
-use Rattle.xr_types.specs.Cells.{again_int8, again_int16, again_int32, again_int64}
+use Rattle.xr_types.specs.Cells.{again_char, again_int8, again_int16, again_int32, again_int64, again_uint16, again_uint32, again_uint64}
 use Rattle.xr_types.specs.declared.kind.DType.{DType}
-use Rattle.xr_types.specs.declared.kind.DType.TheVariants.{Bool, Char, Int8, Int16, Int32, Int64}
+use Rattle.xr_types.specs.declared.kind.DType.TheVariants.{Bool, Char, Int8, Int16, Int32, Int64, UInt8, UInt16, UInt32, UInt64}
 
 pub low_bound : (t : DType) → negsuc 9223372036854775807 ≤ℤ low t
 low_bound Bool = omega (arith, ints)
@@ -19,14 +19,22 @@ low_bound Int8 = omega (arith, ints)
 low_bound Int16 = omega (arith, ints)
 low_bound Int32 = omega (arith, ints)
 low_bound Int64 = omega (arith, ints)
+low_bound UInt8 = omega (arith, ints)
+low_bound UInt16 = omega (arith, ints)
+low_bound UInt32 = omega (arith, ints)
+low_bound UInt64 = omega (arith, ints)
 
-pub high_bound : (t : DType) → high t ≤ℤ pos 9223372036854775807
+pub high_bound : (t : DType) → high t ≤ℤ pos 18446744073709551615
 high_bound Bool = omega (arith, ints)
 high_bound Char = omega (arith, ints)
 high_bound Int8 = omega (arith, ints)
 high_bound Int16 = omega (arith, ints)
 high_bound Int32 = omega (arith, ints)
 high_bound Int64 = omega (arith, ints)
+high_bound UInt8 = omega (arith, ints)
+high_bound UInt16 = omega (arith, ints)
+high_bound UInt32 = omega (arith, ints)
+high_bound UInt64 = omega (arith, ints)
 
 pub ruleset kind_bounds = (low_bound, high_bound)
 
@@ -71,12 +79,20 @@ wrapped_one of number wraps law n m r fits is e = ap number e ∙ ap (λ k. numb
 pub stays : (t : DType) (n : ℤ) → InRange t n → wrap_to t n ≡ n
 stays Bool (pos n) range = let lo = range.0 in let hi = range.1 in let small : n < 2 = omega (arith, ints) in let is : n % 2 ≡ n = omega arith in ap pos is
 stays Bool (negsuc n) range = let lo = range.0 in absurd (omega (arith, ints))
-stays Char (pos n) range = let lo = range.0 in let hi = range.1 in let small : n < 256 = omega (arith, ints) in let is : n % 256 ≡ n = omega arith in ap pos is
+stays Char (pos n) range = ap pos (again_char n range.0 range.1)
 stays Char (negsuc n) range = let lo = range.0 in absurd (omega (arith, ints))
 stays Int8 n range = again_int8 n range.0 range.1
 stays Int16 n range = again_int16 n range.0 range.1
 stays Int32 n range = again_int32 n range.0 range.1
 stays Int64 n range = again_int64 n range.0 range.1
+stays UInt8 (pos n) range = ap pos (again_char n range.0 range.1)
+stays UInt8 (negsuc n) range = let lo = range.0 in absurd (omega (arith, ints))
+stays UInt16 (pos n) range = ap pos (again_uint16 n range.0 range.1)
+stays UInt16 (negsuc n) range = let lo = range.0 in absurd (omega (arith, ints))
+stays UInt32 (pos n) range = ap pos (again_uint32 n range.0 range.1)
+stays UInt32 (negsuc n) range = let lo = range.0 in absurd (omega (arith, ints))
+stays UInt64 (pos n) range = ap pos (again_uint64 n range.0 range.1)
+stays UInt64 (negsuc n) range = let lo = range.0 in absurd (omega (arith, ints))
 
 pub low_zero : (t : DType) → low t ≤ℤ pos 0
 low_zero Bool = omega (arith, ints)
@@ -85,6 +101,10 @@ low_zero Int8 = omega (arith, ints)
 low_zero Int16 = omega (arith, ints)
 low_zero Int32 = omega (arith, ints)
 low_zero Int64 = omega (arith, ints)
+low_zero UInt8 = omega (arith, ints)
+low_zero UInt16 = omega (arith, ints)
+low_zero UInt32 = omega (arith, ints)
+low_zero UInt64 = omega (arith, ints)
 
 pub high_zero : (t : DType) → pos 0 ≤ℤ high t
 high_zero Bool = omega (arith, ints)
@@ -93,6 +113,10 @@ high_zero Int8 = omega (arith, ints)
 high_zero Int16 = omega (arith, ints)
 high_zero Int32 = omega (arith, ints)
 high_zero Int64 = omega (arith, ints)
+high_zero UInt8 = omega (arith, ints)
+high_zero UInt16 = omega (arith, ints)
+high_zero UInt32 = omega (arith, ints)
+high_zero UInt64 = omega (arith, ints)
 
 -- the rest by a positive divisor lies from 0 up to it, and by a negative one from it up to 0
 rest_up_from : (x : ℤ) (b : ℕ) → pos 0 ≤ℤ (x -ℤ pos (suc b) *ℤ floor_quotient x (pos (suc b)))

@@ -11,8 +11,7 @@ use crate::bits::Bits;
 use crate::number::{difference, product, quotient, remainder, sum};
 use crate::pairs::zip_pairs;
 use strided_block::{View, Win};
-use xr_types::OpKind;
-use xr_types::Elem;
+use xr_types::{Elem, OpKind};
 
 // Writes what `+ - * // %` gives of the cells of two views.
 fn calculate_cells<'v, T: Elem + Drop>(

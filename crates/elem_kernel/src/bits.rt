@@ -89,3 +89,45 @@ impl Bits for i64 {
         self ^ other
     }
 }
+
+impl Bits for u16 {
+    fn both(self, other: u16) -> u16 {
+        self & other
+    }
+
+    fn either(self, other: u16) -> u16 {
+        self | other
+    }
+
+    fn one_of(self, other: u16) -> u16 {
+        self ^ other
+    }
+}
+
+impl Bits for u32 {
+    fn both(self, other: u32) -> u32 {
+        self & other
+    }
+
+    fn either(self, other: u32) -> u32 {
+        self | other
+    }
+
+    fn one_of(self, other: u32) -> u32 {
+        self ^ other
+    }
+}
+
+impl Bits for u64 {
+    fn both(self, other: u64) -> u64 {
+        self & other
+    }
+
+    fn either(self, other: u64) -> u64 {
+        self | other
+    }
+
+    fn one_of(self, other: u64) -> u64 {
+        self ^ other
+    }
+}

@@ -117,6 +117,10 @@ fn cast_into<'v, T: Elem + Drop>(a: &TypedView<'v>, out: &mut Win<T>)
         TypedView::Int16(a) => cast_cells(a, out),
         TypedView::Int32(a) => cast_cells(a, out),
         TypedView::Int64(a) => cast_cells(a, out),
+        TypedView::UInt8(a) => cast_cells(a, out),
+        TypedView::UInt16(a) => cast_cells(a, out),
+        TypedView::UInt32(a) => cast_cells(a, out),
+        TypedView::UInt64(a) => cast_cells(a, out),
     }
 }
 
@@ -134,6 +138,10 @@ fn test_numbers<'v>(a: &TypedView<'v>, out: &mut Win<u8>)
         TypedView::Int16(a) => test_cells(a, out),
         TypedView::Int32(a) => test_cells(a, out),
         TypedView::Int64(a) => test_cells(a, out),
+        TypedView::UInt8(a) => test_cells(a, out),
+        TypedView::UInt16(a) => test_cells(a, out),
+        TypedView::UInt32(a) => test_cells(a, out),
+        TypedView::UInt64(a) => test_cells(a, out),
     }
 }
 
@@ -152,5 +160,9 @@ pub(crate) fn cast_numbers<'v>(a: &TypedView<'v>, out: &mut TypedWin)
         TypedWin::Int16(w) => cast_into(a, w),
         TypedWin::Int32(w) => cast_into(a, w),
         TypedWin::Int64(w) => cast_into(a, w),
+        TypedWin::UInt8(w) => cast_into(a, w),
+        TypedWin::UInt16(w) => cast_into(a, w),
+        TypedWin::UInt32(w) => cast_into(a, w),
+        TypedWin::UInt64(w) => cast_into(a, w),
     }
 }

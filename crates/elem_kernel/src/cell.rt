@@ -8,19 +8,22 @@ ghost use Rattle.xr_types.specs.declared.operation.OpKind.TheVariants as ops;
 ghost use Rattle.elem_kernel.specs.Conditions.{IsArithmetic, IsBitwise, IsComparison, IsOnIntegers, IsPlain};
 
 use crate::division::{floor, rest};
-use xr_types::OpKind;
-use xr_types::{DType, wrap};
+use crate::number::wrapped_product;
+use xr_types::{DType, OpKind, wrap};
 
 fn and_bits(of: DType, m: i128, n: i128) -> i128
     requires { InRange of m × InRange of n }
     ensures { result ≡ bitwise bit_and of m n }
 {
     match of {
-        DType::Bool | DType::Char => i128::from(m as u8 & n as u8),
+        DType::Bool | DType::Char | DType::UInt8 => i128::from(m as u8 & n as u8),
         DType::Int8 => i128::from(m as i8 & n as i8),
         DType::Int16 => i128::from(m as i16 & n as i16),
         DType::Int32 => i128::from(m as i32 & n as i32),
         DType::Int64 => i128::from(m as i64 & n as i64),
+        DType::UInt16 => i128::from(m as u16 & n as u16),
+        DType::UInt32 => i128::from(m as u32 & n as u32),
+        DType::UInt64 => i128::from(m as u64 & n as u64),
     }
 }
 
@@ -29,11 +32,14 @@ fn or_bits(of: DType, m: i128, n: i128) -> i128
     ensures { result ≡ bitwise bit_or of m n }
 {
     match of {
-        DType::Bool | DType::Char => i128::from(m as u8 | n as u8),
+        DType::Bool | DType::Char | DType::UInt8 => i128::from(m as u8 | n as u8),
         DType::Int8 => i128::from(m as i8 | n as i8),
         DType::Int16 => i128::from(m as i16 | n as i16),
         DType::Int32 => i128::from(m as i32 | n as i32),
         DType::Int64 => i128::from(m as i64 | n as i64),
+        DType::UInt16 => i128::from(m as u16 | n as u16),
+        DType::UInt32 => i128::from(m as u32 | n as u32),
+        DType::UInt64 => i128::from(m as u64 | n as u64),
     }
 }
 
@@ -42,11 +48,14 @@ fn xor_bits(of: DType, m: i128, n: i128) -> i128
     ensures { result ≡ bitwise bit_xor of m n }
 {
     match of {
-        DType::Bool | DType::Char => i128::from(m as u8 ^ n as u8),
+        DType::Bool | DType::Char | DType::UInt8 => i128::from(m as u8 ^ n as u8),
         DType::Int8 => i128::from(m as i8 ^ n as i8),
         DType::Int16 => i128::from(m as i16 ^ n as i16),
         DType::Int32 => i128::from(m as i32 ^ n as i32),
         DType::Int64 => i128::from(m as i64 ^ n as i64),
+        DType::UInt16 => i128::from(m as u16 ^ n as u16),
+        DType::UInt32 => i128::from(m as u32 ^ n as u32),
+        DType::UInt64 => i128::from(m as u64 ^ n as u64),
     }
 }
 
@@ -73,7 +82,7 @@ fn multiplied(of: DType, m: i128, n: i128) -> i128
     requires range { InRange of m × InRange of n }
     ensures { Some result ≡ elem ops.Multiply of (Some m) (Some n) }
 {
-    wrap(of, m * n)
+    wrap(of, wrapped_product(m, n))
 }
 
 #[tactic(auto, using(crate::proofs::Bounds::kind_bounds))]
@@ -113,7 +122,15 @@ fn cast_number(to: DType, n: i128) -> i128
 {
     match to {
         DType::Bool => i128::from(n != 0),
-        _ => wrap(to, n),
+        DType::Char
+        | DType::Int8
+        | DType::Int16
+        | DType::Int32
+        | DType::Int64
+        | DType::UInt8
+        | DType::UInt16
+        | DType::UInt32
+        | DType::UInt64 => wrap(to, n),
     }
 }
 
@@ -123,7 +140,15 @@ fn inverted(of: DType, n: i128) -> i128
 {
     match of {
         DType::Bool => i128::from(n == 0),
-        _ => wrap(of, -1 - n),
+        DType::Char
+        | DType::Int8
+        | DType::Int16
+        | DType::Int32
+        | DType::Int64
+        | DType::UInt8
+        | DType::UInt16
+        | DType::UInt32
+        | DType::UInt64 => wrap(of, -1 - n),
     }
 }
 

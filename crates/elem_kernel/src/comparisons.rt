@@ -15,8 +15,7 @@ use crate::number::{at_most, differs, equal, less};
 use crate::pairs::zip_pairs;
 use crate::truths::compare_truths;
 use strided_block::{TypedView, TypedWin, View, Win};
-use xr_types::OpKind;
-use xr_types::Elem;
+use xr_types::{Elem, OpKind};
 
 fn equals<'v, T: Elem + Drop>(a: &View<'v, T>, b: &View<'v, T>, out: &mut Win<u8>)
     requires { (a.now.shape ≡ out.old.shape) × (b.now.shape ≡ out.old.shape) }
@@ -127,6 +126,10 @@ pub(crate) fn compare_numbers<'v>(
         (TypedView::Int16(a), TypedView::Int16(b)) => compare_cells(op, a, b, out),
         (TypedView::Int32(a), TypedView::Int32(b)) => compare_cells(op, a, b, out),
         (TypedView::Int64(a), TypedView::Int64(b)) => compare_cells(op, a, b, out),
+        (TypedView::UInt8(a), TypedView::UInt8(b)) => compare_cells(op, a, b, out),
+        (TypedView::UInt16(a), TypedView::UInt16(b)) => compare_cells(op, a, b, out),
+        (TypedView::UInt32(a), TypedView::UInt32(b)) => compare_cells(op, a, b, out),
+        (TypedView::UInt64(a), TypedView::UInt64(b)) => compare_cells(op, a, b, out),
         _ => unreachable!(),
     }
 }

@@ -4,8 +4,8 @@ ghost use Rattle.xr_arrays.specs.Elements.{floor_quotient, unless_zero};
 
 /// The greatest whole number that isn't above x / y.
 pub(crate) fn floor(x: i128, y: i128) -> i128
-    requires from { (negsuc 9223372036854775807 ≤ℤ x) × (x ≤ℤ pos 9223372036854775807) }
-    requires divisor { (negsuc 9223372036854775807 ≤ℤ y) × (y ≤ℤ pos 9223372036854775807) }
+    requires from { (negsuc 9223372036854775807 ≤ℤ x) × (x ≤ℤ pos 18446744073709551615) }
+    requires divisor { (negsuc 9223372036854775807 ≤ℤ y) × (y ≤ℤ pos 18446744073709551615) }
     requires some { y ≢ pos 0 }
     ensures { result ≡ floor_quotient x y }
 {
@@ -57,15 +57,44 @@ fn floor_by_long(x: i128, y: i128) -> i128
     i128::from(quotient)
 }
 
+// Whether a number has 64 bits without a sign.
+fn is_word(n: i128) -> bool
+    ensures { result ≡ true → (pos 0 ≤ℤ n) × (n ≤ℤ pos 18446744073709551615) }
+{
+    n >= 0 && n <= 18_446_744_073_709_551_615
+}
+
+fn to_word(n: i128) -> u64
+    requires { (pos 0 ≤ℤ n) × (n ≤ℤ pos 18446744073709551615) }
+    ensures { pos result ≡ n }
+{
+    n as u64
+}
+
+// The greatest whole number that isn't above x / y, by a division of 64 bits without a sign.
+fn floor_by_word(x: i128, y: i128) -> i128
+    requires from { (pos 0 ≤ℤ x) × (x ≤ℤ pos 18446744073709551615) }
+    requires divisor { (pos 0 ≤ℤ y) × (y ≤ℤ pos 18446744073709551615) }
+    requires some { y ≢ pos 0 }
+    ensures { result ≡ floor_quotient x y }
+{
+    let dividend = to_word(x);
+    let divisor = to_word(y);
+    let quotient = dividend / divisor;
+    i128::from(quotient)
+}
+
 // The greatest whole number that isn't above x / y, by the shortest division that holds both.
 fn floor_shortest(x: i128, y: i128) -> i128
-    requires from { (negsuc 9223372036854775807 ≤ℤ x) × (x ≤ℤ pos 9223372036854775807) }
-    requires divisor { (negsuc 9223372036854775807 ≤ℤ y) × (y ≤ℤ pos 9223372036854775807) }
+    requires from { (negsuc 9223372036854775807 ≤ℤ x) × (x ≤ℤ pos 18446744073709551615) }
+    requires divisor { (negsuc 9223372036854775807 ≤ℤ y) × (y ≤ℤ pos 18446744073709551615) }
     requires some { y ≢ pos 0 }
     ensures { result ≡ floor_quotient x y }
 {
     if is_long(x) && is_long(y) {
         floor_by_long(x, y)
+    } else if is_word(x) && is_word(y) {
+        floor_by_word(x, y)
     } else {
         floor(x, y)
     }
@@ -73,8 +102,8 @@ fn floor_shortest(x: i128, y: i128) -> i128
 
 /// The greatest whole number that isn't above x / y, and 0 for a y of 0.
 pub(crate) fn floor_or_zero(x: i128, y: i128) -> i128
-    requires from { (negsuc 9223372036854775807 ≤ℤ x) × (x ≤ℤ pos 9223372036854775807) }
-    requires divisor { (negsuc 9223372036854775807 ≤ℤ y) × (y ≤ℤ pos 9223372036854775807) }
+    requires from { (negsuc 9223372036854775807 ≤ℤ x) × (x ≤ℤ pos 18446744073709551615) }
+    requires divisor { (negsuc 9223372036854775807 ≤ℤ y) × (y ≤ℤ pos 18446744073709551615) }
     ensures { result ≡ unless_zero y (floor_quotient x y) }
 {
     if y == 0 { 0 } else { floor_shortest(x, y) }
@@ -83,8 +112,8 @@ pub(crate) fn floor_or_zero(x: i128, y: i128) -> i128
 /// What is left of x by whole multiples of y, with the sign of y.
 #[tactic(auto, using(crate::proofs::Bounds::floor_rest))]
 pub(crate) fn rest(x: i128, y: i128) -> i128
-    requires from { (negsuc 9223372036854775807 ≤ℤ x) × (x ≤ℤ pos 9223372036854775807) }
-    requires divisor { (negsuc 9223372036854775807 ≤ℤ y) × (y ≤ℤ pos 9223372036854775807) }
+    requires from { (negsuc 9223372036854775807 ≤ℤ x) × (x ≤ℤ pos 18446744073709551615) }
+    requires divisor { (negsuc 9223372036854775807 ≤ℤ y) × (y ≤ℤ pos 18446744073709551615) }
     requires some { y ≢ pos 0 }
     ensures { result ≡ x -ℤ y *ℤ floor_quotient x y }
 {
@@ -123,15 +152,30 @@ fn rest_by_long(x: i128, y: i128) -> i128
     i128::from(left)
 }
 
+// What is left of x by whole multiples of y, by a division of 64 bits without a sign.
+fn rest_by_word(x: i128, y: i128) -> i128
+    requires from { (pos 0 ≤ℤ x) × (x ≤ℤ pos 18446744073709551615) }
+    requires divisor { (pos 0 ≤ℤ y) × (y ≤ℤ pos 18446744073709551615) }
+    requires some { y ≢ pos 0 }
+    ensures { result ≡ x -ℤ y *ℤ floor_quotient x y }
+{
+    let dividend = to_word(x);
+    let divisor = to_word(y);
+    let left = dividend % divisor;
+    i128::from(left)
+}
+
 // What is left of x by whole multiples of y, by the shortest division that holds both.
 fn rest_shortest(x: i128, y: i128) -> i128
-    requires from { (negsuc 9223372036854775807 ≤ℤ x) × (x ≤ℤ pos 9223372036854775807) }
-    requires divisor { (negsuc 9223372036854775807 ≤ℤ y) × (y ≤ℤ pos 9223372036854775807) }
+    requires from { (negsuc 9223372036854775807 ≤ℤ x) × (x ≤ℤ pos 18446744073709551615) }
+    requires divisor { (negsuc 9223372036854775807 ≤ℤ y) × (y ≤ℤ pos 18446744073709551615) }
     requires some { y ≢ pos 0 }
     ensures { result ≡ x -ℤ y *ℤ floor_quotient x y }
 {
     if is_long(x) && is_long(y) {
         rest_by_long(x, y)
+    } else if is_word(x) && is_word(y) {
+        rest_by_word(x, y)
     } else {
         rest(x, y)
     }
@@ -139,8 +183,8 @@ fn rest_shortest(x: i128, y: i128) -> i128
 
 /// What is left of x by whole multiples of y, with the sign of y, and 0 for a y of 0.
 pub(crate) fn rest_or_zero(x: i128, y: i128) -> i128
-    requires from { (negsuc 9223372036854775807 ≤ℤ x) × (x ≤ℤ pos 9223372036854775807) }
-    requires divisor { (negsuc 9223372036854775807 ≤ℤ y) × (y ≤ℤ pos 9223372036854775807) }
+    requires from { (negsuc 9223372036854775807 ≤ℤ x) × (x ≤ℤ pos 18446744073709551615) }
+    requires divisor { (negsuc 9223372036854775807 ≤ℤ y) × (y ≤ℤ pos 18446744073709551615) }
     ensures { result ≡ unless_zero y (x -ℤ y *ℤ floor_quotient x y) }
 {
     if y == 0 { 0 } else { rest_shortest(x, y) }
@@ -148,7 +192,7 @@ pub(crate) fn rest_or_zero(x: i128, y: i128) -> i128
 
 /// The negated number.
 pub(crate) fn opposite(n: i128) -> i128
-    requires { (negsuc 9223372036854775807 ≤ℤ n) × (n ≤ℤ pos 9223372036854775807) }
+    requires { (negsuc 9223372036854775807 ≤ℤ n) × (n ≤ℤ pos 18446744073709551615) }
     ensures { result ≡ neg_ℤ n }
 {
     -n
@@ -156,7 +200,7 @@ pub(crate) fn opposite(n: i128) -> i128
 
 /// The number whose bits are all turned.
 pub(crate) fn turned(n: i128) -> i128
-    requires { (negsuc 9223372036854775807 ≤ℤ n) × (n ≤ℤ pos 9223372036854775807) }
+    requires { (negsuc 9223372036854775807 ≤ℤ n) × (n ≤ℤ pos 18446744073709551615) }
     ensures { result ≡ negsuc 0 -ℤ n }
 {
     -1 - n

@@ -12,8 +12,7 @@ ghost use Rattle.elem_kernel.specs.Pairs.{Pairs};
 
 use crate::pairs::zip_pairs;
 use strided_block::{TypedView, TypedWin, View, Win};
-use xr_types::OpKind;
-use xr_types::Elem;
+use xr_types::{Elem, OpKind};
 
 // Whether a cell is missing, by the byte of its mask, as a truth value.
 #[tactic(auto, using(crate::proofs::Made::missing_told))]
@@ -80,6 +79,10 @@ fn tell_numbers<'v>(op: OpKind, a: &TypedView<'v>, mask: &View<'v, u8>, out: &mu
         TypedView::Int16(a) => tell_cells(op, a, mask, out),
         TypedView::Int32(a) => tell_cells(op, a, mask, out),
         TypedView::Int64(a) => tell_cells(op, a, mask, out),
+        TypedView::UInt8(a) => tell_cells(op, a, mask, out),
+        TypedView::UInt16(a) => tell_cells(op, a, mask, out),
+        TypedView::UInt32(a) => tell_cells(op, a, mask, out),
+        TypedView::UInt64(a) => tell_cells(op, a, mask, out),
     }
 }
 

@@ -1,5 +1,6 @@
 //! The operations on the numbers of cells.
-ghost use Rattle.std.specs.Prelude.{◌≡◌, Some, None};
+ghost use Rattle.std.specs.Prelude.{◌≡◌, ◌*ℤ◌, Some, None};
+ghost use Rattle.std.specs.Int.{int_wrap, w128};
 ghost use Rattle.xr_arrays.specs.Elements.{elem};
 ghost use Rattle.xr_types.specs.declared.operation.OpKind.TheVariants.{Add, Subtract, Multiply, FloorDivide, Remainder, Negate, Invert, Equal, NotEqual, Less, LessEqual};
 ghost use Rattle.strided_block.specs.Typed.{truth};
@@ -23,12 +24,19 @@ pub(crate) fn difference<T: Elem>(x: T, y: T) -> T
     T::wrap_from(x.widen() - y.widen())
 }
 
+/// The product, wrapped at 128 bits. That of two numbers of 64 bits without a sign may need them all.
+#[tactic(auto, using(std::proofs::lemmas::Int::wraps))]
+pub(crate) fn wrapped_product(x: i128, y: i128) -> i128
+    ensures { result ≡ int_wrap w128 (x *ℤ y) }
+{
+    x.wrapping_mul(y)
+}
+
 /// The product, as the kind leaves it.
-#[tactic(auto, using(crate::proofs::Bounds::kind_bounds))]
 pub(crate) fn product<T: Elem>(x: T, y: T) -> T
     ensures { Some (T.number result) ≡ elem Multiply T.kind (Some (T.number x)) (Some (T.number y)) }
 {
-    T::wrap_from(x.widen() * y.widen())
+    T::wrap_from(wrapped_product(x.widen(), y.widen()))
 }
 
 /// The quotient rounded down, as the kind leaves it, and 0 for a divisor of 0.

@@ -9,7 +9,7 @@ ghost use Rattle.elem_kernel.specs.Numbers.{HoldsNumber};
 
 use crate::arithmetic::combine_cells;
 use crate::truths::combine_truths;
-use crate::typed::{bools, bytes, chars, ints, longs, shorts};
+use crate::typed::{bools, bytes, chars, ints, longs, shorts, ubytes, uints, ulongs, ushorts};
 use strided_block::{TypedView, TypedWin};
 use xr_types::OpKind;
 /// Writes what an operation gives of the numbers of two views.
@@ -35,5 +35,9 @@ pub(crate) fn combine_numbers<'v>(
         TypedWin::Int16(w) => combine_cells(op, shorts(a), shorts(b), w),
         TypedWin::Int32(w) => combine_cells(op, ints(a), ints(b), w),
         TypedWin::Int64(w) => combine_cells(op, longs(a), longs(b), w),
+        TypedWin::UInt8(w) => combine_cells(op, ubytes(a), ubytes(b), w),
+        TypedWin::UInt16(w) => combine_cells(op, ushorts(a), ushorts(b), w),
+        TypedWin::UInt32(w) => combine_cells(op, uints(a), uints(b), w),
+        TypedWin::UInt64(w) => combine_cells(op, ulongs(a), ulongs(b), w),
     }
 }

@@ -7,7 +7,7 @@ ghost use Rattle.strided_block.specs.Typed.{view_kind, view_shape, number_shown,
 ghost use Rattle.strided_block.specs.Zips.{Zips};
 ghost use Rattle.elem_kernel.specs.Masks.{Picks, first_at_zero};
 
-use crate::typed::{bools, bytes, chars, ints, longs, shorts};
+use crate::typed::{bools, bytes, chars, ints, longs, shorts, ubytes, uints, ulongs, ushorts};
 use strided_block::{TypedView, TypedWin, View, Win, zip_cells};
 use xr_types::Elem;
 
@@ -63,5 +63,9 @@ pub(crate) fn pick_numbers<'v>(
         TypedWin::Int16(w) => pick_cells(shorts(first), shorts(second), by, w),
         TypedWin::Int32(w) => pick_cells(ints(first), ints(second), by, w),
         TypedWin::Int64(w) => pick_cells(longs(first), longs(second), by, w),
+        TypedWin::UInt8(w) => pick_cells(ubytes(first), ubytes(second), by, w),
+        TypedWin::UInt16(w) => pick_cells(ushorts(first), ushorts(second), by, w),
+        TypedWin::UInt32(w) => pick_cells(uints(first), uints(second), by, w),
+        TypedWin::UInt64(w) => pick_cells(ulongs(first), ulongs(second), by, w),
     }
 }

@@ -14,10 +14,9 @@ ghost use Rattle.elem_kernel.specs.Pairs.{Maps};
 use crate::number::{inversion, negation};
 use crate::pairs::map_cells;
 use crate::truths::invert_truths;
-use crate::typed::{bools, bytes, chars, ints, longs, shorts};
+use crate::typed::{bools, bytes, chars, ints, longs, shorts, ubytes, uints, ulongs, ushorts};
 use strided_block::{TypedView, TypedWin, View, Win};
-use xr_types::OpKind;
-use xr_types::Elem;
+use xr_types::{Elem, OpKind};
 
 // Writes the negated cells, or those with all bits turned.
 fn turn_cells<'v, T: Elem + Drop>(op: OpKind, a: &View<'v, T>, out: &mut Win<T>)
@@ -78,5 +77,9 @@ pub(crate) fn turn_numbers<'v>(op: OpKind, a: &TypedView<'v>, out: &mut TypedWin
         TypedWin::Int16(w) => turn_cells(op, shorts(a), w),
         TypedWin::Int32(w) => turn_cells(op, ints(a), w),
         TypedWin::Int64(w) => turn_cells(op, longs(a), w),
+        TypedWin::UInt8(w) => turn_cells(op, ubytes(a), w),
+        TypedWin::UInt16(w) => turn_cells(op, ushorts(a), w),
+        TypedWin::UInt32(w) => turn_cells(op, uints(a), w),
+        TypedWin::UInt64(w) => turn_cells(op, ulongs(a), w),
     }
 }

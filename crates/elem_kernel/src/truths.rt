@@ -13,6 +13,7 @@ use crate::number::{at_most, differs, equal, less};
 use crate::pairs::{map_cells, zip_pairs};
 use strided_block::{View, Win};
 use xr_types::OpKind;
+
 fn equals<'v>(a: &View<'v, u8>, b: &View<'v, u8>, out: &mut Win<u8>)
     requires { (a.now.shape ≡ out.old.shape) × (b.now.shape ≡ out.old.shape) }
     ensures place { Cut out.old out.new out.old.low out.old.shape }

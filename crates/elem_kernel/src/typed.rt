@@ -71,3 +71,47 @@ pub(crate) fn longs<'s, 'v>(view: &'s TypedView<'v>) -> &'s View<'v, i64>
         _ => unreachable!(),
     }
 }
+
+/// The view of numbers of 8 bits without a sign.
+pub(crate) fn ubytes<'s, 'v>(view: &'s TypedView<'v>) -> &'s View<'v, u8>
+    requires { view_kind view.now ≡ kinds.UInt8 }
+    ensures { view.now ≡ views.UInt8 result.now }
+{
+    match view {
+        TypedView::UInt8(cells) => cells,
+        _ => unreachable!(),
+    }
+}
+
+/// The view of numbers of 16 bits without a sign.
+pub(crate) fn ushorts<'s, 'v>(view: &'s TypedView<'v>) -> &'s View<'v, u16>
+    requires { view_kind view.now ≡ kinds.UInt16 }
+    ensures { view.now ≡ views.UInt16 result.now }
+{
+    match view {
+        TypedView::UInt16(cells) => cells,
+        _ => unreachable!(),
+    }
+}
+
+/// The view of numbers of 32 bits without a sign.
+pub(crate) fn uints<'s, 'v>(view: &'s TypedView<'v>) -> &'s View<'v, u32>
+    requires { view_kind view.now ≡ kinds.UInt32 }
+    ensures { view.now ≡ views.UInt32 result.now }
+{
+    match view {
+        TypedView::UInt32(cells) => cells,
+        _ => unreachable!(),
+    }
+}
+
+/// The view of numbers of 64 bits without a sign.
+pub(crate) fn ulongs<'s, 'v>(view: &'s TypedView<'v>) -> &'s View<'v, u64>
+    requires { view_kind view.now ≡ kinds.UInt64 }
+    ensures { view.now ≡ views.UInt64 result.now }
+{
+    match view {
+        TypedView::UInt64(cells) => cells,
+        _ => unreachable!(),
+    }
+}

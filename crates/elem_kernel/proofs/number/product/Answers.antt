@@ -1,15 +1,18 @@
-use Rattle.std.proofs.Common.{ap, ◌*ℤ◌, arith, lit<}
-use Rattle.std.proofs.lemmas.Int.{ints, fits_signed_mul}
+use Rattle.std.proofs.Common.{◌*ℤ◌, ap, ◌∙◌}
+use Rattle.std.specs.Int.{int_wrap, w128}
+use Rattle.std.proofs.lemmas.Int.{to_z-of_z}
 use Rattle.std.specs.Prelude.{Some}
 use mir.Val.{SFits}
-use mir.Syntax.{w128}
 use Rattle.xr_types.specs.Kinds.{wrap_to}
-use Rattle.elem_kernel.proofs.Bounds.{low_bound, high_bound, wrapped}
+use Rattle.elem_kernel.proofs.Bounds.{wrapped_one}
+use Rattle.elem_kernel.proofs.Products.{wrapped_before}
 use Rattle.elem_kernel.proofs.number.product.Goals as goal
 
 pub returns : goal.returns
 returns g c =
-    let l = low_bound g.T.Elem.kind in let h = high_bound g.T.Elem.kind in
-    let fits : SFits w128 (c.widen.result *ℤ c.widen-2.result) = fits_signed_mul w128 c.widen.result c.widen-2.result 9223372036854775808 9223372036854775808 (grind (arith, ints)) (grind (arith, ints)) (lit< tt) in
-    ap Some (wrapped g.T.Elem.of g.T.Elem.number (wrap_to g.T.Elem.kind) g.met.T.Elem.number_of (λ m n. m *ℤ n) c.widen.result c.widen-2.result (g.T.Elem.number c.args.x) (g.T.Elem.number c.args.y) c.wrap_from.result c.widen.ensures.value c.widen-2.ensures.value
-    (record { sfits = c.widen.type_inv }) (record { sfits = c.widen-2.type_inv }) fits c.wrap_from.ensures)
+    let fx : SFits w128 c.widen.result = record { sfits = c.widen.type_inv } in
+    let fy : SFits w128 c.widen-2.result = record { sfits = c.widen-2.type_inv } in
+    let fits : SFits w128 c.wrapped_product.result = record { sfits = c.wrapped_product.type_inv } in
+    ap Some (wrapped_one g.T.Elem.of g.T.Elem.number (wrap_to g.T.Elem.kind) g.met.T.Elem.number_of c.wrapped_product.result _ c.wrap_from.result fits
+    (c.wrapped_product.ensures ∙ (λ i. int_wrap w128 (to_z-of_z w128 c.widen.result fx i *ℤ to_z-of_z w128 c.widen-2.result fy i)) ∙ (λ i. int_wrap w128 (c.widen.ensures.value i *ℤ c.widen-2.ensures.value i))) c.wrap_from.ensures
+    ∙ wrapped_before g.T.Elem.kind (g.T.Elem.number c.args.x *ℤ g.T.Elem.number c.args.y))
