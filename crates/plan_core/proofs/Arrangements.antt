@@ -5,7 +5,7 @@ use Rattle.std.specs.List.{All, zip}
 use Rattle.std.proofs.lemmas.Int.{ints}
 use Rattle.std.proofs.lemmas.List.{get_or-map, length-replicate, length-map}
 use Rattle.std.proofs.lemmas.Slice.Zip.{get_or-zip, length-zip}
-use Rattle.xr_types.specs.Kinds.{InRange, low, wrap_to}
+use Rattle.xr_types.specs.Kinds.{InRange, wrap_to}
 use Rattle.xr_types.specs.declared.kind.DType.{DType}
 use Rattle.xr_types.specs.declared.kind.DType.TheVariants as kinds
 use Rattle.xr_types.proofs.Wrapping.{wrapped_only}

@@ -15,6 +15,7 @@ pub mod Concats
 pub mod TakenValues
 pub mod FoldRows
 pub mod Narrowing
-pub mod Folded
+pub mod ElementRanges
+pub mod Valued
 pub mod Needs
 pub mod Fitting

@@ -8,18 +8,24 @@ use Rattle.std.proofs.lemmas.List.Elements.{All-head, All-tail, All-cons}
 use Rattle.std.proofs.Math.Seq.{get_or-append_seam}
 use Rattle.std.proofs.Math.ListN.{get_or-append}
 use Rattle.xr_arrays.specs.declared.node.Node.{Node}
-use Rattle.xr_arrays.specs.declared.node.Node.TheVariants.{Source, Take, Reorder, Widen, Fold, Concat}
+use Rattle.xr_arrays.specs.declared.node.Node.TheVariants.{Source, Take, Reorder, Widen, Unary, Binary, Choose, Fold, Scan, Concat, Chunk}
 use Rattle.xr_arrays.specs.declared.node.Feed.{Feed}
+use Rattle.xr_types.specs.declared.kind.DType.{DType}
+use Rattle.xr_types.specs.declared.kind.DType.TheVariants.{Bool as truths}
+use Rattle.xr_types.specs.declared.operation.OpKind.{OpKind}
 use Rattle.xr_types.specs.declared.operation.FoldKind.{FoldKind}
+use Rattle.xr_types.specs.declared.operation.FoldKind.TheVariants as folds
 use Rattle.xr_types.specs.Points.{size}
-use Rattle.xr_arrays.specs.Arrays.{Array, IsCell}
-use Rattle.xr_arrays.specs.Nodes.{value, values, node_value, input_of, nothing, AllFit, Fits, IsBelow, IsOrder, Continues, first_array, concatenated, taken_or_picked, reordered, widened, folded, kept, most_node_cells}
+use Rattle.xr_arrays.specs.Arrays.{Array, IsArray, IsCell}
+use Rattle.xr_arrays.specs.Elements.{unary_of, binary_of, choose_of, result_kind, takes_one, takes_two, Gives, Suits}
+use Rattle.xr_arrays.specs.Nodes.{value, values, node_value, node_of, input_of, nothing, AllFit, Fits, FitsBy, AreFed, IsBelow, IsOrder, Continues, first_array, concatenated, taken_or_picked, reordered, widened, folded, folded_axes, is_positional, scanned, kept, most_axes, most_node_cells}
 use Rattle.plan_core.specs.Plans.{Grows}
 use Rattle.plan_core.specs.Takes.{taking_sizes, IsTaking}
 use Rattle.plan_core.specs.Widens.{IsWidening}
-use Rattle.plan_core.specs.Needs.{inputs_of, inputs_at, source_of, source_at, IsClosedFrom, IsHeld, AreHeld, node_by, FitsBy, IsReady}
+use Rattle.plan_core.specs.Needs.{inputs_of, inputs_at, source_of, source_at, IsClosedFrom, IsHeld, AreHeld, IsReady}
 use Rattle.plan_core.proofs.Plans.{values-append, values-length, grown_value, fits_at}
 use Rattle.plan_core.proofs.Concats.{all_more}
+use Rattle.plan_core.proofs.Valued.{value_is_array}
 
 -- ---- a node's value by those of the nodes before it
 
@@ -46,50 +52,88 @@ map_agree : (f g : ℕ → Array) (i : ℕ) (ns : List ℕ) → ((m : ℕ) → m
 map_agree f g i [] h all = refl
 map_agree f g i (n ∷ ns) h all = ap (λ a. a ∷ map f ns) (h n (All-head (λ m. m < i) n ns all)) ∙ ap (λ t. g n ∷ t) (map_agree f g i ns h (All-tail (λ m. m < i) n ns all))
 
-all_single : {A : Type 0} (P : A → Type 0) (x : A) → P x → All P (x ∷ [])
+pub all_single : {A : Type 0} (P : A → Type 0) (x : A) → P x → All P (x ∷ [])
 all_single P x h = All-cons P x [] h (λ k d lt. absurd (omega arith))
 
+-- the inputs are among the earlier nodes
+pub inputs_below : (i : ℕ) (f : ℕ → Array) (node : Node) → FitsBy i f node → All (λ m. m < i) (inputs_of node)
+inputs_below i f (Source a) fits = λ k d lt. absurd (omega arith)
+inputs_below i f (Take n axis from fill drops) fits = all_single (λ m. m < i) n fits.0
+inputs_below i f (Reorder n order) fits = all_single (λ m. m < i) n fits.0
+inputs_below i f (Widen n axis count) fits = all_single (λ m. m < i) n fits.0
+inputs_below i f (Unary op kind n) fits = all_single (λ m. m < i) n fits.0
+inputs_below i f (Binary op m n) fits = All-cons (λ m. m < i) m (n ∷ []) fits.0 (all_single (λ m. m < i) n fits.1)
+inputs_below i f (Choose c m n) fits = All-cons (λ m. m < i) c (m ∷ n ∷ []) fits.0 (All-cons (λ m. m < i) m (n ∷ []) fits.1 (all_single (λ m. m < i) n fits.2))
+inputs_below i f (Fold k n feeds) fits = all_single (λ m. m < i) n fits.0
+inputs_below i f (Scan k n axis) fits = all_single (λ m. m < i) n fits.0
+inputs_below i f (Concat ns axis) fits = fits.1
+inputs_below i f (Chunk n sizes) fits = all_single (λ m. m < i) n fits.0
+
+-- values that agree on the earlier nodes give the node one value
+module _ (i : ℕ) (f g : ℕ → Array) (h : (m : ℕ) → m < i → f m ≡ g m) where
+  pub node_agrees : (node : Node) → FitsBy i f node → node_of f node ≡ node_of g node
+  node_agrees (Source a) fits = refl
+  node_agrees (Take n axis from fill drops) fits = ap (λ a. taken_or_picked drops a axis from fill) (h n fits.0)
+  node_agrees (Reorder n order) fits = ap (λ a. reordered a order) (h n fits.0)
+  node_agrees (Widen n axis count) fits = ap (λ a. widened a axis count) (h n fits.0)
+  node_agrees (Unary op kind n) fits = ap (unary_of op kind) (h n fits.0)
+  node_agrees (Binary op m n) fits = ap (λ (a : Array). binary_of op (result_kind op a.kind) a (f n)) (h m fits.0) ∙ ap (binary_of op (result_kind op (g m).kind) (g m)) (h n fits.1)
+  node_agrees (Choose c m n) fits = ap (λ a. choose_of a (f m) (f n)) (h c fits.0) ∙ ap (λ a. choose_of (g c) a (f n)) (h m fits.1) ∙ ap (choose_of (g c) (g m)) (h n fits.2)
+  node_agrees (Fold k n feeds) fits = ap (folded k feeds) (h n fits.0)
+  node_agrees (Scan k n axis) fits = ap (λ a. scanned k a axis) (h n fits.0)
+  node_agrees (Concat ns axis) fits = ap (λ bs. concatenated bs axis) (map_agree f g i ns h fits.1)
+  node_agrees (Chunk n sizes) fits = h n fits.0
+
+  pub fits_agree : (node : Node) → FitsBy i f node → FitsBy i g node
+  fits_agree (Source a) fits = fits
+  fits_agree (Take n axis from fill drops) fits =
+      let e = h n fits.0 in
+      (fits.0, subst (λ (a : Array). axis < length a.shape) e fits.1, subst (λ (a : Array). All (IsBelow (get_or a.shape axis 0)) from) e fits.2, subst (λ (a : Array). IsCell a.kind fill) e fits.3, fits.4)
+  fits_agree (Reorder n order) fits = (fits.0, subst (λ (a : Array). IsOrder (length a.shape) order) (h n fits.0) fits.1)
+  fits_agree (Widen n axis count) fits = (fits.0, subst (λ (a : Array). axis ≤ length a.shape) (h n fits.0) fits.1)
+  fits_agree (Unary op kind n) fits = let e = h n fits.0 in (fits.0, fits.1, subst (λ (a : Array). Gives op kind a.kind) e fits.2, subst (λ (a : Array). Suits op a.kind) e fits.3)
+  fits_agree (Binary op m n) fits =
+      let d = h m fits.0 in
+      let e = h n fits.1 in
+      (fits.0, fits.1, fits.2, ap (λ (a : Array). a.shape) (sym e) ∙ fits.3 ∙ ap (λ (a : Array). a.shape) d, ap (λ (a : Array). a.kind) (sym e) ∙ fits.4 ∙ ap (λ (a : Array). a.kind) d, subst (λ (a : Array). Suits op a.kind) d fits.5)
+  fits_agree (Choose c m n) fits =
+      let b = h c fits.0 in
+      let d = h m fits.1 in
+      let e = h n fits.2 in (
+        fits.0,
+        fits.1,
+        fits.2,
+        ap (λ (a : Array). a.kind) (sym b) ∙ fits.3,
+        ap (λ (a : Array). a.shape) (sym b) ∙ fits.4 ∙ ap (λ (a : Array). a.shape) d,
+        ap (λ (a : Array). a.shape) (sym e) ∙ fits.5 ∙ ap (λ (a : Array). a.shape) d,
+        ap (λ (a : Array). a.kind) (sym e) ∙ fits.6 ∙ ap (λ (a : Array). a.kind) d,
+      )
+  fits_agree (Fold k n feeds) fits = let e = h n fits.0 in (fits.0, subst (λ (a : Array). length feeds ≡ length a.shape) e fits.1, subst (λ (a : Array). AreFed feeds a.shape) e fits.2, fits.3)
+  fits_agree (Scan k n axis) fits = (fits.0, fits.1, subst (λ (a : Array). axis < length a.shape) (h n fits.0) fits.2)
+  fits_agree (Concat ns axis) fits =
+      let e : map f ns ≡ map g ns = map_agree f g i ns h fits.1 in (
+        fits.0,
+        fits.1,
+        subst (λ (bs : List Array). axis < length (first_array bs).shape) e fits.2,
+        λ k d lt. subst (λ (b : Array). Continues axis (first_array (map g ns)) b) (h (get_or ns k d) (fits.1 k d lt)) (subst (λ (bs : List Array). Continues axis (first_array bs) (f (get_or ns k d))) e (fits.3 k d lt)),
+      )
+  fits_agree (Chunk n sizes) fits = (fits.0, subst (λ (a : Array). length sizes ≡ length a.shape) (h n fits.0) fits.1, fits.2)
+
 pub record ByEarlier (nodes : List Node) (i : ℕ) (node : Node) : Type 0 where
-  pub is : node_value (values (take i nodes)) node ≡ node_by (value nodes) node
-  pub fits : FitsBy (value nodes) node
+  pub is : node_value (values (take i nodes)) node ≡ node_of (value nodes) node
+  pub fits : FitsBy i (value nodes) node
   pub before : All (λ m. m < i) (inputs_of node)
 
 by_earlier : (nodes : List Node) (i : ℕ) (node : Node) → i ≤ length nodes → Fits (values (take i nodes)) node → ByEarlier nodes i node
 unfolding node_value
-by_earlier nodes i (Source a) le fits = record { is = refl; fits = tt; before = λ k d lt. absurd (omega arith) }
-by_earlier nodes i (Take n axis from fill drops) le fits =
-    let long : length (values (take i nodes)) ≡ i = values-length (take i nodes) ∙ take-length nodes i le in
-    let lt : n < i = let h = fits.0 in omega (arith, h, long) in
-    let e = earlier nodes i n le lt in
-    record {
-      is = ap (λ a. taken_or_picked drops a axis from fill) e;
-      fits = subst (λ (a : Array). (axis < length a.shape) × All (IsBelow (get_or a.shape axis 0)) from × IsCell a.kind fill × (drops ≡ true → length from ≡ 1)) e (fits.1, fits.2, fits.3, fits.4);
-      before = all_single (λ m. m < i) n lt;
-    }
-by_earlier nodes i (Reorder n order) le fits =
-    let long : length (values (take i nodes)) ≡ i = values-length (take i nodes) ∙ take-length nodes i le in
-    let lt : n < i = let h = fits.0 in omega (arith, h, long) in
-    let e = earlier nodes i n le lt in
-    record { is = ap (λ a. reordered a order) e; fits = subst (λ (a : Array). IsOrder (length a.shape) order) e fits.1; before = all_single (λ m. m < i) n lt }
-by_earlier nodes i (Widen n axis count) le fits =
-    let long : length (values (take i nodes)) ≡ i = values-length (take i nodes) ∙ take-length nodes i le in
-    let lt : n < i = let h = fits.0 in omega (arith, h, long) in
-    let e = earlier nodes i n le lt in
-    record { is = ap (λ a. widened a axis count) e; fits = subst (λ (a : Array). axis ≤ length a.shape) e fits.1; before = all_single (λ m. m < i) n lt }
-by_earlier nodes i (Fold k n feeds) le fits =
-    let long : length (values (take i nodes)) ≡ i = values-length (take i nodes) ∙ take-length nodes i le in
-    let lt : n < i = let h = fits.0 in omega (arith, h, long) in
-    let e = earlier nodes i n le lt in
-    record { is = ap (folded k feeds) e; fits = subst (λ (a : Array). length feeds ≡ length a.shape) e fits.1; before = all_single (λ m. m < i) n lt }
-by_earlier nodes i (Concat ns axis) le fits =
+by_earlier nodes i node le fits =
     let done : List Array = values (take i nodes) in
     let long : length done ≡ i = values-length (take i nodes) ∙ take-length nodes i le in
-    let before : All (λ m. m < i) ns = subst (λ k. All (λ m. m < k) ns) long fits.1 in
-    let e : map (input_of done) ns ≡ map (value nodes) ns = map_agree (input_of done) (value nodes) i ns (λ m lt. earlier nodes i m le lt) before in
+    let here : FitsBy i (input_of done) node = subst (λ k. FitsBy k (input_of done) node) long fits in
     record {
-      is = ap (λ bs. concatenated bs axis) e;
-      fits = (fits.0, subst (λ (bs : List Array). axis < length (first_array bs).shape) e fits.2, λ k d lt. subst (λ (b : Array). Continues axis (first_array (map (value nodes) ns)) b) (earlier nodes i (get_or ns k d) le (before k d lt)) (subst (λ (bs : List Array). Continues axis (first_array bs) (input_of done (get_or ns k d))) e (fits.3 k d lt)));
-      before = before;
+      is = node_agrees i (input_of done) (value nodes) (λ m lt. earlier nodes i m le lt) node here;
+      fits = fits_agree i (input_of done) (value nodes) (λ m lt. earlier nodes i m le lt) node here;
+      before = inputs_below i (input_of done) node here;
     }
 
 -- ---- a node in its plan
@@ -114,8 +158,11 @@ inputs_before nodes i d fit lt = subst (All (λ m. m < i)) (sym (inputs_at_is no
 pub value_small : (nodes : List Node) (i : ℕ) (d : Node) → AllFit [] nodes → i < length nodes → size (value nodes i).shape ≤ most_node_cells
 value_small nodes i d fit lt = subst (λ (a : Array). size a.shape ≤ most_node_cells) (sym (value_at nodes i d lt)) (fits_at nodes i d fit lt).small
 
-pub by_inputs : (nodes : List Node) (i : ℕ) (node : Node) → AllFit [] nodes → i < length nodes → node ≡ get_or nodes i node → value nodes i ≡ node_by (value nodes) node
-by_inputs nodes i node fit lt is = value_at nodes i node lt ∙ (node_at nodes i node fit lt).is ∙ ap (node_by (value nodes)) (sym is)
+pub value_rank : (nodes : List Node) (i : ℕ) (d : Node) → AllFit [] nodes → i < length nodes → length (value nodes i).shape ≤ most_axes
+value_rank nodes i d fit lt = subst (λ (a : Array). length a.shape ≤ most_axes) (sym (value_at nodes i d lt)) (fits_at nodes i d fit lt).low_rank
+
+pub by_inputs : (nodes : List Node) (i : ℕ) (node : Node) → AllFit [] nodes → i < length nodes → node ≡ get_or nodes i node → value nodes i ≡ node_of (value nodes) node
+by_inputs nodes i node fit lt is = value_at nodes i node lt ∙ (node_at nodes i node fit lt).is ∙ ap (node_of (value nodes)) (sym is)
 
 pub ready : (nodes : List Node) (done : List (Option Array)) (i : ℕ) (node : Node) → AllFit [] nodes → i < length nodes → node ≡ get_or nodes i node → All (IsHeld nodes done) (inputs_at nodes i) → IsReady nodes done node
 ready nodes done i node fit lt is held =
@@ -123,9 +170,11 @@ ready nodes done i node fit lt is held =
     let same : inputs_at nodes i ≡ inputs_of node = inputs_at_is nodes i node lt ∙ ap inputs_of (sym is) in
     let inputs : All (IsHeld nodes done) (inputs_of node) = subst (All (IsHeld nodes done)) same held in
     record {
+      place = i;
       inputs = inputs;
+      arrays = λ k d lt. value_is_array nodes (get_or (inputs_of node) k d) fit (inputs k d lt).there;
       few = λ k d lt. value_small nodes (get_or (inputs_of node) k d) node fit (inputs k d lt).there;
-      fits = subst (FitsBy (value nodes)) (sym is) by.fits;
+      fits = subst (FitsBy i (value nodes)) (sym is) by.fits;
       small = subst (λ (a : Array). size a.shape ≤ most_node_cells) (by_inputs nodes i node fit lt is) (value_small nodes i node fit lt);
     }
 
@@ -179,7 +228,7 @@ pub record TakeReady (nodes : List Node) (done : List (Option Array)) (node : No
   pub held : IsHeld nodes done n
   pub taking : IsTaking drops (value nodes n).shape axis from
   pub fill_is : IsCell (value nodes n).kind fill
-  pub is : taken_or_picked drops (value nodes n) axis from fill ≡ node_by (value nodes) node
+  pub is : taken_or_picked drops (value nodes n) axis from fill ≡ node_of (value nodes) node
 
 pub take_ready : (nodes : List Node) (done : List (Option Array)) (node : Node) (n axis : ℕ) (from : List (Option ℕ)) (fill : Option ℤ) (drops : Bool) → node ≡ Take n axis from fill drops → IsReady nodes done node → TakeReady nodes done node n axis from fill drops
 take_ready nodes done node n axis from fill drops is can =
@@ -187,14 +236,14 @@ take_ready nodes done node n axis from fill drops is can =
     record {
       held = All-head (IsHeld nodes done) n [] r.inputs;
       taking = record {
-        axis_is = r.fits.0;
-        inside = r.fits.1;
+        axis_is = r.fits.1;
+        inside = r.fits.2;
         few = All-head (λ m. size (value nodes m).shape ≤ most_node_cells) n [] r.few;
-        one = r.fits.3;
+        one = r.fits.4;
         small = subst (λ (t : List ℕ). size t ≤ most_node_cells) (shape_taken drops (value nodes n) axis from fill) r.small;
       };
-      fill_is = r.fits.2;
-      is = ap (node_by (value nodes)) (sym is);
+      fill_is = r.fits.3;
+      is = ap (node_of (value nodes)) (sym is);
     }
 
 pub record ReorderReady (nodes : List Node) (done : List (Option Array)) (node : Node) (n : ℕ) (order : List ℕ) : Type 0 where
@@ -202,34 +251,130 @@ pub record ReorderReady (nodes : List Node) (done : List (Option Array)) (node :
   pub each : IsOrder (length (value nodes n).shape) order
   pub few : size (value nodes n).shape ≤ most_node_cells
   pub small : size (reordered (value nodes n) order).shape ≤ most_node_cells
-  pub is : reordered (value nodes n) order ≡ node_by (value nodes) node
+  pub is : reordered (value nodes n) order ≡ node_of (value nodes) node
 
 pub reorder_ready : (nodes : List Node) (done : List (Option Array)) (node : Node) (n : ℕ) (order : List ℕ) → node ≡ Reorder n order → IsReady nodes done node → ReorderReady nodes done node n order
 reorder_ready nodes done node n order is can =
     let r : IsReady nodes done (Reorder n order) = subst (IsReady nodes done) is can in
-    record { held = All-head (IsHeld nodes done) n [] r.inputs; each = r.fits; few = All-head (λ m. size (value nodes m).shape ≤ most_node_cells) n [] r.few; small = r.small; is = ap (node_by (value nodes)) (sym is) }
+    record { held = All-head (IsHeld nodes done) n [] r.inputs; each = r.fits.1; few = All-head (λ m. size (value nodes m).shape ≤ most_node_cells) n [] r.few; small = r.small; is = ap (node_of (value nodes)) (sym is) }
 
 pub record WidenReady (nodes : List Node) (done : List (Option Array)) (node : Node) (n axis count : ℕ) : Type 0 where
   pub held : IsHeld nodes done n
   pub widening : IsWidening (value nodes n).shape axis count
-  pub is : widened (value nodes n) axis count ≡ node_by (value nodes) node
+  pub is : widened (value nodes n) axis count ≡ node_of (value nodes) node
 
 pub widen_ready : (nodes : List Node) (done : List (Option Array)) (node : Node) (n axis count : ℕ) → node ≡ Widen n axis count → IsReady nodes done node → WidenReady nodes done node n axis count
 widen_ready nodes done node n axis count is can =
     let r : IsReady nodes done (Widen n axis count) = subst (IsReady nodes done) is can in
-    record { held = All-head (IsHeld nodes done) n [] r.inputs; widening = record { axis_is = r.fits; few = All-head (λ m. size (value nodes m).shape ≤ most_node_cells) n [] r.few; small = r.small }; is = ap (node_by (value nodes)) (sym is) }
+    record { held = All-head (IsHeld nodes done) n [] r.inputs; widening = record { axis_is = r.fits.1; few = All-head (λ m. size (value nodes m).shape ≤ most_node_cells) n [] r.few; small = r.small }; is = ap (node_of (value nodes)) (sym is) }
 
 pub record FoldReady (nodes : List Node) (done : List (Option Array)) (node : Node) (k : FoldKind) (n : ℕ) (feeds : List Feed) : Type 0 where
   pub held : IsHeld nodes done n
   pub feeds_are : length feeds ≡ length (value nodes n).shape
+  pub fed : AreFed feeds (value nodes n).shape
+  pub one_axis : is_positional k ≡ true → folded_axes feeds ≡ 1
   pub few : size (value nodes n).shape ≤ most_node_cells
   pub small : size (kept feeds (value nodes n).shape) ≤ most_node_cells
-  pub is : folded k feeds (value nodes n) ≡ node_by (value nodes) node
+  pub is : folded k feeds (value nodes n) ≡ node_of (value nodes) node
 
 pub fold_ready : (nodes : List Node) (done : List (Option Array)) (node : Node) (k : FoldKind) (n : ℕ) (feeds : List Feed) → node ≡ Fold k n feeds → IsReady nodes done node → FoldReady nodes done node k n feeds
 fold_ready nodes done node k n feeds is can =
     let r : IsReady nodes done (Fold k n feeds) = subst (IsReady nodes done) is can in
-    record { held = All-head (IsHeld nodes done) n [] r.inputs; feeds_are = r.fits; few = All-head (λ m. size (value nodes m).shape ≤ most_node_cells) n [] r.few; small = r.small; is = ap (node_by (value nodes)) (sym is) }
+    record { held = All-head (IsHeld nodes done) n [] r.inputs; feeds_are = r.fits.1; fed = r.fits.2; one_axis = r.fits.3; few = All-head (λ m. size (value nodes m).shape ≤ most_node_cells) n [] r.few; small = r.small; is = ap (node_of (value nodes)) (sym is) }
+
+pub record ScanReady (nodes : List Node) (done : List (Option Array)) (node : Node) (k : FoldKind) (n axis : ℕ) : Type 0 where
+  pub held : IsHeld nodes done n
+  pub sum : k ≡ folds.Sum
+  pub axis_is : axis < length (value nodes n).shape
+  pub few : size (value nodes n).shape ≤ most_node_cells
+  pub is : scanned k (value nodes n) axis ≡ node_of (value nodes) node
+
+pub scan_ready : (nodes : List Node) (done : List (Option Array)) (node : Node) (k : FoldKind) (n axis : ℕ) → node ≡ Scan k n axis → IsReady nodes done node → ScanReady nodes done node k n axis
+scan_ready nodes done node k n axis is can =
+    let r : IsReady nodes done (Scan k n axis) = subst (IsReady nodes done) is can in
+    record { held = All-head (IsHeld nodes done) n [] r.inputs; sum = r.fits.1; axis_is = r.fits.2; few = All-head (λ m. size (value nodes m).shape ≤ most_node_cells) n [] r.few; is = ap (node_of (value nodes)) (sym is) }
+
+pub record ChunkReady (nodes : List Node) (done : List (Option Array)) (node : Node) (n : ℕ) : Type 0 where
+  pub held : IsHeld nodes done n
+  pub is : value nodes n ≡ node_of (value nodes) node
+
+pub chunk_ready : (nodes : List Node) (done : List (Option Array)) (node : Node) (n : ℕ) (sizes : List (Option ℕ)) → node ≡ Chunk n sizes → IsReady nodes done node → ChunkReady nodes done node n
+chunk_ready nodes done node n sizes is can =
+    let r : IsReady nodes done (Chunk n sizes) = subst (IsReady nodes done) is can in
+    record { held = All-head (IsHeld nodes done) n [] r.inputs; is = ap (node_of (value nodes)) (sym is) }
+
+pub record UnaryReady (nodes : List Node) (done : List (Option Array)) (node : Node) (op : OpKind) (kind : DType) (n : ℕ) : Type 0 where
+  pub held : IsHeld nodes done n
+  pub array : IsArray (value nodes n)
+  pub one : takes_one op ≡ true
+  pub gives : Gives op kind (value nodes n).kind
+  pub suits : Suits op (value nodes n).kind
+  pub is : unary_of op kind (value nodes n) ≡ node_of (value nodes) node
+
+pub unary_ready : (nodes : List Node) (done : List (Option Array)) (node : Node) (op : OpKind) (kind : DType) (n : ℕ) → node ≡ Unary op kind n → IsReady nodes done node → UnaryReady nodes done node op kind n
+unary_ready nodes done node op kind n is can =
+    let r : IsReady nodes done (Unary op kind n) = subst (IsReady nodes done) is can in
+    record { held = All-head (IsHeld nodes done) n [] r.inputs; array = All-head (λ m. IsArray (value nodes m)) n [] r.arrays; one = r.fits.1; gives = r.fits.2; suits = r.fits.3; is = ap (node_of (value nodes)) (sym is) }
+
+pub record BinaryReady (nodes : List Node) (done : List (Option Array)) (node : Node) (op : OpKind) (m n : ℕ) : Type 0 where
+  pub held : IsHeld nodes done m
+  pub other_held : IsHeld nodes done n
+  pub array : IsArray (value nodes m)
+  pub other : IsArray (value nodes n)
+  pub two : takes_two op ≡ true
+  pub shape : (value nodes n).shape ≡ (value nodes m).shape
+  pub kind : (value nodes n).kind ≡ (value nodes m).kind
+  pub suits : Suits op (value nodes m).kind
+  pub is : binary_of op (result_kind op (value nodes m).kind) (value nodes m) (value nodes n) ≡ node_of (value nodes) node
+
+pub binary_ready : (nodes : List Node) (done : List (Option Array)) (node : Node) (op : OpKind) (m n : ℕ) → node ≡ Binary op m n → IsReady nodes done node → BinaryReady nodes done node op m n
+binary_ready nodes done node op m n is can =
+    let r : IsReady nodes done (Binary op m n) = subst (IsReady nodes done) is can in
+    let rest = All-tail (IsHeld nodes done) m (n ∷ []) r.inputs in
+    let arrays = All-tail (λ m. IsArray (value nodes m)) m (n ∷ []) r.arrays in
+    record {
+      held = All-head (IsHeld nodes done) m (n ∷ []) r.inputs;
+      other_held = All-head (IsHeld nodes done) n [] rest;
+      array = All-head (λ m. IsArray (value nodes m)) m (n ∷ []) r.arrays;
+      other = All-head (λ m. IsArray (value nodes m)) n [] arrays;
+      two = r.fits.2;
+      shape = r.fits.3;
+      kind = r.fits.4;
+      suits = r.fits.5;
+      is = ap (node_of (value nodes)) (sym is);
+    }
+
+pub record ChooseReady (nodes : List Node) (done : List (Option Array)) (node : Node) (c m n : ℕ) : Type 0 where
+  pub cond_held : IsHeld nodes done c
+  pub held : IsHeld nodes done m
+  pub other_held : IsHeld nodes done n
+  pub cond : IsArray (value nodes c)
+  pub array : IsArray (value nodes m)
+  pub other : IsArray (value nodes n)
+  pub truth : (value nodes c).kind ≡ truths
+  pub cond_shape : (value nodes c).shape ≡ (value nodes m).shape
+  pub shape : (value nodes n).shape ≡ (value nodes m).shape
+  pub kind : (value nodes n).kind ≡ (value nodes m).kind
+  pub is : choose_of (value nodes c) (value nodes m) (value nodes n) ≡ node_of (value nodes) node
+
+pub choose_ready : (nodes : List Node) (done : List (Option Array)) (node : Node) (c m n : ℕ) → node ≡ Choose c m n → IsReady nodes done node → ChooseReady nodes done node c m n
+choose_ready nodes done node c m n is can =
+    let r : IsReady nodes done (Choose c m n) = subst (IsReady nodes done) is can in
+    let held = All-tail (IsHeld nodes done) c (m ∷ n ∷ []) r.inputs in
+    let arrays = All-tail (λ m. IsArray (value nodes m)) c (m ∷ n ∷ []) r.arrays in
+    record {
+      cond_held = All-head (IsHeld nodes done) c (m ∷ n ∷ []) r.inputs;
+      held = All-head (IsHeld nodes done) m (n ∷ []) held;
+      other_held = All-head (IsHeld nodes done) n [] (All-tail (IsHeld nodes done) m (n ∷ []) held);
+      cond = All-head (λ m. IsArray (value nodes m)) c (m ∷ n ∷ []) r.arrays;
+      array = All-head (λ m. IsArray (value nodes m)) m (n ∷ []) arrays;
+      other = All-head (λ m. IsArray (value nodes m)) n [] (All-tail (λ m. IsArray (value nodes m)) m (n ∷ []) arrays);
+      truth = r.fits.3;
+      cond_shape = r.fits.4;
+      shape = r.fits.5;
+      kind = r.fits.6;
+      is = ap (node_of (value nodes)) (sym is);
+    }
 
 -- the values that a list refers to
 pub record ConcatReady {B : Type 0} (now : B → Array) (nodes : List Node) (node : Node) (xs : List B) (axis : ℕ) : Type 0 where
@@ -237,7 +382,7 @@ pub record ConcatReady {B : Type 0} (now : B → Array) (nodes : List Node) (nod
   pub axis_is : axis < length (first_array (map now xs)).shape
   pub each : All (λ b. Continues axis (first_array (map now xs)) (now b)) xs
   pub small : size (concatenated (map now xs) axis).shape ≤ most_node_cells
-  pub is : concatenated (map now xs) axis ≡ node_by (value nodes) node
+  pub is : concatenated (map now xs) axis ≡ node_of (value nodes) node
 
 pub concat_held : (nodes : List Node) (done : List (Option Array)) (node : Node) (ns : List ℕ) (axis : ℕ) → node ≡ Concat ns axis → IsReady nodes done node → All (IsHeld nodes done) ns
 concat_held nodes done node ns axis is can = (subst (IsReady nodes done) is can).inputs
@@ -254,13 +399,13 @@ pub concat_ready : {B : Type 0} (now : B → Array) (nodes : List Node) (done : 
 concat_ready now nodes done node xs ns axis is can same =
     let r : IsReady nodes done (Concat ns axis) = subst (IsReady nodes done) is can in
     let long : length xs ≡ length ns = sym (length-map xs now) ∙ ap length same ∙ length-map ns (value nodes) in
-    let all : All (Continues axis (first_array (map (value nodes) ns))) (map (value nodes) ns) = all_values nodes axis (first_array (map (value nodes) ns)) ns r.fits.2 in
+    let all : All (Continues axis (first_array (map (value nodes) ns))) (map (value nodes) ns) = all_values nodes axis (first_array (map (value nodes) ns)) ns r.fits.3 in
     record {
       some = let s = r.fits.0 in omega (arith, s, long);
-      axis_is = subst (λ (bs : List Array). axis < length (first_array bs).shape) (sym same) r.fits.1;
+      axis_is = subst (λ (bs : List Array). axis < length (first_array bs).shape) (sym same) r.fits.2;
       each = all_now now axis (first_array (map now xs)) xs (subst (λ (bs : List Array). All (Continues axis (first_array bs)) bs) (sym same) all);
       small = subst (λ (bs : List Array). size (concatenated bs axis).shape ≤ most_node_cells) (sym same) r.small;
-      is = ap (λ bs. concatenated bs axis) same ∙ ap (node_by (value nodes)) (sym is);
+      is = ap (λ bs. concatenated bs axis) same ∙ ap (node_of (value nodes)) (sym is);
     }
 
 -- ---- what the code has at hand
@@ -297,13 +442,18 @@ kept_held nodes done m node o held is none is_kept =
 pub kept_value : (nodes : List Node) (m : ℕ) (a : Array) (o : Option Array) → o ≡ Some (value nodes m) → Some a ≡ o → a ≡ value nodes m
 kept_value nodes m a o is here = some_same a (value nodes m) (here ∙ is)
 
-source_is : (f : ℕ → Array) (node : Node) → is_some (source_of node) ≡ true → option_or (source_of node) None ≡ Some (node_by f node)
+source_is : (f : ℕ → Array) (node : Node) → is_some (source_of node) ≡ true → option_or (source_of node) None ≡ Some (node_of f node)
 source_is f (Source a) some = refl
 source_is f (Take n axis from fill drops) some = absurd cc
 source_is f (Reorder n order) some = absurd cc
 source_is f (Widen n axis count) some = absurd cc
 source_is f (Fold k n feeds) some = absurd cc
 source_is f (Concat ns axis) some = absurd cc
+source_is f (Unary op kind n) some = absurd cc
+source_is f (Binary op m n) some = absurd cc
+source_is f (Choose c m n) some = absurd cc
+source_is f (Scan k n axis) some = absurd cc
+source_is f (Chunk n sizes) some = absurd cc
 
 other_is : (node : Node) (a : Array) → is_some (source_of node) ≡ false → option_or (source_of node) (Some a) ≡ Some a
 other_is (Source x) a none = absurd cc
@@ -312,6 +462,11 @@ other_is (Reorder n order) a none = refl
 other_is (Widen n axis count) a none = refl
 other_is (Fold k n feeds) a none = refl
 other_is (Concat ns axis) a none = refl
+other_is (Unary op kind n) a none = refl
+other_is (Binary op m n) a none = refl
+other_is (Choose c m n) a none = refl
+other_is (Scan k n axis) a none = refl
+other_is (Chunk n sizes) a none = refl
 
 -- nothing is kept of a source
 pub source_next : (nodes : List Node) (at : ℕ) (node : Node) → AllFit [] nodes → at < length nodes → node ≡ get_or nodes at node → is_some (source_of node) ≡ true → option_or (source_at nodes at) None ≡ Some (value nodes at)

@@ -1,11 +1,11 @@
 -- Which nodes a node needs, which of them are held, and a node's value by those of its inputs.
-use Rattle.std.specs.Prelude.{◌≡◌, ◌<◌, ◌≤◌, ◌+◌, ℕ, zero, suc, List, [], ◌∷◌, length, map, get_or, Option, Some, None, All, true, ⊤}
+use Rattle.std.specs.Prelude.{◌≡◌, ◌<◌, ◌≤◌, ◌+◌, ℕ, zero, suc, List, [], ◌∷◌, length, get_or, Option, Some, None, All}
 use Rattle.std.specs.Option.{option_or}
 use Rattle.xr_arrays.specs.declared.node.Node.{Node}
-use Rattle.xr_arrays.specs.declared.node.Node.TheVariants.{Source, Take, Reorder, Widen, Fold, Concat}
+use Rattle.xr_arrays.specs.declared.node.Node.TheVariants.{Source, Take, Reorder, Widen, Unary, Binary, Choose, Fold, Scan, Concat, Chunk}
 use Rattle.xr_types.specs.Points.{size}
-use Rattle.xr_arrays.specs.Arrays.{Array, IsCell}
-use Rattle.xr_arrays.specs.Nodes.{value, IsBelow, IsOrder, Continues, first_array, taken_or_picked, reordered, widened, folded, concatenated, most_node_cells}
+use Rattle.xr_arrays.specs.Arrays.{Array, IsArray}
+use Rattle.xr_arrays.specs.Nodes.{value, node_of, FitsBy, most_node_cells}
 
 -- the nodes that a node is computed from
 abbrev pub inputs_of : Node → List ℕ
@@ -13,8 +13,13 @@ inputs_of (Source a) = []
 inputs_of (Take n axis from fill drops) = n ∷ []
 inputs_of (Reorder n order) = n ∷ []
 inputs_of (Widen n axis count) = n ∷ []
+inputs_of (Unary op kind n) = n ∷ []
+inputs_of (Binary op m n) = m ∷ n ∷ []
+inputs_of (Choose c m n) = c ∷ m ∷ n ∷ []
 inputs_of (Fold k n feeds) = n ∷ []
+inputs_of (Scan k n axis) = n ∷ []
 inputs_of (Concat ns axis) = ns
+inputs_of (Chunk n sizes) = n ∷ []
 
 abbrev pub inputs_at : List Node → ℕ → List ℕ
 inputs_at [] i = []
@@ -53,27 +58,11 @@ pub record IsHeld (nodes : List Node) (done : List (Option Array)) (m : ℕ) : T
 abbrev pub AreHeld : List Node → List (Option Array) → List ℕ → ℕ → Type 0
 AreHeld nodes done until i = (m : ℕ) → m < i → i ≤ get_or until m 0 → IsHeld nodes done m
 
--- ---- a node by the values of its inputs
-
-abbrev pub node_by : (ℕ → Array) → Node → Array
-node_by f (Source a) = a
-node_by f (Take n axis from fill drops) = taken_or_picked drops (f n) axis from fill
-node_by f (Reorder n order) = reordered (f n) order
-node_by f (Widen n axis count) = widened (f n) axis count
-node_by f (Fold k n feeds) = folded k feeds (f n)
-node_by f (Concat ns axis) = concatenated (map f ns) axis
-
-abbrev pub FitsBy : (ℕ → Array) → Node → Type 0
-FitsBy f (Source a) = ⊤
-FitsBy f (Take n axis from fill drops) = (axis < length (f n).shape) × All (IsBelow (get_or (f n).shape axis 0)) from × IsCell (f n).kind fill × (drops ≡ true → length from ≡ 1)
-FitsBy f (Reorder n order) = IsOrder (length (f n).shape) order
-FitsBy f (Widen n axis count) = axis ≤ length (f n).shape
-FitsBy f (Fold k n feeds) = length feeds ≡ length (f n).shape
-FitsBy f (Concat ns axis) = (0 < length ns) × (axis < length (first_array (map f ns)).shape) × All (λ n. Continues axis (first_array (map f ns)) (f n)) ns
-
 -- its inputs are held and fit, and neither they nor it are too large
 pub record IsReady (nodes : List Node) (done : List (Option Array)) (node : Node) : Type 0 where
+  pub place : ℕ
   pub inputs : All (IsHeld nodes done) (inputs_of node)
+  pub arrays : All (λ m. IsArray (value nodes m)) (inputs_of node)
   pub few : All (λ m. size (value nodes m).shape ≤ most_node_cells) (inputs_of node)
-  pub fits : FitsBy (value nodes) node
-  pub small : size (node_by (value nodes) node).shape ≤ most_node_cells
+  pub fits : FitsBy place (value nodes) node
+  pub small : size (node_of (value nodes) node).shape ≤ most_node_cells

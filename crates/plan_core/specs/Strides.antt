@@ -1,9 +1,7 @@
 -- Lists in row order read by strides: along each axis the next cell stands so many places on.
-use Rattle.std.specs.Prelude.{◌≡◌, ◌<◌, ◌≤◌, ◌+◌, ◌*◌, ◌^◌, ℕ, List, [], ◌∷◌, ◌++◌, length, map, take, drop, get_or, Option, Some}
-use Rattle.xr_arrays.specs.declared.node.Feed.{Feed}
-use Rattle.xr_arrays.specs.declared.node.Feed.TheVariants as feed
+use Rattle.std.specs.Prelude.{◌≡◌, ◌<◌, ◌≤◌, ◌+◌, ◌*◌, ◌^◌, ℕ, List, [], ◌∷◌, length, map, drop, get_or, Option, Some}
 use Rattle.xr_types.specs.Points.{size, tab, IsPoint}
-use Rattle.xr_arrays.specs.Nodes.{IsOrder, moved, kept, most_node_cells}
+use Rattle.xr_arrays.specs.Nodes.{IsOrder, moved, most_node_cells}
 
 -- the place of a point's cell, where the first cell stands at `start`
 abbrev pub reached : ℕ → List ℕ → List ℕ → ℕ
@@ -53,36 +51,3 @@ pub record IsMoving (shape order : List ℕ) : Type 0 where
   pub axes : length order ≤ 16
   pub few : size shape ≤ most_node_cells
   pub small : size (moved_sizes order shape) ≤ most_node_cells
-
--- ---- the axes that stay in front of those that are folded
-
-abbrev pub spread : List Feed → List ℕ → List ℕ
-spread (feed.Keep ∷ fs) (n ∷ ns) = spread fs ns
-spread (feed.All ∷ fs) (n ∷ ns) = n ∷ spread fs ns
-spread fs ns = []
-
--- the sizes of the axes with which a fold does this
-abbrev pub selected : Feed → List Feed → List ℕ → List ℕ
-selected feed.Keep fs ns = kept fs ns
-selected feed.All fs ns = spread fs ns
-
-abbrev pub selected_one : Feed → Feed → ℕ → List ℕ
-selected_one feed.Keep feed.Keep n = n ∷ []
-selected_one feed.All feed.All n = n ∷ []
-selected_one which f n = []
-
--- the point whose positions are p along the axes that stay and q along the others
-abbrev pub woven : List Feed → List ℕ → List ℕ → List ℕ
-woven (feed.Keep ∷ fs) (i ∷ p) q = i ∷ woven fs p q
-woven (feed.All ∷ fs) p (i ∷ q) = i ∷ woven fs p q
-woven fs p q = []
-
-abbrev pub sorted_sizes : List Feed → List ℕ → List ℕ
-sorted_sizes feeds shape = kept feeds shape ++ spread feeds shape
-
-abbrev pub sorted_point : List Feed → List ℕ → List ℕ → Option (List ℕ)
-sorted_point feeds shape p = let n = length (kept feeds shape) in Some (woven feeds (take n p) (drop n p))
-
-pub record IsSorting (feeds : List Feed) (shape : List ℕ) : Type 0 where
-  pub each : length feeds ≡ length shape
-  pub few : size shape ≤ most_node_cells
