@@ -15,7 +15,7 @@ abbrev pub head_of : ℕ → List ℕ → Header → FileHead
 head_of version bytes h = record { version = version; numrecs = records_of h (length bytes); dims = h.dims; attrs = h.attrs; vars = h.vars }
 
 abbrev pub header_seen : FileHead → Header
-header_seen h = record { numrecs = h.numrecs; dims = h.dims; attrs = h.attrs; vars = h.vars }
+header_seen h = record { numrecs = Some h.numrecs; dims = h.dims; attrs = h.attrs; vars = h.vars }
 
 -- a variable of the head, with its values in the bytes
 abbrev pub var_seen : List ℕ → FileHead → VarHead → CdfVar

@@ -1,10 +1,10 @@
 //! The fields of a header.
-ghost use Rattle.std.specs.Prelude.{◌≡◌, ◌*◌, ◌<◌, ◌^◌, length, MatchOption, true, false};
+ghost use Rattle.std.specs.Prelude.{◌≡◌, ◌*◌, ◌<◌, ◌^◌, length, IfOk, MatchOption, true, false};
 ghost use Rattle.std.specs.Str.{is_utf8};
 ghost use Rattle.std.specs.Int.{w64};
-ghost use Rattle.xr_files.specs.Format.{chars, number};
+ghost use Rattle.xr_files.specs.Format.{chars, number, via};
 ghost use Rattle.xr_types.specs.Widths.{width};
-ghost use Rattle.xr_files.specs.Classic.{word, place_width, padding, is_name, name, nc_type, is_type, type_of};
+ghost use Rattle.xr_files.specs.Classic.{word, count, most_count, counted, place_width, padding, is_name, name, nc_type, is_type, type_of};
 ghost use Rattle.cdf_reader.specs.Answers.{Reads};
 
 use xr_files::Stop;
@@ -38,6 +38,45 @@ fn long_at(bytes: &[u8]) -> Result<(u64, &[u8]), Stop>
         front[0], front[1], front[2], front[3], front[4], front[5], front[6], front[7],
     ]);
     Ok((n, rest))
+}
+
+/// A count, a length, a number of a dimension or a size.
+pub(crate) fn count_at(version: u8, bytes: &[u8]) -> Result<(u64, &[u8]), Stop>
+    ensures { Reads (λ x. (x.0, x.1.now)) result ((count version).reads bytes.now) }
+{
+    if version == 5 {
+        return long_at(bytes);
+    }
+    let (n, rest) = word_at(bytes)?;
+    Ok((u64::from(n), rest))
+}
+
+fn most_count(version: u8) -> u64
+    ensures { result ≡ most_count version }
+{
+    if version == 5 {
+        u64::MAX
+    } else {
+        u64::from(u32::MAX)
+    }
+}
+
+fn counted(version: u8, n: u64) -> Option<u64>
+    ensures { result ≡ counted version n }
+{
+    if n == most_count(version) {
+        None
+    } else {
+        Some(n)
+    }
+}
+
+/// The number of records, none of a streamed file.
+pub(crate) fn numrecs_at(version: u8, bytes: &[u8]) -> Result<(Option<u64>, &[u8]), Stop>
+    ensures { Reads (λ x. (x.0, x.1.now)) result ((via (counted version) (count version)).reads bytes.now) }
+{
+    let (n, rest) = count_at(version, bytes)?;
+    Ok((counted(version, n), rest))
 }
 
 /// A place in the file.
@@ -89,10 +128,10 @@ fn name_of(text: &[u8]) -> Option<&str>
 
 /// A name, and its padding.
 #[tactic(auto, unfolding(xr_files::specs::Classic::name))]
-pub(crate) fn name_at(bytes: &[u8]) -> Result<(&str, &[u8]), Stop>
-    ensures { Reads (λ x. (x.0.now, x.1.now)) result (name.reads bytes.now) }
+pub(crate) fn name_at(version: u8, bytes: &[u8]) -> Result<(&str, &[u8]), Stop>
+    ensures { Reads (λ x. (x.0.now, x.1.now)) result ((name version).reads bytes.now) }
 {
-    let (count, rest) = word_at(bytes)?;
+    let (count, rest) = count_at(version, bytes)?;
     let count = count as usize;
     let (text, rest) = chars_at(rest, count)?;
     let (_, rest) = chars_at(rest, padding_of(count))?;
@@ -105,33 +144,44 @@ pub(crate) fn name_at(bytes: &[u8]) -> Result<(&str, &[u8]), Stop>
     }
 }
 
-fn type_of_number(n: u32) -> Option<NcType>
-    ensures { MatchOption result (is_type n ≡ false) (λ kind. (is_type n ≡ true) × (kind ≡ type_of n)) }
+fn is_type(version: u8, n: u32) -> bool
+    ensures { result ≡ is_type version n }
+{
+    0 < n && n < if version == 5 { 12 } else { 7 }
+}
+
+// The type of a number from 1 to 11.
+fn type_of(n: u32) -> NcType
+    ensures { result ≡ type_of n }
 {
     match n {
-        1 => Some(NcType::Byte),
-        2 => Some(NcType::Char),
-        3 => Some(NcType::Short),
-        4 => Some(NcType::Int),
-        5 => Some(NcType::Float),
-        6 => Some(NcType::Double),
-        _ => None,
+        1 => NcType::Byte,
+        2 => NcType::Char,
+        3 => NcType::Short,
+        4 => NcType::Int,
+        5 => NcType::Float,
+        6 => NcType::Double,
+        7 => NcType::UByte,
+        8 => NcType::UShort,
+        9 => NcType::UInt,
+        10 => NcType::Int64,
+        _ => NcType::UInt64,
     }
 }
 
 /// A type.
 #[tactic(auto, unfolding(xr_files::specs::Classic::nc_type))]
-pub(crate) fn type_at(bytes: &[u8]) -> Result<(NcType, &[u8]), Stop>
-    ensures { Reads (λ x. (x.0, x.1.now)) result (nc_type.reads bytes.now) }
+pub(crate) fn type_at(version: u8, bytes: &[u8]) -> Result<(NcType, &[u8]), Stop>
+    ensures { Reads (λ x. (x.0, x.1.now)) result ((nc_type version).reads bytes.now) }
 {
     let (n, rest) = word_at(bytes)?;
-    match type_of_number(n) {
-        Some(kind) => Ok((kind, rest)),
-        None => Err(Stop {
+    if !is_type(version, n) {
+        return Err(Stop {
             kind: CdfKind::BadType,
             left: bytes.len(),
-        }),
+        });
     }
+    Ok((type_of(n), rest))
 }
 
 /// Bytes of a value.
@@ -139,9 +189,21 @@ pub(crate) fn width_of(kind: NcType) -> u64
     ensures { result ≡ width kind }
 {
     match kind {
-        NcType::Byte | NcType::Char => 1,
-        NcType::Short => 2,
-        NcType::Int | NcType::Float => 4,
-        NcType::Double => 8,
+        NcType::Byte | NcType::Char | NcType::UByte => 1,
+        NcType::Short | NcType::UShort => 2,
+        NcType::Int | NcType::Float | NcType::UInt => 4,
+        NcType::Double | NcType::Int64 | NcType::UInt64 => 8,
+    }
+}
+
+/// The bytes of so many values. A count past the file's end is refused, also where the bytes are more than a number
+/// of 64 bits tells.
+pub(crate) fn raw_values(count: u64, kind: NcType, bytes: &[u8]) -> Result<(&[u8], &[u8]), Stop>
+    ensures read { Reads (λ x. (x.0.now, x.1.now)) result ((chars (count * width kind)).reads bytes.now) }
+    ensures size { IfOk result (λ x. length x.0.now ≡ count * width kind) }
+{
+    match count.checked_mul(width_of(kind)) {
+        Some(size) => chars_at(bytes, size as usize),
+        None => Err(CUT_HEADER),
     }
 }

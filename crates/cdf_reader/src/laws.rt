@@ -1,9 +1,9 @@
 //! Laws of reading: that one answer fits, and how many records a streamed file has.
-ghost use Rattle.std.specs.Prelude.{◌≡◌, ◌⊎◌, ◌<◌, ◌≤◌, ℕ, List, [], length, All};
+ghost use Rattle.std.specs.Prelude.{◌≡◌, ◌⊎◌, ◌<◌, ◌≤◌, ℕ, List, [], length, All, None};
 ghost use Rattle.xr_types.specs.declared.fault.CdfKind.{CdfKind};
 ghost use Rattle.xr_files.specs.declared.file.CdfFile.{CdfFile};
 ghost use Rattle.xr_files.specs.Classic.{Header};
-ghost use Rattle.xr_files.specs.Files.{file_in, Spells, Meets, streaming, record_vars, records_of, RecordsLie};
+ghost use Rattle.xr_files.specs.Files.{file_in, Spells, Meets, record_vars, records_of, RecordsLie};
 
 /// Bytes spell one file or meet one fault, and not both: whichever it is, the one function gives it.
 pub fn one_answer()
@@ -15,7 +15,7 @@ pub fn one_answer()
 /// The number of records of a streamed file is the greatest of which the records of all record variables lie in
 /// the file, and 0 where there is no record variable.
 pub fn most_records()
-    ensures lie { (h : Header) (bytes r : ℕ) → h.numrecs ≡ streaming → r ≤ records_of h bytes → All (RecordsLie h bytes r) (record_vars h.dims h.vars) }
-    ensures most { (h : Header) (bytes r : ℕ) → h.numrecs ≡ streaming → 0 < length (record_vars h.dims h.vars) → All (RecordsLie h bytes r) (record_vars h.dims h.vars) → r ≤ records_of h bytes }
-    ensures none { (h : Header) (bytes : ℕ) → h.numrecs ≡ streaming → record_vars h.dims h.vars ≡ [] → records_of h bytes ≡ 0 }
+    ensures lie { (h : Header) (bytes r : ℕ) → h.numrecs ≡ None → r ≤ records_of h bytes → All (RecordsLie h bytes r) (record_vars h.dims h.vars) }
+    ensures most { (h : Header) (bytes r : ℕ) → h.numrecs ≡ None → 0 < length (record_vars h.dims h.vars) → All (RecordsLie h bytes r) (record_vars h.dims h.vars) → r ≤ records_of h bytes }
+    ensures none { (h : Header) (bytes : ℕ) → h.numrecs ≡ None → record_vars h.dims h.vars ≡ [] → records_of h bytes ≡ 0 }
 {}

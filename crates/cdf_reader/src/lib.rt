@@ -1,4 +1,4 @@
-//! Reads classic netCDF files, versions 1 and 2, whole: the file that bytes spell, or the first fault and its place.
+//! Reads classic netCDF files, versions 1, 2 and 5, whole: the file that bytes spell, or the first fault and its place.
 #![tactic(auto)]
 
 mod cells;

@@ -5,12 +5,12 @@ ghost use Rattle.xr_types.specs.declared.fault.CdfKind.TheVariants as kinds;
 ghost use Rattle.xr_types.specs.declared.attr.Attr.{Attr};
 ghost use Rattle.xr_files.specs.declared.file.CdfDim.{CdfDim};
 ghost use Rattle.xr_files.specs.Format.{each, rule};
-ghost use Rattle.xr_files.specs.Classic.{word, list, is_record_dim, is_length, dim_names, dimension, attr_names, values, attribute};
+ghost use Rattle.xr_files.specs.Classic.{word, count, list, is_record_dim, is_length, dim_names, dimension, attr_names, values, attribute};
 ghost use Rattle.cdf_reader.specs.Answers.{Reads, Gives};
 ghost use Rattle.cdf_reader.specs.Names.{Knows};
 
 use crate::fault::WalkFault;
-use crate::fields::{chars_at, padding_of, type_at, width_of, word_at};
+use crate::fields::{chars_at, count_at, padding_of, raw_values, type_at, word_at};
 use crate::names::{Known, new_name_at, none_known};
 use std::alloc::Global;
 use xr_files::{CdfDim, Stop};
@@ -31,10 +31,10 @@ pub(crate) fn tag_at(own: u32, bytes: &[u8]) -> Result<(u32, &[u8]), Stop>
 }
 
 /// How many entries a list has: none behind the tag 0.
-pub(crate) fn count_at(tag: u32, bytes: &[u8]) -> Result<(u32, &[u8]), Stop>
-    ensures { Reads (λ x. (x.0, x.1.now)) result ((rule kinds.BadTag (λ n. not (tag == 0) || n == 0) word).reads bytes.now) }
+pub(crate) fn entries_at(version: u8, tag: u32, bytes: &[u8]) -> Result<(u64, &[u8]), Stop>
+    ensures { Reads (λ x. (x.0, x.1.now)) result ((rule kinds.BadTag (λ n. not (tag == 0) || n == 0) (count version)).reads bytes.now) }
 {
-    let (count, rest) = word_at(bytes)?;
+    let (count, rest) = count_at(version, bytes)?;
     if tag == 0 && count != 0 {
         return Err(Stop {
             kind: CdfKind::BadTag,
@@ -50,7 +50,7 @@ fn has_record_dim(dims: &[CdfDim]) -> bool
     dims.iter().any(|d| d.len == 0)
 }
 
-fn is_length_of(seen: &[CdfDim], n: u32) -> bool
+fn is_length_of(seen: &[CdfDim], n: u64) -> bool
     ensures { result ≡ is_length seen.now n }
 {
     n != 0 || !has_record_dim(seen)
@@ -59,37 +59,41 @@ fn is_length_of(seen: &[CdfDim], n: u32) -> bool
 #[tactic(auto, unfolding(xr_files::specs::Classic::dimension))]
 fn dimension_at<'a>(
     alloc: Global,
+    version: u8,
     known: &mut Known<'a>,
     seen: &[CdfDim],
     bytes: &'a [u8],
 ) -> Result<(CdfDim, &'a [u8]), WalkFault>
     requires { Knows known.old (dim_names seen.now) }
-    ensures read { Gives (λ x. (x.0, x.1.now)) result ((dimension seen.now).reads bytes.now) }
+    ensures read { Gives (λ x. (x.0, x.1.now)) result ((dimension version seen.now).reads bytes.now) }
     ensures known { IfOk result (λ x. Knows known.new (dim_names seen.now ++ x.0.name ∷ [])) }
 {
-    let (text, rest) = new_name_at(known, bytes)?;
-    let (n, last) = word_at(rest)?;
-    if !is_length_of(seen, n) {
+    let (text, rest) = new_name_at(version, known, bytes)?;
+    let (len, last) = count_at(version, rest)?;
+    if !is_length_of(seen, len) {
         return Err(WalkFault::At(Stop {
             kind: CdfKind::BadDimension,
             left: rest.len(),
         }));
     }
     let name = TextBytes::from_str(alloc, text)?;
-    let len = u64::from(n);
     Ok((CdfDim { name, len }, last))
 }
 
 #[tactic(auto, unfolding(xr_files::specs::Classic::values))]
-fn values_at<'a>(alloc: Global, text: &str, bytes: &'a [u8]) -> Result<(Attr, &'a [u8]), WalkFault>
-    ensures read { Gives (λ x. (x.0, x.1.now)) result ((values text.now).reads bytes.now) }
+fn values_at<'a>(
+    alloc: Global,
+    version: u8,
+    text: &str,
+    bytes: &'a [u8],
+) -> Result<(Attr, &'a [u8]), WalkFault>
+    ensures read { Gives (λ x. (x.0, x.1.now)) result ((values version text.now).reads bytes.now) }
     ensures named { IfOk result (λ x. x.0.name ≡ text.now) }
 {
-    let (kind, rest) = type_at(bytes)?;
-    let (count, rest) = word_at(rest)?;
-    let size = (u64::from(count) * width_of(kind)) as usize;
-    let (raw, rest) = chars_at(rest, size)?;
-    let (_, rest) = chars_at(rest, padding_of(size))?;
+    let (kind, rest) = type_at(version, bytes)?;
+    let (count, rest) = count_at(version, rest)?;
+    let (raw, rest) = raw_values(count, kind, rest)?;
+    let (_, rest) = chars_at(rest, padding_of(raw.len()))?;
     let name = TextBytes::from_str(alloc, text)?;
     let raw = Items::from_slice(alloc, raw)?;
     Ok((Attr { name, kind, raw }, rest))
@@ -98,30 +102,32 @@ fn values_at<'a>(alloc: Global, text: &str, bytes: &'a [u8]) -> Result<(Attr, &'
 #[tactic(auto, unfolding(xr_files::specs::Classic::attribute))]
 fn attribute_at<'a>(
     alloc: Global,
+    version: u8,
     known: &mut Known<'a>,
     seen: &[Attr],
     bytes: &'a [u8],
 ) -> Result<(Attr, &'a [u8]), WalkFault>
     requires { Knows known.old (attr_names seen.now) }
-    ensures read { Gives (λ x. (x.0, x.1.now)) result ((attribute seen.now).reads bytes.now) }
+    ensures read { Gives (λ x. (x.0, x.1.now)) result ((attribute version seen.now).reads bytes.now) }
     ensures known { IfOk result (λ x. Knows known.new (attr_names seen.now ++ x.0.name ∷ [])) }
 {
-    let (text, rest) = new_name_at(known, bytes)?;
-    values_at(alloc, text, rest)
+    let (text, rest) = new_name_at(version, known, bytes)?;
+    values_at(alloc, version, text, rest)
 }
 
 fn dimensions_in<'a>(
     alloc: Global,
-    count: u32,
+    version: u8,
+    count: u64,
     bytes: &'a [u8],
 ) -> Result<(Items<CdfDim>, &'a [u8]), WalkFault>
-    ensures { Gives (λ x. (x.0, x.1.now)) result ((each count dimension []).reads bytes.now) }
+    ensures { Gives (λ x. (x.0, x.1.now)) result ((each count (dimension version) []).reads bytes.now) }
 {
     let mut known = none_known(alloc);
     let mut seen = Items::new(alloc);
     let mut rest = bytes;
     for _ in 0..count {
-        let (one, after) = dimension_at(alloc, &mut known, seen.as_slice(), rest)?;
+        let (one, after) = dimension_at(alloc, version, &mut known, seen.as_slice(), rest)?;
         seen.push(one)?;
         rest = after;
     }
@@ -130,16 +136,17 @@ fn dimensions_in<'a>(
 
 fn attributes_in<'a>(
     alloc: Global,
-    count: u32,
+    version: u8,
+    count: u64,
     bytes: &'a [u8],
 ) -> Result<(Items<Attr>, &'a [u8]), WalkFault>
-    ensures { Gives (λ x. (x.0, x.1.now)) result ((each count attribute []).reads bytes.now) }
+    ensures { Gives (λ x. (x.0, x.1.now)) result ((each count (attribute version) []).reads bytes.now) }
 {
     let mut known = none_known(alloc);
     let mut seen = Items::new(alloc);
     let mut rest = bytes;
     for _ in 0..count {
-        let (one, after) = attribute_at(alloc, &mut known, seen.as_slice(), rest)?;
+        let (one, after) = attribute_at(alloc, version, &mut known, seen.as_slice(), rest)?;
         seen.push(one)?;
         rest = after;
     }
@@ -150,24 +157,26 @@ fn attributes_in<'a>(
 #[tactic(auto, unfolding(xr_files::specs::Classic::list))]
 pub(crate) fn dimensions_at<'a>(
     alloc: Global,
+    version: u8,
     bytes: &'a [u8],
 ) -> Result<(Items<CdfDim>, &'a [u8]), WalkFault>
-    ensures { Gives (λ x. (x.0, x.1.now)) result ((list 10 dimension).reads bytes.now) }
+    ensures { Gives (λ x. (x.0, x.1.now)) result ((list version 10 (dimension version)).reads bytes.now) }
 {
     let (tag, rest) = tag_at(10, bytes)?;
-    let (count, rest) = count_at(tag, rest)?;
-    dimensions_in(alloc, count, rest)
+    let (count, rest) = entries_at(version, tag, rest)?;
+    dimensions_in(alloc, version, count, rest)
 }
 
 /// A list of attributes.
 #[tactic(auto, unfolding(xr_files::specs::Classic::list))]
 pub(crate) fn attributes_at<'a>(
     alloc: Global,
+    version: u8,
     bytes: &'a [u8],
 ) -> Result<(Items<Attr>, &'a [u8]), WalkFault>
-    ensures { Gives (λ x. (x.0, x.1.now)) result ((list 12 attribute).reads bytes.now) }
+    ensures { Gives (λ x. (x.0, x.1.now)) result ((list version 12 (attribute version)).reads bytes.now) }
 {
     let (tag, rest) = tag_at(12, bytes)?;
-    let (count, rest) = count_at(tag, rest)?;
-    attributes_in(alloc, count, rest)
+    let (count, rest) = entries_at(version, tag, rest)?;
+    attributes_in(alloc, version, count, rest)
 }

@@ -35,13 +35,14 @@ fn add<'a>(known: &mut Known<'a>, text: &'a str) -> Result<bool, NoMemory>
 /// A name that doesn't stand earlier in its list.
 #[tactic(auto, unfolding(xr_files::specs::Classic::new_name))]
 pub(crate) fn new_name_at<'a>(
+    version: u8,
     known: &mut Known<'a>,
     bytes: &'a [u8],
 ) -> Result<(&'a str, &'a [u8]), WalkFault>
-    ensures read { (names : List (List ℕ)) → Knows known.old names → Gives (λ x. (x.0.now, x.1.now)) result ((new_name names).reads bytes.now) }
+    ensures read { (names : List (List ℕ)) → Knows known.old names → Gives (λ x. (x.0.now, x.1.now)) result ((new_name version names).reads bytes.now) }
     ensures known { IfOk result (λ x. (names : List (List ℕ)) → Knows known.old names → Knows known.new (names ++ x.0.now ∷ [])) }
 {
-    let (text, rest) = name_at(bytes)?;
+    let (text, rest) = name_at(version, bytes)?;
     if !add(known, text)? {
         return Err(WalkFault::At(Stop {
             kind: CdfKind::Repeated,

@@ -22,6 +22,7 @@ fn after_magic(bytes: &[u8]) -> Option<(u8, &[u8])>
     match bytes {
         [67, 68, 70, 1, rest @ ..] => Some((1, rest)),
         [67, 68, 70, 2, rest @ ..] => Some((2, rest)),
+        [67, 68, 70, 5, rest @ ..] => Some((5, rest)),
         _ => None,
     }
 }

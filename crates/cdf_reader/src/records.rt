@@ -11,8 +11,6 @@ ghost use Rattle.cdf_reader.specs.Fewest.{IsLeast};
 use crate::sizes::{cells_of, distance_of, head_size_of, is_record};
 use crate::variables::HeaderParts;
 use xr_files::VarHead;
-/// The number that marks a file whose records nobody counted.
-const STREAMING: u32 = u32::MAX;
 
 /// How many records of a variable lie in a file of so many bytes.
 fn records_in_bytes(begin: u64, size: u64, distance: u64, bytes: usize) -> u64
@@ -87,9 +85,8 @@ pub(crate) fn records_of_file(parts: &HeaderParts, distance: u64, bytes: usize) 
     requires distance { distance ≡ capped (recsize (header_of parts.now)) }
     ensures { result ≡ records_of (header_of parts.now) bytes }
 {
-    if parts.numrecs == STREAMING {
-        streamed_records(parts, distance, bytes)
-    } else {
-        u64::from(parts.numrecs)
+    match parts.numrecs {
+        Some(numrecs) => numrecs,
+        None => streamed_records(parts, distance, bytes),
     }
 }

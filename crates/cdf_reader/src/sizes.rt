@@ -9,6 +9,7 @@ ghost use Rattle.cdf_reader.specs.Together.{Sum};
 
 use crate::fields::width_of;
 use xr_files::{CdfDim, VarHead};
+
 fn positions_of(dims: &[CdfDim], numrecs: u64, i: u64) -> u64
     ensures { result ≡ positions numrecs (dim_at dims.now i) }
 {

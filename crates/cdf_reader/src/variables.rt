@@ -7,23 +7,23 @@ ghost use Rattle.cdf_reader.specs.Names.{Knows};
 ghost use Rattle.cdf_reader.specs.Parts.{header_of};
 
 use crate::fault::WalkFault;
-use crate::fields::{place_at, type_at, word_at};
-use crate::lists::{attributes_at, count_at, dimensions_at, tag_at};
+use crate::fields::{count_at, numrecs_at, place_at, type_at};
+use crate::lists::{attributes_at, dimensions_at, entries_at, tag_at};
 use crate::names::{Known, new_name_at, none_known};
 use std::alloc::Global;
 use xr_files::{CdfDim, Stop, VarHead};
 use xr_types::{Attr, CdfKind, Items, TextBytes};
 
-/// What stands in a header.
+/// What stands in a header. The number of records is none in a streamed file.
 #[derive(Drop)]
 pub(crate) struct HeaderParts {
-    pub numrecs: u32,
+    pub numrecs: Option<u64>,
     pub dims: Items<CdfDim>,
     pub attrs: Items<Attr>,
     pub vars: Items<VarHead>,
 }
 
-fn is_number_of(dims: &[CdfDim], place: usize, n: u32) -> bool
+fn is_number_of(dims: &[CdfDim], place: usize, n: u64) -> bool
     ensures { result ≡ is_dim_number dims.now place n }
 {
     match dims.get(n as usize) {
@@ -34,13 +34,14 @@ fn is_number_of(dims: &[CdfDim], place: usize, n: u32) -> bool
 
 #[tactic(auto, unfolding(xr_files::specs::Classic::dim_number))]
 fn dim_number_at<'a>(
+    version: u8,
     dims: &[CdfDim],
     seen: &[u64],
     bytes: &'a [u8],
-) -> Result<(u32, &'a [u8]), Stop>
-    ensures { Reads (λ x. (x.0, x.1.now)) result ((dim_number dims.now seen.now).reads bytes.now) }
+) -> Result<(u64, &'a [u8]), Stop>
+    ensures { Reads (λ x. (x.0, x.1.now)) result ((dim_number version dims.now seen.now).reads bytes.now) }
 {
-    let (n, rest) = word_at(bytes)?;
+    let (n, rest) = count_at(version, bytes)?;
     if !is_number_of(dims, seen.len(), n) {
         return Err(Stop {
             kind: CdfKind::BadDimension,
@@ -52,17 +53,18 @@ fn dim_number_at<'a>(
 
 fn dim_numbers_in<'a>(
     alloc: Global,
+    version: u8,
     dims: &[CdfDim],
-    rank: u32,
+    rank: u64,
     bytes: &'a [u8],
 ) -> Result<(Items<u64>, &'a [u8]), WalkFault>
-    ensures { Gives (λ x. (x.0, x.1.now)) result ((each rank (dim_number dims.now) []).reads bytes.now) }
+    ensures { Gives (λ x. (x.0, x.1.now)) result ((each rank (dim_number version dims.now) []).reads bytes.now) }
 {
     let mut seen = Items::new(alloc);
     let mut rest = bytes;
     for _ in 0..rank {
-        let (one, after) = dim_number_at(dims, seen.as_slice(), rest)?;
-        seen.push(u64::from(one))?;
+        let (one, after) = dim_number_at(version, dims, seen.as_slice(), rest)?;
+        seen.push(one)?;
         rest = after;
     }
     Ok((seen, rest))
@@ -79,11 +81,11 @@ fn var_head_at<'a>(
     ensures read { Gives (λ x. (x.0, x.1.now)) result ((var_head version dims.now text.now).reads bytes.now) }
     ensures named { IfOk result (λ x. x.0.name ≡ text.now) }
 {
-    let (rank, rest) = word_at(bytes)?;
-    let (ids, rest) = dim_numbers_in(alloc, dims, rank, rest)?;
-    let (attrs, rest) = attributes_at(alloc, rest)?;
-    let (kind, rest) = type_at(rest)?;
-    let (_, rest) = word_at(rest)?;
+    let (rank, rest) = count_at(version, bytes)?;
+    let (ids, rest) = dim_numbers_in(alloc, version, dims, rank, rest)?;
+    let (attrs, rest) = attributes_at(alloc, version, rest)?;
+    let (kind, rest) = type_at(version, rest)?;
+    let (_, rest) = count_at(version, rest)?;
     let (begin, rest) = place_at(version, rest)?;
     let name = TextBytes::from_str(alloc, text)?;
     let head = VarHead {
@@ -109,7 +111,7 @@ fn variable_at<'a>(
     ensures read { Gives (λ x. (x.0, x.1.now)) result ((variable version dims.now seen.now).reads bytes.now) }
     ensures known { IfOk result (λ x. Knows known.new (var_names seen.now ++ x.0.name ∷ [])) }
 {
-    let (text, rest) = new_name_at(known, bytes)?;
+    let (text, rest) = new_name_at(version, known, bytes)?;
     var_head_at(alloc, version, dims, text, rest)
 }
 
@@ -117,7 +119,7 @@ fn variables_in<'a>(
     alloc: Global,
     version: u8,
     dims: &[CdfDim],
-    count: u32,
+    count: u64,
     bytes: &'a [u8],
 ) -> Result<(Items<VarHead>, &'a [u8]), WalkFault>
     ensures { Gives (λ x. (x.0, x.1.now)) result ((each count (variable version dims.now) []).reads bytes.now) }
@@ -140,10 +142,10 @@ fn variables_at<'a>(
     dims: &[CdfDim],
     bytes: &'a [u8],
 ) -> Result<(Items<VarHead>, &'a [u8]), WalkFault>
-    ensures { Gives (λ x. (x.0, x.1.now)) result ((list 11 (variable version dims.now)).reads bytes.now) }
+    ensures { Gives (λ x. (x.0, x.1.now)) result ((list version 11 (variable version dims.now)).reads bytes.now) }
 {
     let (tag, rest) = tag_at(11, bytes)?;
-    let (count, rest) = count_at(tag, rest)?;
+    let (count, rest) = entries_at(version, tag, rest)?;
     variables_in(alloc, version, dims, count, rest)
 }
 
@@ -156,9 +158,9 @@ pub(crate) fn header_at<'a>(
 ) -> Result<(HeaderParts, &'a [u8]), WalkFault>
     ensures { Gives (λ x. (header_of x.0, x.1.now)) result ((header version).reads bytes.now) }
 {
-    let (numrecs, rest) = word_at(bytes)?;
-    let (dims, rest) = dimensions_at(alloc, rest)?;
-    let (attrs, rest) = attributes_at(alloc, rest)?;
+    let (numrecs, rest) = numrecs_at(version, bytes)?;
+    let (dims, rest) = dimensions_at(alloc, version, rest)?;
+    let (attrs, rest) = attributes_at(alloc, version, rest)?;
     let (vars, rest) = variables_at(alloc, version, dims.as_slice(), rest)?;
     let parts = HeaderParts {
         numrecs,

@@ -9,13 +9,13 @@ use Rattle.cdf_reader.proofs.lists.attributes_in.Goals as goal
 pub returns-in_err-one : goal.returns-in_err-one
 returns-in_err-one c =
     let p = err_from_is_err_and c.from_residual.result c.from_residual.ensures.1 in
-    rw (p.1, p.2) (ends c.in_err-one.field-0.0 attribute c.loop.seen c.args.count c.loop.counter c.loop.rest.now _ c.loop-test.true (rw c.as_slice.ensures at c.in_err-one.ensures.read) c.loop.invariant.read)
+    rw (p.1, p.2) (ends c.in_err-one.field-0.0 (attribute c.args.version) c.loop.seen c.args.count c.loop.counter c.loop.rest.now _ c.loop-test.true (rw c.as_slice.ensures at c.in_err-one.ensures.read) c.loop.invariant.read)
 
 pub loop-preserved : goal.loop-preserved
 loop-preserved c = record {
-  read = rw c.in_ok-push.ensures.ok (goes_on attribute c.loop.seen c.args.count c.loop.counter c.loop.rest.now c.in_ok-one.after.now c.in_ok-one.one _ c.loop-test.true (rw c.as_slice.ensures at c.in_ok-one.ensures.read) c.loop.invariant.read);
+  read = rw c.in_ok-push.ensures.ok (goes_on (attribute c.args.version) c.loop.seen c.args.count c.loop.counter c.loop.rest.now c.in_ok-one.after.now c.in_ok-one.one _ c.loop-test.true (rw c.as_slice.ensures at c.in_ok-one.ensures.read) c.loop.invariant.read);
   known = rw (c.in_ok-push.ensures.ok, map-append (λ (d : Attr). d.name) c.loop.seen (c.in_ok-one.one ∷ [])) (rw c.as_slice.ensures at c.in_ok-one.ensures.known);
 }
 
 pub returns : goal.returns
-returns c = is_done attribute c.loop.seen c.args.count c.loop.counter c.loop.rest.now _ c.loop-test.false c.loop.invariant.read
+returns c = is_done (attribute c.args.version) c.loop.seen c.args.count c.loop.counter c.loop.rest.now _ c.loop-test.false c.loop.invariant.read
