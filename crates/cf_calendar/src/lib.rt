@@ -1,0 +1,11 @@
+//! The calendars `noleap` and `360_day`: the numbers of their dates.
+#![tactic(auto)]
+
+mod date;
+mod laws;
+mod month;
+mod number;
+
+pub use date::CalDate;
+pub use laws::{date_again, number_again};
+pub use number::{date_of, day_of};
