@@ -51,9 +51,9 @@ head_of (head.Align ns) = grammar.Func (codes "align")
 abbrev pub bracket_of : Bracket → machine.Bracket
 bracket_of bracket.Round = machine.InRound
 bracket_of (bracket.Items xs) = machine.InItems (all_trees xs.items)
-bracket_of (bracket.Entry es t) = machine.InEntry (all_entries es.items) t
-bracket_of (bracket.Plain h gs) = machine.InPlain (head_of h) (all_arguments gs.items)
-bracket_of (bracket.Named h gs n) = machine.InKeyed (head_of h) (all_arguments gs.items) n
+bracket_of (bracket.Entry es t) = machine.InEntry (all_entries es.list.items) t
+bracket_of (bracket.Plain h gs) = machine.InPlain (head_of h) (all_arguments gs.list.items)
+bracket_of (bracket.Named h gs n) = machine.InKeyed (head_of h) (all_arguments gs.list.items) n
 
 -- ---- a call that stands in no expression
 
@@ -131,10 +131,10 @@ place_of (place.Asked e n) = machine.Asked (tree_of e) n
 place_of (place.Indexed e) = machine.Indexed (tree_of e)
 place_of (place.Indexing e t) = machine.Indexing (tree_of e) t
 place_of (place.AtItem xs) = machine.AtItem (all_trees xs.items)
-place_of (place.AtEntry es) = machine.AtEntry (all_entries es.items)
-place_of (place.AtKey es t) = machine.AtKey (all_entries es.items) t
-place_of (place.AtArg h gs) = machine.AtArg (head_of h) (all_arguments gs.items)
-place_of (place.AtName h gs n) = machine.AtName (head_of h) (all_arguments gs.items) n
+place_of (place.AtEntry es) = machine.AtEntry (all_entries es.list.items)
+place_of (place.AtKey es t) = machine.AtKey (all_entries es.list.items) t
+place_of (place.AtArg h gs) = machine.AtArg (head_of h) (all_arguments gs.list.items)
+place_of (place.AtName h gs n) = machine.AtName (head_of h) (all_arguments gs.list.items) n
 
 abbrev pub pend_at : Place → Seat → machine.Pend
 pend_at (place.AtArg h gs) s = pend_for h s

@@ -13,10 +13,9 @@ use crate::state::{Around, Bracket, Next, Place, Seat, State, Stop, Wait};
 use crate::terminal::{Level, Terminal};
 use crate::wait::{compare, finish, join, nothing};
 use std::alloc::Global;
-use xr_types::OpKind;
 use xr_syntax::{Argument, Expr, Statement};
 use xr_tree::variable;
-use xr_types::{Items, Name};
+use xr_types::{Items, Name, OpKind};
 
 /// An operand as the left side of an operator.
 fn join_on(

@@ -9,7 +9,7 @@ use crate::around::no_room;
 use crate::state::{Head, Next, Place, Seat, State, Stop};
 use std::alloc::{AllocError, Global};
 use xr_syntax::{Argument, Expr};
-use xr_tree::{call, method};
+use xr_tree::{Arguments, call, method};
 use xr_types::TextBytes;
 
 /// The call of `to_netcdf`.
@@ -47,9 +47,10 @@ fn call_at(alloc: Global, head: Head, args: Vec<Argument>, seat: Seat) -> Result
 }
 
 /// Behind the arguments of a call.
-pub fn end_call(alloc: Global, head: Head, args: Vec<Argument>, seat: Seat) -> Result<Next, Stop>
-    ensures { Follows result (go (At (Have (called (head_of head) (all_arguments args.items))) (pend_for head seat) (around_for head seat))) }
+pub fn end_call(alloc: Global, head: Head, args: Arguments, seat: Seat) -> Result<Next, Stop>
+    ensures { Follows result (go (At (Have (called (head_of head) (all_arguments args.list.items))) (pend_for head seat) (around_for head seat))) }
 {
+    let args = args.into_vec();
     match seat {
         Seat::In(wait, around) => call_at(alloc, head, args, Seat::In(wait, around)),
         Seat::Alone => end_alone(alloc, head, args),

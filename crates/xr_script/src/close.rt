@@ -11,8 +11,8 @@ use crate::call::end_call;
 use crate::state::{Around, Base, Bracket, Frame, Head, Next, Place, Seat, State, Stop};
 use crate::terminal::Terminal;
 use std::alloc::Global;
-use xr_syntax::{Argument, Expr, Statement};
-use xr_tree::{list, push_entry, push_item, push_named, push_plain, table};
+use xr_syntax::{Expr, Statement};
+use xr_tree::{Arguments, TableEntries, list, push_item, table};
 use xr_types::{Name, TextBytes};
 
 /// A list with one item more, behind which another may come.
@@ -48,14 +48,15 @@ fn close_item(items: Vec<Expr>, seat: Seat, e: Expr, token: Terminal) -> Result<
 
 /// A table with one entry more, behind which another may come.
 fn entry_more(
-    entries: Vec<(TextBytes, Expr)>,
+    alloc: Global,
+    entries: TableEntries,
     key: TextBytes,
     seat: Seat,
     e: Expr,
 ) -> Result<Next, Stop>
-    ensures { Follows result (close_of (Inside (InEntry (all_entries entries.items) key) (pend_of seat) (seat_around seat)) (tree_of e) Comma) }
+    ensures { Follows result (close_of (Inside (InEntry (all_entries entries.list.items) key) (pend_of seat) (seat_around seat)) (tree_of e) Comma) }
 {
-    match push_entry(entries, key, e) {
+    match entries.push(alloc, key, e) {
         Ok(entries) => Ok(Next::Go(State::At(Place::AtEntry(entries), seat))),
         Err(_) => no_room(seat),
     }
@@ -63,32 +64,34 @@ fn entry_more(
 
 /// A table with its last entry.
 fn entry_last(
-    entries: Vec<(TextBytes, Expr)>,
+    alloc: Global,
+    entries: TableEntries,
     key: TextBytes,
     seat: Seat,
     e: Expr,
 ) -> Result<Next, Stop>
-    ensures { Follows result (close_of (Inside (InEntry (all_entries entries.items) key) (pend_of seat) (seat_around seat)) (tree_of e) RightBrace) }
+    ensures { Follows result (close_of (Inside (InEntry (all_entries entries.list.items) key) (pend_of seat) (seat_around seat)) (tree_of e) RightBrace) }
 {
-    match push_entry(entries, key, e) {
-        Ok(entries) => Ok(Next::Go(State::At(Place::Have(table(entries)), seat))),
+    match entries.push(alloc, key, e) {
+        Ok(entries) => Ok(Next::Go(State::At(Place::Have(table(entries.into_vec())), seat))),
         Err(_) => no_room(seat),
     }
 }
 
 /// Behind the value of a key in a table.
 fn close_entry(
-    entries: Vec<(TextBytes, Expr)>,
+    alloc: Global,
+    entries: TableEntries,
     key: TextBytes,
     seat: Seat,
     e: Expr,
     token: Terminal,
 ) -> Result<Next, Stop>
-    ensures { Follows result (close_of (Inside (InEntry (all_entries entries.items) key) (pend_of seat) (seat_around seat)) (tree_of e) (terminal token)) }
+    ensures { Follows result (close_of (Inside (InEntry (all_entries entries.list.items) key) (pend_of seat) (seat_around seat)) (tree_of e) (terminal token)) }
 {
     match token {
-        Terminal::Comma => entry_more(entries, key, seat, e),
-        Terminal::RightBrace => entry_last(entries, key, seat, e),
+        Terminal::Comma => entry_more(alloc, entries, key, seat, e),
+        Terminal::RightBrace => entry_last(alloc, entries, key, seat, e),
         _ => refused(seat),
     }
 }
@@ -97,11 +100,11 @@ fn close_entry(
 fn end_arg(
     alloc: Global,
     head: Head,
-    args: Vec<Argument>,
+    args: Arguments,
     seat: Seat,
     token: Terminal,
 ) -> Result<Next, Stop>
-    ensures { Follows result (end_arg_of (head_of head) (all_arguments args.items) (pend_for head seat) (around_for head seat) (terminal token)) }
+    ensures { Follows result (end_arg_of (head_of head) (all_arguments args.list.items) (pend_for head seat) (around_for head seat) (terminal token)) }
 {
     match token {
         Terminal::Comma => Ok(Next::Go(State::At(Place::AtArg(head, args), seat))),
@@ -117,14 +120,14 @@ fn end_arg(
 fn close_plain(
     alloc: Global,
     head: Head,
-    args: Vec<Argument>,
+    args: Arguments,
     seat: Seat,
     e: Expr,
     token: Terminal,
 ) -> Result<Next, Stop>
-    ensures { Follows result (close_of (Inside (InPlain (head_of head) (all_arguments args.items)) (pend_for head seat) (around_for head seat)) (tree_of e) (terminal token)) }
+    ensures { Follows result (close_of (Inside (InPlain (head_of head) (all_arguments args.list.items)) (pend_for head seat) (around_for head seat)) (tree_of e) (terminal token)) }
 {
-    match push_plain(args, e) {
+    match args.push_plain(e) {
         Ok(args) => end_arg(alloc, head, args, seat, token),
         Err(_) => {
             drop(head);
@@ -137,15 +140,15 @@ fn close_plain(
 fn close_named(
     alloc: Global,
     head: Head,
-    args: Vec<Argument>,
+    args: Arguments,
     name: Name,
     seat: Seat,
     e: Expr,
     token: Terminal,
 ) -> Result<Next, Stop>
-    ensures { Follows result (close_of (Inside (InKeyed (head_of head) (all_arguments args.items) name) (pend_for head seat) (around_for head seat)) (tree_of e) (terminal token)) }
+    ensures { Follows result (close_of (Inside (InKeyed (head_of head) (all_arguments args.list.items) name) (pend_for head seat) (around_for head seat)) (tree_of e) (terminal token)) }
 {
-    match push_named(args, name, e) {
+    match args.push_named(alloc, name, e) {
         Ok(args) => end_arg(alloc, head, args, seat, token),
         Err(_) => {
             drop(head);
@@ -177,7 +180,7 @@ fn close_bracket(
     match bracket {
         Bracket::Round => close_round(seat, e, token),
         Bracket::Items(items) => close_item(items, seat, e, token),
-        Bracket::Entry(entries, key) => close_entry(entries, key, seat, e, token),
+        Bracket::Entry(entries, key) => close_entry(alloc, entries, key, seat, e, token),
         Bracket::Plain(head, args) => close_plain(alloc, head, args, seat, e, token),
         Bracket::Named(head, args, name) => close_named(alloc, head, args, name, seat, e, token),
     }

@@ -9,11 +9,11 @@ use crate::state::{Around, Bracket, Next, Place, Seat, State, Stop, Wait};
 use crate::terminal::Terminal;
 use crate::wait::{nothing, with_sign};
 use std::alloc::Global;
+use xr_tree::{TableEntries, constant, text, whole};
 use xr_types::OpKind;
-use xr_tree::{constant, text, whole};
 
 /// An atom that doesn't begin with a name.
-#[tactic(auto, using(xr_syntax::proofs::Trees::no_trees, xr_syntax::proofs::Trees::no_entries))]
+#[tactic(auto, using(xr_syntax::proofs::Trees::no_trees))]
 pub fn atom(alloc: Global, seat: Seat, token: Terminal) -> Result<Next, Stop>
     ensures { Follows result (atom_of (pend_of seat) (seat_around seat) (terminal token)) }
 {
@@ -26,7 +26,10 @@ pub fn atom(alloc: Global, seat: Seat, token: Terminal) -> Result<Next, Stop>
             Ok(Next::Go(State::Need(nothing(), around)))
         }
         Terminal::Left => Ok(Next::Go(State::At(Place::AtItem(Vec::new(alloc)), seat))),
-        Terminal::LeftBrace => Ok(Next::Go(State::At(Place::AtEntry(Vec::new(alloc)), seat))),
+        Terminal::LeftBrace => Ok(Next::Go(State::At(
+            Place::AtEntry(TableEntries::new(alloc)),
+            seat,
+        ))),
         _ => refused(seat),
     }
 }

@@ -15,8 +15,8 @@ use crate::state::{Bracket, Head, Next, Place, Seat, State, Stop};
 use crate::terminal::Terminal;
 use crate::wait::nothing;
 use std::alloc::Global;
-use xr_syntax::{Argument, Expr};
-use xr_tree::{boxed, has_key, has_name, index, list, plain_only, table};
+use xr_syntax::Expr;
+use xr_tree::{Arguments, TableEntries, boxed, index, list, table};
 use xr_types::{Name, TextBytes};
 
 fn dotted(e: Expr, seat: Seat, token: Terminal) -> Result<Next, Stop>
@@ -46,14 +46,13 @@ pub fn asked_head(e: Box<Expr>, name: Name, seat: &Seat) -> Head
     }
 }
 
-#[tactic(auto, using(xr_syntax::proofs::Trees::no_arguments))]
 fn asked(alloc: Global, e: Expr, name: Name, seat: Seat, token: Terminal) -> Result<Next, Stop>
     ensures { Follows result (step_at_of (Asked (tree_of e) name) (pend_of seat) (seat_around seat) (terminal token)) }
 {
     match token {
         Terminal::Open => {
             let head = asked_head(boxed(alloc, e)?, name, &seat);
-            Ok(Next::Go(State::At(Place::AtArg(head, Vec::new(alloc)), seat)))
+            Ok(Next::Go(State::At(Place::AtArg(head, Arguments::new(alloc)), seat)))
         }
         _ => refused(seat),
     }
@@ -97,21 +96,24 @@ fn at_item(alloc: Global, items: Vec<Expr>, seat: Seat, token: Terminal) -> Resu
 }
 
 /// The key of an entry, which the table has not.
-fn entry_key(entries: Vec<(TextBytes, Expr)>, key: TextBytes, seat: Seat) -> Result<Next, Stop>
-    ensures { Follows result (step_at_of (AtEntry (all_entries entries.items)) (pend_of seat) (seat_around seat) (a_text key)) }
+fn entry_key(entries: TableEntries, key: TextBytes, seat: Seat) -> Result<Next, Stop>
+    ensures { Follows result (step_at_of (AtEntry (all_entries entries.list.items)) (pend_of seat) (seat_around seat) (a_text key)) }
 {
-    if has_key(&entries, &key) {
+    if entries.has_key(&key) {
         refused(seat)
     } else {
         Ok(Next::Go(State::At(Place::AtKey(entries, key), seat)))
     }
 }
 
-fn at_entry(entries: Vec<(TextBytes, Expr)>, seat: Seat, token: Terminal) -> Result<Next, Stop>
-    ensures { Follows result (step_at_of (AtEntry (all_entries entries.items)) (pend_of seat) (seat_around seat) (terminal token)) }
+fn at_entry(entries: TableEntries, seat: Seat, token: Terminal) -> Result<Next, Stop>
+    ensures { Follows result (step_at_of (AtEntry (all_entries entries.list.items)) (pend_of seat) (seat_around seat) (terminal token)) }
 {
     match token {
-        Terminal::RightBrace => Ok(Next::Go(State::At(Place::Have(table(entries)), seat))),
+        Terminal::RightBrace => Ok(Next::Go(State::At(
+            Place::Have(table(entries.into_vec())),
+            seat,
+        ))),
         Terminal::Text(key) => entry_key(entries, key, seat),
         _ => refused(seat),
     }
@@ -119,12 +121,12 @@ fn at_entry(entries: Vec<(TextBytes, Expr)>, seat: Seat, token: Terminal) -> Res
 
 fn at_key(
     alloc: Global,
-    entries: Vec<(TextBytes, Expr)>,
+    entries: TableEntries,
     key: TextBytes,
     seat: Seat,
     token: Terminal,
 ) -> Result<Next, Stop>
-    ensures { Follows result (step_at_of (AtKey (all_entries entries.items) key) (pend_of seat) (seat_around seat) (terminal token)) }
+    ensures { Follows result (step_at_of (AtKey (all_entries entries.list.items) key) (pend_of seat) (seat_around seat) (terminal token)) }
 {
     match token {
         Terminal::Colon => {
@@ -136,10 +138,10 @@ fn at_key(
 }
 
 /// An argument that begins with a name, which may be a keyword.
-fn arg_name(head: Head, args: Vec<Argument>, name: Name, seat: Seat) -> Result<Next, Stop>
-    ensures { Follows result (step_at_of (AtArg (head_of head) (all_arguments args.items)) (pend_for head seat) (around_for head seat) (a_name name)) }
+fn arg_name(head: Head, args: Arguments, name: Name, seat: Seat) -> Result<Next, Stop>
+    ensures { Follows result (step_at_of (AtArg (head_of head) (all_arguments args.list.items)) (pend_for head seat) (around_for head seat) (a_name name)) }
 {
-    if plain_only(&args) || !has_name(&args, &name) {
+    if args.plain_only() || !args.has_name(&name) {
         Ok(Next::Go(State::At(Place::AtName(head, args, name), seat)))
     } else {
         drop(head);
@@ -151,13 +153,13 @@ fn arg_name(head: Head, args: Vec<Argument>, name: Name, seat: Seat) -> Result<N
 fn arg_operand(
     alloc: Global,
     head: Head,
-    args: Vec<Argument>,
+    args: Arguments,
     seat: Seat,
     token: Terminal,
 ) -> Result<Next, Stop>
-    ensures { Follows result (cond (only_plain (all_arguments args.items)) (operand_of no_wait (m_inside (InPlain (head_of head) (all_arguments args.items)) (pend_for head seat) (around_for head seat)) (terminal token)) None) }
+    ensures { Follows result (cond (only_plain (all_arguments args.list.items)) (operand_of no_wait (m_inside (InPlain (head_of head) (all_arguments args.list.items)) (pend_for head seat) (around_for head seat)) (terminal token)) None) }
 {
-    if plain_only(&args) {
+    if args.plain_only() {
         operand_inside(alloc, seat, Bracket::Plain(head, args), token)
     } else {
         drop(head);
@@ -168,11 +170,11 @@ fn arg_operand(
 fn at_arg(
     alloc: Global,
     head: Head,
-    args: Vec<Argument>,
+    args: Arguments,
     seat: Seat,
     token: Terminal,
 ) -> Result<Next, Stop>
-    ensures { Follows result (step_at_of (AtArg (head_of head) (all_arguments args.items)) (pend_for head seat) (around_for head seat) (terminal token)) }
+    ensures { Follows result (step_at_of (AtArg (head_of head) (all_arguments args.list.items)) (pend_for head seat) (around_for head seat) (terminal token)) }
 {
     match token {
         Terminal::Close => end_call(alloc, head, args, seat),
@@ -185,13 +187,13 @@ fn at_arg(
 fn name_value(
     alloc: Global,
     head: Head,
-    args: Vec<Argument>,
+    args: Arguments,
     name: Name,
     seat: Seat,
 ) -> Result<Next, Stop>
-    ensures { Follows result (step_at_of (AtName (head_of head) (all_arguments args.items) name) (pend_for head seat) (around_for head seat) Is) }
+    ensures { Follows result (step_at_of (AtName (head_of head) (all_arguments args.list.items) name) (pend_for head seat) (around_for head seat) Is) }
 {
-    if has_name(&args, &name) {
+    if args.has_name(&name) {
         drop(head);
         refused(seat)
     } else {
@@ -201,19 +203,18 @@ fn name_value(
 }
 
 /// The `(` behind a function's name.
-#[tactic(auto, using(xr_syntax::proofs::Trees::no_arguments))]
 fn name_call(
     alloc: Global,
     head: Head,
-    args: Vec<Argument>,
+    args: Arguments,
     name: Name,
     seat: Seat,
 ) -> Result<Next, Stop>
-    ensures { Follows result (step_at_of (AtName (head_of head) (all_arguments args.items) name) (pend_for head seat) (around_for head seat) Open) }
+    ensures { Follows result (step_at_of (AtName (head_of head) (all_arguments args.list.items) name) (pend_for head seat) (around_for head seat) Open) }
 {
-    if plain_only(&args) {
+    if args.plain_only() {
         let around = enter(alloc, seat, Bracket::Plain(head, args))?;
-        let call = Place::AtArg(Head::Func(name), Vec::new(alloc));
+        let call = Place::AtArg(Head::Func(name), Arguments::new(alloc));
         Ok(Next::Go(State::At(call, Seat::In(nothing(), around))))
     } else {
         drop(head);
@@ -225,14 +226,14 @@ fn name_call(
 fn name_operand(
     alloc: Global,
     head: Head,
-    args: Vec<Argument>,
+    args: Arguments,
     name: Name,
     seat: Seat,
     token: Terminal,
 ) -> Result<Next, Stop>
-    ensures { Follows result (cond (only_plain (all_arguments args.items)) (after_operand_of no_wait (m_inside (InPlain (head_of head) (all_arguments args.items)) (pend_for head seat) (around_for head seat)) (Variable name) (terminal token)) None) }
+    ensures { Follows result (cond (only_plain (all_arguments args.list.items)) (after_operand_of no_wait (m_inside (InPlain (head_of head) (all_arguments args.list.items)) (pend_for head seat) (around_for head seat)) (Variable name) (terminal token)) None) }
 {
-    if plain_only(&args) {
+    if args.plain_only() {
         after_name_inside(alloc, seat, Bracket::Plain(head, args), name, token)
     } else {
         drop(head);
@@ -243,12 +244,12 @@ fn name_operand(
 fn at_name(
     alloc: Global,
     head: Head,
-    args: Vec<Argument>,
+    args: Arguments,
     name: Name,
     seat: Seat,
     token: Terminal,
 ) -> Result<Next, Stop>
-    ensures { Follows result (step_at_of (AtName (head_of head) (all_arguments args.items) name) (pend_for head seat) (around_for head seat) (terminal token)) }
+    ensures { Follows result (step_at_of (AtName (head_of head) (all_arguments args.list.items) name) (pend_for head seat) (around_for head seat) (terminal token)) }
 {
     match token {
         Terminal::Is => name_value(alloc, head, args, name, seat),

@@ -1,8 +1,8 @@
 //! Where the parser is in a statement.
 use std::alloc::AllocError;
-use xr_types::OpKind;
 use xr_syntax::{Argument, Expr, Statement};
-use xr_types::{Items, Name, TextBytes};
+use xr_tree::{Arguments, TableEntries};
+use xr_types::{Items, Name, OpKind, TextBytes};
 
 /// An operator with its left side, which waits for its right side.
 pub type Slot = Option<(OpKind, Box<Expr>)>;
@@ -43,9 +43,9 @@ pub enum Head {
 pub enum Bracket {
     Round,
     Items(Vec<Expr>),
-    Entry(Vec<(TextBytes, Expr)>, TextBytes),
-    Plain(Head, Vec<Argument>),
-    Named(Head, Vec<Argument>, Name),
+    Entry(TableEntries, TextBytes),
+    Plain(Head, Arguments),
+    Named(Head, Arguments, Name),
 }
 
 /// An open bracket, and what waits for what stands in it.
@@ -89,10 +89,10 @@ pub enum Place {
     Indexed(Expr),
     Indexing(Expr, TextBytes),
     AtItem(Vec<Expr>),
-    AtEntry(Vec<(TextBytes, Expr)>),
-    AtKey(Vec<(TextBytes, Expr)>, TextBytes),
-    AtArg(Head, Vec<Argument>),
-    AtName(Head, Vec<Argument>, Name),
+    AtEntry(TableEntries),
+    AtKey(TableEntries, TextBytes),
+    AtArg(Head, Arguments),
+    AtName(Head, Arguments, Name),
 }
 
 /// Where a statement has come to.

@@ -16,13 +16,11 @@ use crate::state::{Around, Base, Head, Next, Place, Seat, State, Stop, Wait};
 use crate::terminal::Terminal;
 use crate::wait::{nothing, with_sign};
 use std::alloc::Global;
-use xr_types::OpKind;
 use xr_syntax::{Expr, Statement};
-use xr_tree::{index, variable, whole};
-use xr_types::{Items, Name, TextBytes};
+use xr_tree::{Arguments, index, variable, whole};
+use xr_types::{Items, Name, OpKind, TextBytes};
 
 /// Behind the first name of a statement.
-#[tactic(auto, using(xr_syntax::proofs::Trees::no_arguments))]
 pub fn named(alloc: Global, name: Name, token: Terminal) -> Result<Next, Stop>
     ensures { Follows result (step_of (Named name) (terminal token)) }
 {
@@ -38,7 +36,7 @@ pub fn named(alloc: Global, name: Name, token: Terminal) -> Result<Next, Stop>
         }
         Terminal::Left => Ok(Next::Go(State::NamedOpen(name))),
         Terminal::Open => {
-            let call = Place::AtArg(Head::Func(name), Vec::new(alloc));
+            let call = Place::AtArg(Head::Func(name), Arguments::new(alloc));
             Ok(Next::Go(State::At(call, Seat::Alone)))
         }
         Terminal::Dot => {
@@ -127,7 +125,6 @@ pub fn joint(names: Items<Name>, name: Name, token: Terminal) -> Result<Next, St
     }
 }
 
-#[tactic(auto, using(xr_syntax::proofs::Trees::no_arguments))]
 pub fn aligns(
     alloc: Global,
     mut names: Items<Name>,
@@ -139,7 +136,7 @@ pub fn aligns(
     match token {
         Terminal::Open => {
             names.push(name)?;
-            let call = Place::AtArg(Head::Align(names), Vec::new(alloc));
+            let call = Place::AtArg(Head::Align(names), Arguments::new(alloc));
             Ok(Next::Go(State::At(call, Seat::Alone)))
         }
         _ => Err(Stop::Syntax),
@@ -202,7 +199,6 @@ pub fn signed(alloc: Global, wait: Wait, around: Around, token: Terminal) -> Res
 }
 
 /// Behind a name where an operand is expected.
-#[tactic(auto, using(xr_syntax::proofs::Trees::no_arguments))]
 pub fn fresh(
     alloc: Global,
     name: Name,
@@ -214,7 +210,7 @@ pub fn fresh(
 {
     match token {
         Terminal::Open => {
-            let call = Place::AtArg(Head::Func(name), Vec::new(alloc));
+            let call = Place::AtArg(Head::Func(name), Arguments::new(alloc));
             Ok(Next::Go(State::At(call, Seat::In(wait, around))))
         }
         token => after_operand(alloc, wait, around, variable(name), token),

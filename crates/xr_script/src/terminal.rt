@@ -5,9 +5,8 @@ ghost use Rattle.xr_syntax.specs.declared.token.Token.TheVariants as token;
 ghost use Rattle.xr_script.specs.Terminals.{terminal};
 
 use std::alloc::{AllocError, Global};
-use xr_types::OpKind;
 use xr_syntax::{Constant, Mark, Reserved, Token};
-use xr_types::{DeepCopy, Name, TextBytes};
+use xr_types::{DeepCopy, Name, OpKind, TextBytes};
 
 /// The operators that bind equally tightly, by the rule of the grammar that has them.
 #[derive(Clone, Copy, PartialEq, Eq)]

@@ -9,9 +9,9 @@ ghost use Rattle.xr_script.specs.States.{slot_of, levels_of, waiting_of, wait_of
 use crate::state::{Levels, Slot, Stop, Wait, Waiting};
 use crate::terminal::Level;
 use std::alloc::{AllocError, Global};
-use xr_types::OpKind;
 use xr_syntax::Expr;
 use xr_tree::{binary, unary as signed_by};
+use xr_types::OpKind;
 
 fn no_levels() -> Levels
     ensures { levels_of result ≡ empty bitor }

@@ -10,7 +10,7 @@ use crate::state::{Next, Place, Seat, State, Stop};
 use crate::terminal::Terminal;
 use std::alloc::Global;
 use xr_syntax::Expr;
-use xr_tree::{boxed, index};
+use xr_tree::{Arguments, boxed, index};
 use xr_types::{Name, TextBytes};
 
 pub fn wrote_dotted(e: Expr, token: Terminal) -> Result<Next, Stop>
@@ -22,7 +22,6 @@ pub fn wrote_dotted(e: Expr, token: Terminal) -> Result<Next, Stop>
     }
 }
 
-#[tactic(auto, using(xr_syntax::proofs::Trees::no_arguments))]
 pub fn wrote_asked(alloc: Global, e: Expr, name: Name, token: Terminal) -> Result<Next, Stop>
     ensures { Follows result (step_at_of (Asked (tree_of e) name) (Alone true) (On Writing) (terminal token)) }
 {
@@ -30,7 +29,7 @@ pub fn wrote_asked(alloc: Global, e: Expr, name: Name, token: Terminal) -> Resul
         Terminal::Open => {
             let seat = Seat::Alone;
             let head = asked_head(boxed(alloc, e)?, name, &seat);
-            Ok(Next::Go(State::At(Place::AtArg(head, Vec::new(alloc)), seat)))
+            Ok(Next::Go(State::At(Place::AtArg(head, Arguments::new(alloc)), seat)))
         }
         _ => Err(Stop::Syntax),
     }

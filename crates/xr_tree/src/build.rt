@@ -1,12 +1,11 @@
 //! Each form of an expression, and lists with one more item.
 ghost use Rattle.std.specs.Prelude.{◌≡◌, IfOk};
-ghost use Rattle.xr_syntax.specs.Syntax.{Variable, Whole, Words, Constantly, Unary as a_unary, Binary as a_binary, Call as a_call, Method as a_method, Index as an_index, Item, Items as a_list, Entry, Table as a_table, Plain, Keyed};
+ghost use Rattle.xr_syntax.specs.Syntax.{Variable, Whole, Words, Constantly, Unary as a_unary, Binary as a_binary, Call as a_call, Method as a_method, Index as an_index, Item, Items as a_list, Table as a_table};
 ghost use Rattle.xr_syntax.specs.Syntax.{tree_of, all_trees, all_entries, all_arguments};
 
 use std::alloc::{AllocError, Global};
-use xr_types::OpKind;
 use xr_syntax::{Argument, Constant, Expr};
-use xr_types::{Name, TextBytes};
+use xr_types::{Name, OpKind, TextBytes};
 
 #[tactic(auto, using(xr_syntax::proofs::Trees::tree_out))]
 pub fn variable(name: Name) -> Expr
@@ -98,32 +97,4 @@ pub fn push_item(mut items: Vec<Expr>, e: Expr) -> Result<Vec<Expr>, AllocError>
 {
     items.push(e)?;
     Ok(items)
-}
-
-#[tactic(auto, using(xr_syntax::proofs::Trees::all_entered))]
-pub fn push_entry(
-    mut entries: Vec<(TextBytes, Expr)>,
-    key: TextBytes,
-    e: Expr,
-) -> Result<Vec<(TextBytes, Expr)>, AllocError>
-    ensures { IfOk result (λ v. all_entries v.items ≡ Entry (all_entries entries.items) key (tree_of e)) }
-{
-    entries.push((key, e))?;
-    Ok(entries)
-}
-
-#[tactic(auto, using(xr_syntax::proofs::Trees::all_plain))]
-pub fn push_plain(mut args: Vec<Argument>, e: Expr) -> Result<Vec<Argument>, AllocError>
-    ensures { IfOk result (λ v. all_arguments v.items ≡ Plain (all_arguments args.items) (tree_of e)) }
-{
-    args.push((None, e))?;
-    Ok(args)
-}
-
-#[tactic(auto, using(xr_syntax::proofs::Trees::all_keyed))]
-pub fn push_named(mut args: Vec<Argument>, name: Name, e: Expr) -> Result<Vec<Argument>, AllocError>
-    ensures { IfOk result (λ v. all_arguments v.items ≡ Keyed (all_arguments args.items) name (tree_of e)) }
-{
-    args.push((Some(name), e))?;
-    Ok(args)
 }

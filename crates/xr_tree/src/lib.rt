@@ -1,11 +1,14 @@
-//! Syntax trees, built part by part, and what is asked of their lists.
+//! Syntax trees, built part by part, and the lists of calls and tables as they are read.
 #![tactic(auto)]
 
+mod arguments;
 mod build;
-mod keys;
+mod entries;
+mod names;
 
+pub use arguments::Arguments;
 pub use build::{
-    binary, boxed, call, constant, index, list, method, push_entry, push_item, push_named,
-    push_plain, table, text, unary, variable, whole,
+    binary, boxed, call, constant, index, list, method, push_item, table, text, unary, variable,
+    whole,
 };
-pub use keys::{has_key, has_name, plain_only};
+pub use entries::TableEntries;
