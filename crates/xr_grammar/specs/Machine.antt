@@ -191,11 +191,11 @@ after_operand w u e Minus = join w u e term op.Subtract
 after_operand w u e (Compare o) = compare w u e o
 after_operand w u e t = close u (whole w e) t
 
--- an atom with its parts so far has ended
+-- an atom with its parts so far has ended; one more part is no call that writes until it is one
 abbrev pub after : Pend → Around → Tree → Terminal → Option Next
 after (In w) u e t = after_operand w u e t
-after (Alone l) u e Dot = go (At (Dotted e) (Alone l) u)
-after (Alone l) u e Left = go (At (Indexed e) (Alone l) u)
+after (Alone l) u e Dot = go (At (Dotted e) (Alone false) u)
+after (Alone l) u e Left = go (At (Indexed e) (Alone false) u)
 after (Alone l) u e t = cond l (close u e t) None
 after Bare u e t = close u e t
 

@@ -146,10 +146,6 @@ around_at (place.AtArg h gs) s = around_for h s
 around_at (place.AtName h gs n) s = around_for h s
 around_at x s = seat_around s
 
--- behind the call that writes
-abbrev pub wrote_at : machine.Place → machine.State
-wrote_at x = machine.At x (machine.Alone true) (machine.On machine.Writing)
-
 abbrev pub state_of : State → machine.State
 state_of (state.Named n) = machine.Named n
 state_of (state.NamedOpen n) = machine.NamedOpen n
@@ -165,11 +161,7 @@ state_of (state.Need w u) = machine.Need (wait_of w) (around_of u)
 state_of (state.Signed w u) = machine.Signed (wait_of w) (around_of u)
 state_of (state.Fresh n w u) = machine.Fresh n (wait_of w) (around_of u)
 state_of (state.At x s) = machine.At (place_of x) (pend_at x s) (around_at x s)
-state_of (state.Wrote e gs) = wrote_at (machine.Have (Method (tree_of e.value) (codes "to_netcdf") (all_arguments gs.items)))
-state_of (state.WroteDotted e) = wrote_at (machine.Dotted (tree_of e))
-state_of (state.WroteAsked e n) = wrote_at (machine.Asked (tree_of e) n)
-state_of (state.WroteIndexed e) = wrote_at (machine.Indexed (tree_of e))
-state_of (state.WroteIndexing e t) = wrote_at (machine.Indexing (tree_of e) t)
+state_of (state.Wrote e gs) = machine.At (machine.Have (Method (tree_of e.value) (codes "to_netcdf") (all_arguments gs.items))) (machine.Alone true) (machine.On machine.Writing)
 state_of (state.Joined ns gs) = machine.At (machine.Have (Call (codes "align") (all_arguments gs.items))) machine.Bare (machine.On (machine.Aligning ns))
 
 abbrev pub next_of : Next → machine.Next

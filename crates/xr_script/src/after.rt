@@ -129,11 +129,11 @@ pub fn after_write(
     match token {
         Terminal::Dot => {
             let e = write_call(alloc, receiver, args)?;
-            Ok(Next::Go(State::WroteDotted(e)))
+            Ok(Next::Go(State::At(Place::Dotted(e), Seat::Alone)))
         }
         Terminal::Left => {
             let e = write_call(alloc, receiver, args)?;
-            Ok(Next::Go(State::WroteIndexed(e)))
+            Ok(Next::Go(State::At(Place::Indexed(e), Seat::Alone)))
         }
         Terminal::End => Ok(Next::Done(Statement::Write(Box::into_inner(receiver), args))),
         _ => Err(Stop::Syntax),

@@ -17,7 +17,6 @@ mod tally;
 mod terminal;
 mod wait;
 mod walk;
-mod wrote;
 
 pub use fault::ParseFault;
 pub use script::parse;

@@ -1,11 +1,11 @@
 //! Inside an expression.
-ghost use Rattle.std.specs.Prelude.{◌≡◌, cond, None};
-ghost use Rattle.xr_syntax.specs.Syntax.{tree_of, all_trees, all_entries, all_arguments, plain_only as only_plain, Variable};
-ghost use Rattle.xr_grammar.specs.Machine.{step_at as step_at_of, Dotted, Asked, Indexed, Indexing, AtItem, AtEntry, AtKey, AtArg, AtName, asks};
+ghost use Rattle.std.specs.Prelude.{◌≡◌, cond, None, Some};
+ghost use Rattle.xr_syntax.specs.Syntax.{tree_of, all_trees, all_entries, all_arguments, plain_only as only_plain, Variable, NoArg};
+ghost use Rattle.xr_grammar.specs.Machine.{step_at as step_at_of, Dotted, Asked, Indexed, Indexing, AtItem, AtEntry, AtKey, AtArg, AtName, At, asks, go};
 ghost use Rattle.xr_grammar.specs.Machine.{operand as operand_of, after_operand as after_operand_of, fresh as no_wait, Inside as m_inside, InPlain};
 ghost use Rattle.xr_syntax.specs.Grammar.{Of, Is, Open, Name as a_name, Text as a_text};
 ghost use Rattle.xr_script.specs.Terminals.{terminal};
-ghost use Rattle.xr_script.specs.States.{head_of, pend_of, seat_around, pend_for, around_for, place_of, pend_at, around_at, Follows};
+ghost use Rattle.xr_script.specs.States.{head_of, pend_of, seat_around, pend_for, around_for, place_of, pend_at, around_at, next_of, Follows};
 
 use crate::after::{after, after_name_inside};
 use crate::around::{enter, no_room, refused};
@@ -29,7 +29,7 @@ fn dotted(e: Expr, seat: Seat, token: Terminal) -> Result<Next, Stop>
 }
 
 /// The head of a call of a method; `to_netcdf` is one that may end a statement.
-pub fn asked_head(e: Box<Expr>, name: Name, seat: &Seat) -> Head
+fn asked_head(e: Box<Expr>, name: Name, seat: &Seat) -> Head
     ensures head { head_of result ≡ Of (tree_of e.value) name }
     ensures pend { pend_for result seat.now ≡ asks name (pend_of seat.now) }
     ensures around { around_for result seat.now ≡ seat_around seat.now }
@@ -46,13 +46,21 @@ pub fn asked_head(e: Box<Expr>, name: Name, seat: &Seat) -> Head
     }
 }
 
+/// The `(` behind the name of a method.
+fn asked_call(alloc: Global, e: Box<Expr>, name: Name, seat: Seat) -> Next
+    ensures { go (At (AtArg (Of (tree_of e.value) name) NoArg) (asks name (pend_of seat)) (seat_around seat)) ≡ Some (next_of result) }
+{
+    let head = asked_head(e, name, &seat);
+    Next::Go(State::At(Place::AtArg(head, Arguments::new(alloc)), seat))
+}
+
 fn asked(alloc: Global, e: Expr, name: Name, seat: Seat, token: Terminal) -> Result<Next, Stop>
     ensures { Follows result (step_at_of (Asked (tree_of e) name) (pend_of seat) (seat_around seat) (terminal token)) }
 {
     match token {
         Terminal::Open => {
-            let head = asked_head(boxed(alloc, e)?, name, &seat);
-            Ok(Next::Go(State::At(Place::AtArg(head, Arguments::new(alloc)), seat)))
+            let e = boxed(alloc, e)?;
+            Ok(asked_call(alloc, e, name, seat))
         }
         _ => refused(seat),
     }

@@ -114,11 +114,6 @@ pub enum State {
     At(Place, Seat),
     /// Behind a call of `to_netcdf` that may end the statement.
     Wrote(Box<Expr>, Vec<Argument>),
-    /// Behind such a call and a dot, the name of a method, `[` or the text of an index.
-    WroteDotted(Expr),
-    WroteAsked(Expr, Name),
-    WroteIndexed(Expr),
-    WroteIndexing(Expr, TextBytes),
     /// Behind the call of `align`.
     Joined(Items<Name>, Vec<Argument>),
 }

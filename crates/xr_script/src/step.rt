@@ -13,7 +13,6 @@ use crate::statement::{
     signed, target,
 };
 use crate::terminal::Terminal;
-use crate::wrote::{wrote_asked, wrote_dotted, wrote_indexed, wrote_indexing};
 use std::alloc::Global;
 
 /// One token of a statement that has begun.
@@ -36,10 +35,6 @@ pub fn step(alloc: Global, state: State, token: Terminal) -> Result<Next, Stop>
         State::Fresh(name, wait, around) => fresh(alloc, name, wait, around, token),
         State::At(place, seat) => step_at(alloc, place, seat, token),
         State::Wrote(receiver, args) => after_write(alloc, receiver, args, token),
-        State::WroteDotted(e) => wrote_dotted(e, token),
-        State::WroteAsked(e, name) => wrote_asked(alloc, e, name, token),
-        State::WroteIndexed(e) => wrote_indexed(e, token),
-        State::WroteIndexing(e, text) => wrote_indexing(alloc, e, text, token),
         State::Joined(names, args) => after_align(names, args, token),
     }
 }

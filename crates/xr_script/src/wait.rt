@@ -1,7 +1,7 @@
 //! Operators and signs that wait for an operand.
-ghost use Rattle.std.specs.Prelude.{◌≡◌, IfOk, MatchResult, Some, None, Err, reverse};
+ghost use Rattle.std.specs.Prelude.{◌≡◌, [], IfOk, MatchResult, Some, None, Err, reverse};
 ghost use Rattle.xr_syntax.specs.Syntax.{tree_of};
-ghost use Rattle.xr_grammar.specs.Machine.{fresh, empty, joined, signed, folded, put, whole as whole_of, with_sign as one_more, join as join_of, compare as compare_of, Need, go, Around as m_around};
+ghost use Rattle.xr_grammar.specs.Machine.{fresh, empty, joined, signed, folded, put, whole as whole_of, with_sign as one_more, join as join_of, compare as compare_of, Need, go, Waits, Around as m_around};
 ghost use Rattle.xr_syntax.specs.Grammar.{unary, term, sum as a_sum, bitand, bitxor, bitor};
 ghost use Rattle.xr_script.specs.Terminals.{rank_of};
 ghost use Rattle.xr_script.specs.States.{slot_of, levels_of, waiting_of, wait_of};
@@ -92,6 +92,28 @@ fn left_side(alloc: Global, op: OpKind, e: Expr) -> Result<Slot, AllocError>
     Ok(Some((op, Box::new(alloc, e)?)))
 }
 
+/// An operand with the products and the sum that wait for it.
+fn with_sum(alloc: Global, sum: Slot, product: Slot, e: Expr) -> Result<Expr, AllocError>
+    ensures { IfOk result (λ r. tree_of r ≡ joined (slot_of sum) (joined (slot_of product) (tree_of e))) }
+{
+    let e = joined_to(alloc, product, e)?;
+    joined_to(alloc, sum, e)
+}
+
+/// An operand with all that binds more tightly than `^`.
+fn with_bit_and(
+    alloc: Global,
+    bit_and: Slot,
+    sum: Slot,
+    product: Slot,
+    e: Expr,
+) -> Result<Expr, AllocError>
+    ensures { IfOk result (λ r. tree_of r ≡ joined (slot_of bit_and) (joined (slot_of sum) (joined (slot_of product) (tree_of e)))) }
+{
+    let e = with_sum(alloc, sum, product, e)?;
+    joined_to(alloc, bit_and, e)
+}
+
 /// An operand with the operators of all levels.
 fn with_levels(alloc: Global, levels: Levels, e: Expr) -> Result<Expr, AllocError>
     ensures { IfOk result (λ r. tree_of r ≡ folded (levels_of levels) (tree_of e)) }
@@ -103,11 +125,22 @@ fn with_levels(alloc: Global, levels: Levels, e: Expr) -> Result<Expr, AllocErro
         sum,
         product,
     } = levels;
-    let e = joined_to(alloc, product, e)?;
-    let e = joined_to(alloc, sum, e)?;
-    let e = joined_to(alloc, bit_and, e)?;
+    let e = with_bit_and(alloc, bit_and, sum, product, e)?;
     let e = joined_to(alloc, bit_xor, e)?;
     joined_to(alloc, bit_or, e)
+}
+
+/// An operand with the signs before it and the operators of all levels.
+fn with_signs_and_levels(
+    alloc: Global,
+    signs: Vec<OpKind>,
+    levels: Levels,
+    e: Expr,
+) -> Result<Expr, AllocError>
+    ensures { IfOk result (λ r. tree_of r ≡ folded (levels_of levels) (signed (reverse signs.items) (tree_of e))) }
+{
+    let e = with_signs(alloc, signs, e)?;
+    with_levels(alloc, levels, e)
 }
 
 /// An operand with all that waits for it.
@@ -120,8 +153,7 @@ fn with_waiting(alloc: Global, waiting: Waiting, e: Expr) -> Result<Expr, AllocE
         levels,
         signs,
     } = waiting;
-    let e = with_signs(alloc, signs, e)?;
-    let e = with_levels(alloc, levels, e)?;
+    let e = with_signs_and_levels(alloc, signs, levels, e)?;
     joined_to(alloc, compare, e)
 }
 
@@ -166,8 +198,7 @@ fn put_sum(alloc: Global, levels: Levels, e: Expr, op: OpKind) -> Result<Levels,
         sum,
         product,
     } = levels;
-    let e = joined_to(alloc, product, e)?;
-    let e = joined_to(alloc, sum, e)?;
+    let e = with_sum(alloc, sum, product, e)?;
     Ok(Levels {
         bit_or,
         bit_xor,
@@ -187,9 +218,7 @@ fn put_bit_and(alloc: Global, levels: Levels, e: Expr, op: OpKind) -> Result<Lev
         sum,
         product,
     } = levels;
-    let e = joined_to(alloc, product, e)?;
-    let e = joined_to(alloc, sum, e)?;
-    let e = joined_to(alloc, bit_and, e)?;
+    let e = with_bit_and(alloc, bit_and, sum, product, e)?;
     Ok(Levels {
         bit_or,
         bit_xor,
@@ -209,9 +238,7 @@ fn put_bit_xor(alloc: Global, levels: Levels, e: Expr, op: OpKind) -> Result<Lev
         sum,
         product,
     } = levels;
-    let e = joined_to(alloc, product, e)?;
-    let e = joined_to(alloc, sum, e)?;
-    let e = joined_to(alloc, bit_and, e)?;
+    let e = with_bit_and(alloc, bit_and, sum, product, e)?;
     let e = joined_to(alloc, bit_xor, e)?;
     Ok(Levels {
         bit_or,
@@ -225,18 +252,7 @@ fn put_bit_xor(alloc: Global, levels: Levels, e: Expr, op: OpKind) -> Result<Lev
 fn put_bit_or(alloc: Global, levels: Levels, e: Expr, op: OpKind) -> Result<Levels, AllocError>
     ensures { IfOk result (λ l. put bitxor op (levels_of levels) (tree_of e) ≡ Some (levels_of l)) }
 {
-    let Levels {
-        bit_or,
-        bit_xor,
-        bit_and,
-        sum,
-        product,
-    } = levels;
-    let e = joined_to(alloc, product, e)?;
-    let e = joined_to(alloc, sum, e)?;
-    let e = joined_to(alloc, bit_and, e)?;
-    let e = joined_to(alloc, bit_xor, e)?;
-    let e = joined_to(alloc, bit_or, e)?;
+    let e = with_levels(alloc, levels, e)?;
     Ok(Levels {
         bit_or: left_side(alloc, op, e)?,
         bit_xor: None,
@@ -291,6 +307,19 @@ pub fn join(
     kept(alloc, waiting)
 }
 
+/// An operand as the left side of a comparison.
+fn comparing(alloc: Global, e: Expr, op: OpKind) -> Result<Wait, AllocError>
+    ensures { IfOk result (λ w. wait_of w ≡ Waits (Some (op, tree_of e)) (empty bitor) []) }
+{
+    let compare = left_side(alloc, op, e)?;
+    let waiting = Waiting {
+        compare,
+        levels: no_levels(),
+        signs: Vec::new(alloc),
+    };
+    kept(alloc, waiting)
+}
+
 /// An operand as the left side of a comparison, of which an expression has one at most.
 #[tactic(auto, unfolding(xr_grammar::specs::Machine::compare))]
 pub fn compare(alloc: Global, wait: Wait, e: Expr, op: OpKind) -> Result<Wait, Stop>
@@ -305,14 +334,8 @@ pub fn compare(alloc: Global, wait: Wait, e: Expr, op: OpKind) -> Result<Wait, S
     match compare {
         Some(_) => Err(Stop::Syntax),
         None => {
-            let e = with_signs(alloc, signs, e)?;
-            let e = with_levels(alloc, levels, e)?;
-            let waiting = Waiting {
-                compare: left_side(alloc, op, e)?,
-                levels: no_levels(),
-                signs: Vec::new(alloc),
-            };
-            Ok(kept(alloc, waiting)?)
+            let e = with_signs_and_levels(alloc, signs, levels, e)?;
+            Ok(comparing(alloc, e, op)?)
         }
     }
 }
