@@ -7,10 +7,10 @@ use Rattle.xr_arrays.specs.Folds.{numbers, present, numbered, sum_of}
 use Rattle.xr_arrays.proofs.Folds.{add_assoc_ℤ, mul_assoc_ℤ}
 use Rattle.plan_core.specs.Rows.{those}
 
-pub those_are : (p : ℕ) (cells : List (Option ℤ)) → numbers (present (numbered p cells)) ≡ those cells
-those_are p [] = refl
-those_are p (None ∷ cells) = those_are (p + 1) cells
-those_are p (Some x ∷ cells) = ap (λ xs. x ∷ xs) (those_are (p + 1) cells)
+pub those_pairs : (cells : List (ℕ × Option ℤ)) → numbers (present cells) ≡ those (map (λ c. c.1) cells)
+those_pairs [] = refl
+those_pairs ((p, None) ∷ cells) = those_pairs cells
+those_pairs ((p, Some x) ∷ cells) = ap (λ xs. x ∷ xs) (those_pairs cells)
 
 pub sum_step : (s n r : ℤ) → int_wrap w64 (int_wrap w64 (s +ℤ int_wrap w64 n) +ℤ r) ≡ int_wrap w64 (s +ℤ (n +ℤ r))
 sum_step s n r =
@@ -28,11 +28,6 @@ pub masked_more : {X : Type 0} (number : X → ℤ) (xs : List X) (bytes : List 
 masked_more number xs bytes i x byte before now base first first_byte more so_far =
     more (map cell (zip (map number (drop (i + 1) xs)) (drop (i + 1) bytes))) ∙ ap (λ ys. int_wrap w64 (before +ℤ sum_of (those (map cell (zip (map number ys) (byte ∷ drop (i + 1) bytes)))))) (sym first)
     ∙ ap (λ bs. int_wrap w64 (before +ℤ sum_of (those (map cell (zip (map number (drop i xs)) bs))))) (sym first_byte) ∙ so_far
-
-pub product_step : (s n r : ℤ) → int_wrap w64 (int_wrap w64 (s *ℤ int_wrap w64 n) *ℤ r) ≡ int_wrap w64 (s *ℤ (n *ℤ r))
-product_step s n r =
-    let m = int_wrap w64 n in
-    int_wrap-mul_left w64 (s *ℤ m) r ∙ ap (int_wrap w64) (sym (mul_assoc_ℤ s m r)) ∙ sym (int_wrap-mul_right w64 s (m *ℤ r)) ∙ ap (λ k. int_wrap w64 (s *ℤ k)) (int_wrap-mul_left w64 n r) ∙ int_wrap-mul_right w64 s (n *ℤ r)
 
 pub those_bare : (xs : List ℤ) → those (map Some xs) ≡ xs
 those_bare [] = refl

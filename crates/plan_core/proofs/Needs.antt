@@ -270,6 +270,7 @@ widen_ready nodes done node n axis count is can =
 
 pub record FoldReady (nodes : List Node) (done : List (Option Array)) (node : Node) (k : FoldKind) (n : ℕ) (feeds : List Feed) : Type 0 where
   pub held : IsHeld nodes done n
+  pub array : IsArray (value nodes n)
   pub feeds_are : length feeds ≡ length (value nodes n).shape
   pub fed : AreFed feeds (value nodes n).shape
   pub one_axis : is_positional k ≡ true → folded_axes feeds ≡ 1
@@ -280,10 +281,11 @@ pub record FoldReady (nodes : List Node) (done : List (Option Array)) (node : No
 pub fold_ready : (nodes : List Node) (done : List (Option Array)) (node : Node) (k : FoldKind) (n : ℕ) (feeds : List Feed) → node ≡ Fold k n feeds → IsReady nodes done node → FoldReady nodes done node k n feeds
 fold_ready nodes done node k n feeds is can =
     let r : IsReady nodes done (Fold k n feeds) = subst (IsReady nodes done) is can in
-    record { held = All-head (IsHeld nodes done) n [] r.inputs; feeds_are = r.fits.1; fed = r.fits.2; one_axis = r.fits.3; few = All-head (λ m. size (value nodes m).shape ≤ most_node_cells) n [] r.few; small = r.small; is = ap (node_of (value nodes)) (sym is) }
+    record { held = All-head (IsHeld nodes done) n [] r.inputs; array = All-head (λ m. IsArray (value nodes m)) n [] r.arrays; feeds_are = r.fits.1; fed = r.fits.2; one_axis = r.fits.3; few = All-head (λ m. size (value nodes m).shape ≤ most_node_cells) n [] r.few; small = r.small; is = ap (node_of (value nodes)) (sym is) }
 
 pub record ScanReady (nodes : List Node) (done : List (Option Array)) (node : Node) (k : FoldKind) (n axis : ℕ) : Type 0 where
   pub held : IsHeld nodes done n
+  pub array : IsArray (value nodes n)
   pub sum : k ≡ folds.Sum
   pub axis_is : axis < length (value nodes n).shape
   pub few : size (value nodes n).shape ≤ most_node_cells
@@ -292,7 +294,7 @@ pub record ScanReady (nodes : List Node) (done : List (Option Array)) (node : No
 pub scan_ready : (nodes : List Node) (done : List (Option Array)) (node : Node) (k : FoldKind) (n axis : ℕ) → node ≡ Scan k n axis → IsReady nodes done node → ScanReady nodes done node k n axis
 scan_ready nodes done node k n axis is can =
     let r : IsReady nodes done (Scan k n axis) = subst (IsReady nodes done) is can in
-    record { held = All-head (IsHeld nodes done) n [] r.inputs; sum = r.fits.1; axis_is = r.fits.2; few = All-head (λ m. size (value nodes m).shape ≤ most_node_cells) n [] r.few; is = ap (node_of (value nodes)) (sym is) }
+    record { held = All-head (IsHeld nodes done) n [] r.inputs; array = All-head (λ m. IsArray (value nodes m)) n [] r.arrays; sum = r.fits.1; axis_is = r.fits.2; few = All-head (λ m. size (value nodes m).shape ≤ most_node_cells) n [] r.few; is = ap (node_of (value nodes)) (sym is) }
 
 pub record ChunkReady (nodes : List Node) (done : List (Option Array)) (node : Node) (n : ℕ) : Type 0 where
   pub held : IsHeld nodes done n

@@ -46,7 +46,7 @@ flat-length f s a (suc n) h =
     let rest : length (flat_map f (range_with_len (a + 1) n)) ≡ n * s = flat-length f s (a + 1) n h in
     length-append (f a) (flat_map f (range_with_len (a + 1) n)) ∙ (rw (h a, rest, suc_times) refl)
 
-map-flat : {A X Y : Type 0} (g : X → Y) (f : A → List X) (items : List A) → map g (flat_map f items) ≡ flat_map (λ a. map g (f a)) items
+pub map-flat : {A X Y : Type 0} (g : X → Y) (f : A → List X) (items : List A) → map g (flat_map f items) ≡ flat_map (λ a. map g (f a)) items
 map-flat g f [] = refl
 map-flat g f (a ∷ rest) = map-append g (f a) (flat_map f rest) ∙ ap (λ t. map g (f a) ++ t) (map-flat g f rest)
 
