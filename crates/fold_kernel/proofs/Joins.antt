@@ -5,13 +5,13 @@ use Rattle.std.specs.Option.{option_or}
 use Rattle.std.proofs.lemmas.Int.{ints, clamps, by_lt_z, int_wrap_fits}
 use Rattle.xr_types.specs.Kinds.{wrap_to}
 use Rattle.xr_types.specs.declared.kind.DType.{DType}
-use Rattle.xr_types.specs.declared.kind.DType.TheVariants.{Int64}
 use Rattle.xr_types.specs.declared.operation.FoldKind.{FoldKind}
 use Rattle.xr_types.specs.declared.operation.FoldKind.TheVariants.{Sum, Prod, Min, Max, First, Last, ArgMin, ArgMax, Count, Any, All}
-use Rattle.xr_arrays.specs.Folds.{present, of_both}
-use Rattle.xr_arrays.proofs.Folds.{kept_place, int_ge, sum-append, prod-append, min-append, max-append, firsts-append, lasts-append, argmin-append, argmax-append, count-append, any-append, all-append}
+use Rattle.xr_arrays.specs.Folds.{present, of_both, total_kind}
+use Rattle.xr_arrays.proofs.Folds.{kept_place, int_ge, sum-append, prod-append, total_of_both, min-append, max-append, firsts-append, lasts-append, argmin-append, argmax-append, count-append, any-append, all-append}
 use Rattle.fold_kernel.specs.declared.found.Found.{Found}
 use Rattle.fold_kernel.specs.Partials.{Folded, StandsFor, seen, joined_number, chosen}
+use Rattle.fold_kernel.proofs.Totals.{total_again, signed_add, signed_multiply}
 
 pub length-present : (cs : List (ℕ × Option ℤ)) → length (present cs) ≤ length cs
 length-present [] = omega arith
@@ -87,8 +87,8 @@ along_place : (keeps : ℤ → ℤ → Bool) (x x' y y' p p' q q' : Option ℤ) 
 along_place keeps x x' y y' p p' q q' e e' i i' = along (λ v w. kept_place keeps v w p q) x x' y y' e e' ∙ along (kept_place keeps x' y') p p' q q' i i'
 
 pub joined_stands : (k : FoldKind) (t : DType) (m n : ℤ) (f g : Option Found) (a b : List (ℕ × Option ℤ)) → StandsFor (seen k t m f) a → StandsFor (seen k t n g) b → length a + length b ≤ 2 ^ 62 → StandsFor (seen k t (joined_number k m n) (chosen k f g)) (a ++ b)
-joined_stands Sum t m n f g a b h i few = record { value = along (of_both (λ x y. wrap_to Int64 (x +ℤ y))) _ _ _ _ h.value i.value ∙ sym (sum-append t a b); best = refl }
-joined_stands Prod t m n f g a b h i few = record { value = along (of_both (λ x y. wrap_to Int64 (x *ℤ y))) _ _ _ _ h.value i.value ∙ sym (prod-append t a b); best = refl }
+joined_stands Sum t m n f g a b h i few = record { value = ap Some (total_again t (m +ℤ n) ∙ total_of_both ◌+ℤ◌ signed_add t m n) ∙ along (of_both (λ x y. wrap_to (total_kind t) (x +ℤ y))) _ _ _ _ h.value i.value ∙ sym (sum-append t a b); best = refl }
+joined_stands Prod t m n f g a b h i few = record { value = ap Some (total_again t (m *ℤ n) ∙ total_of_both ◌*ℤ◌ signed_multiply t m n) ∙ along (of_both (λ x y. wrap_to (total_kind t) (x *ℤ y))) _ _ _ _ h.value i.value ∙ sym (prod-append t a b); best = refl }
 joined_stands Count t m n f g a b h i few = record { value = ap Some (count_fits a b m n h.value i.value few) ∙ along (of_both ◌+ℤ◌) _ _ _ _ h.value i.value ∙ sym (count-append t a b); best = refl }
 joined_stands Any t m n f g a b h i few = record { value = along (of_both int_max) _ _ _ _ h.value i.value ∙ sym (any-append t a b); best = refl }
 joined_stands All t m n f g a b h i few = record { value = along (of_both int_min) _ _ _ _ h.value i.value ∙ sym (all-append t a b); best = refl }

@@ -6,10 +6,12 @@ use Rattle.std.proofs.lemmas.Int.{ints, int_wrap_fits}
 use Rattle.xr_types.specs.declared.kind.DType.{DType}
 use Rattle.xr_types.specs.declared.operation.FoldKind.{FoldKind}
 use Rattle.xr_types.specs.declared.operation.FoldKind.TheVariants.{Sum, Prod, Min, Max, First, Last, ArgMin, ArgMax, Count, Any, All}
-use Rattle.xr_arrays.specs.Folds.{present, numbers}
+use Rattle.xr_types.specs.Kinds.{wrap_to}
+use Rattle.xr_arrays.specs.Folds.{present, numbers, sum_of, product_of, total_kind}
 use Rattle.fold_kernel.specs.declared.found.Found.{Found}
 use Rattle.fold_kernel.specs.Partials.{StandsFor, seen, number_of, IsChosen, found, first_found}
 use Rattle.fold_kernel.proofs.Joins.{length-present}
+use Rattle.fold_kernel.proofs.Totals.{total_again}
 
 first_number : (cs : List (ℕ × ℤ)) → option_map (λ c. c.number) (first_found cs) ≡ slice_get (numbers cs) 0
 first_number [] = refl
@@ -20,8 +22,8 @@ last_number o [] = refl
 last_number o (c ∷ cs) = last_number (Some (found c)) cs
 
 pub kept_stands : (k : FoldKind) (t : DType) (n : ℤ) (f : Option Found) (cs : List (ℕ × Option ℤ)) → n ≡ number_of k (present cs) → IsChosen k f (present cs) → length cs ≤ 2 ^ 62 → StandsFor (seen k t n f) cs
-kept_stands Sum t n f cs e h few = record { value = ap Some e; best = refl }
-kept_stands Prod t n f cs e h few = record { value = ap Some e; best = refl }
+kept_stands Sum t n f cs e h few = record { value = ap Some (ap (wrap_to (total_kind t)) e ∙ total_again t (sum_of (numbers (present cs)))); best = refl }
+kept_stands Prod t n f cs e h few = record { value = ap Some (ap (wrap_to (total_kind t)) e ∙ total_again t (product_of (numbers (present cs)))); best = refl }
 kept_stands Count t n f cs e h few = record { value = ap Some (e ∙ int_wrap_fits w64 (pos (length (present cs))) (omega (arith, ints, length-present cs))); best = refl }
 kept_stands Any t n f cs e h few = record { value = ap Some e; best = refl }
 kept_stands All t n f cs e h few = record { value = ap Some e; best = refl }

@@ -9,3 +9,4 @@ pub mod Scans
 pub mod Lines
 pub mod MaskBytes
 pub mod Halves
+pub mod Totals

@@ -6,7 +6,7 @@ use Rattle.std.proofs.lemmas.Int.{ints, clamps, by_lt_z, int_wrap-add_left, int_
 use Rattle.xr_types.specs.Kinds.{wrap_to}
 use Rattle.xr_types.specs.Cells.{again_int8, again_int16, again_int32, again_int64}
 use Rattle.xr_types.specs.declared.kind.DType.{DType}
-use Rattle.xr_types.specs.declared.kind.DType.TheVariants.{Bool as Truths, Char, Int8, Int16, Int32, Int64}
+use Rattle.xr_types.specs.declared.kind.DType.TheVariants.{Bool as Truths, Char, Int8, Int16, Int32, Int64, UInt8, UInt16, UInt32, UInt64}
 use Rattle.xr_arrays.specs.Folds.{present, numbers, sum_of, product_of, of_both, least, greatest, is_nonzero}
 use Rattle.xr_arrays.proofs.Folds.{add_assoc_ℤ, mul_assoc_ℤ, min_assoc, max_assoc}
 use Rattle.fold_kernel.specs.declared.gather.Total.{Total}
@@ -57,6 +57,10 @@ zero_left Int8 = again_int8 (pos 0) (omega (arith, ints)) (omega (arith, ints))
 zero_left Int16 = again_int16 (pos 0) (omega (arith, ints)) (omega (arith, ints))
 zero_left Int32 = again_int32 (pos 0) (omega (arith, ints)) (omega (arith, ints))
 zero_left Int64 = again_int64 (pos 0) (omega (arith, ints)) (omega (arith, ints))
+zero_left UInt8 = refl
+zero_left UInt16 = refl
+zero_left UInt32 = refl
+zero_left UInt64 = refl
 
 -- ---- products
 

@@ -8,7 +8,7 @@ use Rattle.xr_types.specs.declared.kind.DType.{DType}
 use Rattle.xr_types.specs.declared.kind.DType.TheVariants.{Int64}
 use Rattle.xr_types.specs.declared.operation.FoldKind.{FoldKind}
 use Rattle.xr_types.specs.declared.operation.FoldKind.TheVariants.{Sum, Prod, Min, Max, First, Last, ArgMin, ArgMax, Count, Any, All}
-use Rattle.xr_arrays.specs.Folds.{fold_of, present, numbers, first_place, least, greatest, sum_of, product_of, truth, is_nonzero}
+use Rattle.xr_arrays.specs.Folds.{fold_of, total_kind, present, numbers, first_place, least, greatest, sum_of, product_of, truth, is_nonzero}
 use Rattle.fold_kernel.specs.declared.found.Found.{Found}
 
 -- a fold so far: which one, of cells of which kind, its value, and for argmin and argmax the number at that position
@@ -31,14 +31,19 @@ pub record StandsFor (p : Folded) (cs : List (ℕ × Option ℤ)) : Type 0 where
 
 -- ---- what a partial keeps: a number for the folds that calculate, a cell for the folds that choose one
 
-abbrev pub value_of : FoldKind → ℤ → Option Found → Option ℤ
-value_of Min n f = option_map (λ c. c.number) f
-value_of Max n f = option_map (λ c. c.number) f
-value_of First n f = option_map (λ c. c.number) f
-value_of Last n f = option_map (λ c. c.number) f
-value_of ArgMin n f = option_map (λ c. pos c.position) f
-value_of ArgMax n f = option_map (λ c. pos c.position) f
-value_of k n f = Some n
+-- a sum or product is kept as a number with a sign that agrees with it in 64 bits
+abbrev pub value_of : FoldKind → DType → ℤ → Option Found → Option ℤ
+value_of Min t n f = option_map (λ c. c.number) f
+value_of Max t n f = option_map (λ c. c.number) f
+value_of First t n f = option_map (λ c. c.number) f
+value_of Last t n f = option_map (λ c. c.number) f
+value_of ArgMin t n f = option_map (λ c. pos c.position) f
+value_of ArgMax t n f = option_map (λ c. pos c.position) f
+value_of Sum t n f = Some (wrap_to (total_kind t) n)
+value_of Prod t n f = Some (wrap_to (total_kind t) n)
+value_of Count t n f = Some n
+value_of Any t n f = Some n
+value_of All t n f = Some n
 
 abbrev pub best_number : FoldKind → Option Found → Option ℤ
 best_number ArgMin f = option_map (λ c. c.number) f
@@ -46,7 +51,7 @@ best_number ArgMax f = option_map (λ c. c.number) f
 best_number k f = None
 
 abbrev pub seen : FoldKind → DType → ℤ → Option Found → Folded
-seen k t n f = record { kind = k; of = t; value = value_of k n f; best = best_number k f }
+seen k t n f = record { kind = k; of = t; value = value_of k t n f; best = best_number k f }
 
 -- the number of both parts
 abbrev pub joined_number : FoldKind → ℤ → ℤ → ℤ

@@ -1,6 +1,7 @@
 -- Runs of cells as they lie in memory, and what a loop over one gathers.
 use Rattle.std.specs.Prelude.{◌==◌, ◌+◌, ◌/◌, ℕ, suc, ℤ, ◌+ℤ◌, List, [], ◌∷◌, map, zip, Option, Some, None, option_map, if◌then◌else◌}
-use Rattle.std.specs.Int.{int_wrap, w64}
+use Rattle.xr_types.specs.Kinds.{wrap_to}
+use Rattle.xr_types.specs.declared.kind.DType.{DType}
 use Rattle.xr_arrays.specs.Folds.{numbered}
 
 -- the cells of a run, of which those are missing whose byte in the mask isn't 0
@@ -29,10 +30,10 @@ first_shown [] = None
 first_shown (None ∷ cells) = first_shown cells
 first_shown (Some x ∷ cells) = Some x
 
--- a sum that wraps at 64 bits, with one more cell
-abbrev pub with_cell : {T : Type 0} → (T → ℤ) → ℤ → Option T → ℤ
-with_cell number sum None = sum
-with_cell number sum (Some x) = int_wrap w64 (sum +ℤ number x)
+-- a sum of a kind, with one more cell
+abbrev pub with_cell : {T : Type 0} → DType → (T → ℤ) → ℤ → Option T → ℤ
+with_cell kind number sum None = sum
+with_cell kind number sum (Some x) = wrap_to kind (sum +ℤ number x)
 
 -- how many cells are present
 abbrev pub count_shown : {T : Type 0} → List (Option T) → ℕ

@@ -1,7 +1,7 @@
 //! Running sums along a line of cells.
-ghost use Rattle.std.specs.Prelude.{◌≡◌, ◌<◌, ◌+◌, ◌++◌, ℕ, ℤ, List, Option, Some, length, take, get_or, option_map, pos, slice_set};
-ghost use Rattle.xr_types.specs.declared.kind.DType.TheVariants.{Int64};
-ghost use Rattle.xr_arrays.specs.Folds.{fold_of, numbered};
+ghost use Rattle.std.specs.Prelude.{◌≡◌, ◌<◌, ◌+◌, ◌+ℤ◌, ◌++◌, ℕ, ℤ, List, Option, Some, length, take, get_or, option_map, pos, slice_set};
+ghost use Rattle.xr_types.specs.Kinds.{wrap_to};
+ghost use Rattle.xr_arrays.specs.Folds.{fold_of, numbered, total_kind};
 ghost use Rattle.xr_types.specs.Points.{IsPoint};
 ghost use Rattle.xr_types.specs.declared.operation.FoldKind.TheVariants.{Sum};
 ghost use Rattle.strided_block.specs.Boxes.{plus, zeros};
@@ -12,7 +12,6 @@ ghost use Rattle.strided_block.specs.Views.{Cut, shown, held, cell_at};
 ghost use Rattle.fold_kernel.specs.Lines.{line_cells, with_number, SumsUp};
 ghost use Rattle.fold_kernel.specs.Partials.{StandsFor};
 
-use crate::gather::added;
 use crate::partial::Partial;
 use crate::running::more;
 use strided_block::{CellView, CellWin, TypedView, TypedWin, View, Win, scan_line};
@@ -20,8 +19,8 @@ use xr_types::{Elem, Shape};
 
 // The sum with the number of a cell, unless its byte in the mask isn't 0.
 #[tactic(auto, using(crate::proofs::Lines::byte_shows))]
-fn with_cell<T: Elem>(total: i64, cell: T, byte: u8) -> i64
-    ensures { result ≡ with_number total (unless_hidden (Some byte) (Some (T.number cell))) }
+fn with_cell<T: Elem, S: Elem>(total: S, cell: T, byte: u8) -> S
+    ensures { S.number result ≡ with_number S.kind (S.number total) (unless_hidden (Some byte) (Some (T.number cell))) }
 {
     if byte == 0 {
         more(total, Some(cell))
@@ -30,37 +29,52 @@ fn with_cell<T: Elem>(total: i64, cell: T, byte: u8) -> i64
     }
 }
 
-// The sum with a truth value, 1 for a byte that isn't 0.
-#[tactic(auto, using(std::proofs::lemmas::Int::wraps, crate::proofs::Lines::byte_shows))]
-fn with_truth(total: i64, cell: u8, byte: u8) -> i64
-    ensures { result ≡ with_number total (unless_hidden (Some byte) (Some (truth cell))) }
+// The number of a truth value, 1 for a byte that isn't 0.
+fn truth_number(cell: u8) -> i128
+    ensures { result ≡ truth cell }
+{
+    i128::from(cell != 0)
+}
+
+// The sum with a truth value.
+#[tactic(auto, using(crate::proofs::Totals::kind_bounds))]
+fn plus_truth<S: Elem>(total: S, cell: u8) -> S
+    ensures { S.number result ≡ wrap_to S.kind (S.number total +ℤ truth cell) }
+{
+    S::wrap_from(total.widen() + truth_number(cell))
+}
+
+// The sum with a truth value, unless its byte in the mask isn't 0.
+#[tactic(auto, using(crate::proofs::Lines::byte_shows))]
+fn with_truth<S: Elem>(total: S, cell: u8, byte: u8) -> S
+    ensures { S.number result ≡ with_number S.kind (S.number total) (unless_hidden (Some byte) (Some (truth cell))) }
 {
     if byte == 0 {
-        added(total, i64::from(cell != 0))
+        plus_truth(total, cell)
     } else {
         total
     }
 }
 
-fn scan_cells<'v, T: Elem + Drop>(
-    start: i64,
+fn scan_cells<'v, T: Elem + Drop, S: Elem + Drop>(
+    start: S,
     a: &View<'v, T>,
     mask: &View<'v, u8>,
     axis: usize,
     at: &Shape,
-    out: &mut Win<i64>,
+    out: &mut Win<S>,
 )
     requires axis { axis < length out.old.shape }
     requires at { IsPoint out.old.shape at.now }
     requires line { IsLine mask.now.shape axis (get_or out.old.shape axis 0) }
     requires same { mask.now.shape ≡ a.now.shape }
     ensures place { Cut out.old out.new out.old.low out.old.shape }
-    ensures sums { SumsUp start (line_cells (λ p. unless_hidden (shown mask.now p) (option_map T.number (shown a.now p))) mask.now.shape axis) (get_or out.old.shape axis 0) (λ j. cell_at out.new (slice_set at.now axis j)) }
+    ensures sums { SumsUp S.kind (S.number start) (line_cells (λ p. unless_hidden (shown mask.now p) (option_map T.number (shown a.now p))) mask.now.shape axis) (get_or out.old.shape axis 0) (λ j. option_map S.number (cell_at out.new (slice_set at.now axis j))) }
     ensures others { (cs : List ℕ) → IsPoint out.old.whole cs → ((j : ℕ) → j < get_or out.old.shape axis 0 → ¬ (cs ≡ plus out.old.low (slice_set at.now axis j))) → held out.new cs ≡ held out.old cs }
 {
     scan_line(
-        |total: i64, cell: T, byte: u8| -> i64
-            ensures { result ≡ with_number total (unless_hidden (Some byte) (Some (T.number cell))) }
+        |total: S, cell: T, byte: u8| -> S
+            ensures { S.number result ≡ with_number S.kind (S.number total) (unless_hidden (Some byte) (Some (T.number cell))) }
         { with_cell(total, cell, byte) },
         start,
         a,
@@ -71,25 +85,25 @@ fn scan_cells<'v, T: Elem + Drop>(
     );
 }
 
-fn scan_truths<'v>(
-    start: i64,
+fn scan_truths<'v, S: Elem + Drop>(
+    start: S,
     a: &View<'v, u8>,
     mask: &View<'v, u8>,
     axis: usize,
     at: &Shape,
-    out: &mut Win<i64>,
+    out: &mut Win<S>,
 )
     requires axis { axis < length out.old.shape }
     requires at { IsPoint out.old.shape at.now }
     requires line { IsLine mask.now.shape axis (get_or out.old.shape axis 0) }
     requires same { mask.now.shape ≡ a.now.shape }
     ensures place { Cut out.old out.new out.old.low out.old.shape }
-    ensures sums { SumsUp start (line_cells (λ p. unless_hidden (shown mask.now p) (option_map truth (shown a.now p))) mask.now.shape axis) (get_or out.old.shape axis 0) (λ j. cell_at out.new (slice_set at.now axis j)) }
+    ensures sums { SumsUp S.kind (S.number start) (line_cells (λ p. unless_hidden (shown mask.now p) (option_map truth (shown a.now p))) mask.now.shape axis) (get_or out.old.shape axis 0) (λ j. option_map S.number (cell_at out.new (slice_set at.now axis j))) }
     ensures others { (cs : List ℕ) → IsPoint out.old.whole cs → ((j : ℕ) → j < get_or out.old.shape axis 0 → ¬ (cs ≡ plus out.old.low (slice_set at.now axis j))) → held out.new cs ≡ held out.old cs }
 {
     scan_line(
-        |total: i64, cell: u8, byte: u8| -> i64
-            ensures { result ≡ with_number total (unless_hidden (Some byte) (Some (truth cell))) }
+        |total: S, cell: u8, byte: u8| -> S
+            ensures { S.number result ≡ with_number S.kind (S.number total) (unless_hidden (Some byte) (Some (truth cell))) }
         { with_truth(total, cell, byte) },
         start,
         a,
@@ -101,20 +115,20 @@ fn scan_truths<'v>(
 }
 
 // Writes the running sums of the numbers of a line.
-fn scan_numbers<'v>(
-    start: i64,
+fn scan_numbers<'v, S: Elem + Drop>(
+    start: S,
     a: &TypedView<'v>,
     mask: &View<'v, u8>,
     axis: usize,
     at: &Shape,
-    out: &mut Win<i64>,
+    out: &mut Win<S>,
 )
     requires axis { axis < length out.old.shape }
     requires at { IsPoint out.old.shape at.now }
     requires line { IsLine mask.now.shape axis (get_or out.old.shape axis 0) }
     requires same { mask.now.shape ≡ view_shape a.now }
     ensures place { Cut out.old out.new out.old.low out.old.shape }
-    ensures sums { SumsUp start (line_cells (λ p. unless_hidden (shown mask.now p) (number_shown a.now p)) mask.now.shape axis) (get_or out.old.shape axis 0) (λ j. cell_at out.new (slice_set at.now axis j)) }
+    ensures sums { SumsUp S.kind (S.number start) (line_cells (λ p. unless_hidden (shown mask.now p) (number_shown a.now p)) mask.now.shape axis) (get_or out.old.shape axis 0) (λ j. option_map S.number (cell_at out.new (slice_set at.now axis j))) }
     ensures others { (cs : List ℕ) → IsPoint out.old.whole cs → ((j : ℕ) → j < get_or out.old.shape axis 0 → ¬ (cs ≡ plus out.old.low (slice_set at.now axis j))) → held out.new cs ≡ held out.old cs }
 {
     match a {
@@ -124,29 +138,35 @@ fn scan_numbers<'v>(
         TypedView::Int16(v) => scan_cells(start, v, mask, axis, at, out),
         TypedView::Int32(v) => scan_cells(start, v, mask, axis, at, out),
         TypedView::Int64(v) => scan_cells(start, v, mask, axis, at, out),
+        TypedView::UInt8(v) => scan_cells(start, v, mask, axis, at, out),
+        TypedView::UInt16(v) => scan_cells(start, v, mask, axis, at, out),
+        TypedView::UInt32(v) => scan_cells(start, v, mask, axis, at, out),
+        TypedView::UInt64(v) => scan_cells(start, v, mask, axis, at, out),
     }
 }
 
 fn scan_into<'v>(
-    start: i64,
+    before: &Partial,
     a: &TypedView<'v>,
     mask: &View<'v, u8>,
     axis: usize,
     at: &Shape,
     out: &mut TypedWin,
 )
-    requires kind { win_kind out.old ≡ Int64 }
+    requires sum { before.now.kind ≡ Sum }
+    requires kind { win_kind out.old ≡ total_kind before.now.of }
     requires axis { axis < length (win_box out.old).shape }
     requires at { IsPoint (win_box out.old).shape at.now }
     requires line { IsLine mask.now.shape axis (get_or (win_box out.old).shape axis 0) }
     requires same { mask.now.shape ≡ view_shape a.now }
     ensures kind { win_kind out.new ≡ win_kind out.old }
     ensures place { win_box out.new ≡ win_box out.old }
-    ensures sums { SumsUp start (line_cells (λ p. unless_hidden (shown mask.now p) (number_shown a.now p)) mask.now.shape axis) (get_or (win_box out.old).shape axis 0) (λ j. number_held out.new (plus (win_box out.old).low (slice_set at.now axis j))) }
+    ensures sums { (start : ℤ) → Some start ≡ before.now.value → SumsUp (total_kind before.now.of) start (line_cells (λ p. unless_hidden (shown mask.now p) (number_shown a.now p)) mask.now.shape axis) (get_or (win_box out.old).shape axis 0) (λ j. number_held out.new (plus (win_box out.old).low (slice_set at.now axis j))) }
     ensures others { (cs : List ℕ) → IsPoint (win_box out.old).whole cs → ((j : ℕ) → j < get_or (win_box out.old).shape axis 0 → ¬ (cs ≡ plus (win_box out.old).low (slice_set at.now axis j))) → number_held out.new cs ≡ number_held out.old cs }
 {
     match out {
-        TypedWin::Int64(sums) => scan_numbers(start, a, mask, axis, at, sums),
+        TypedWin::Int64(sums) => scan_numbers(before.total(), a, mask, axis, at, sums),
+        TypedWin::UInt64(sums) => scan_numbers(before.total(), a, mask, axis, at, sums),
         _ => unreachable!(),
     }
 }
@@ -169,7 +189,7 @@ fn show_line(axis: usize, at: &Shape, out: &mut CellWin)
 pub fn scan<'v>(before: Partial, a: &CellView<'v>, axis: usize, at: &Shape, out: &mut CellWin)
     requires sum { before.kind ≡ Sum }
     requires of { before.of ≡ view_kind a.now.cells }
-    requires kind { win_kind out.old.cells ≡ Int64 }
+    requires kind { win_kind out.old.cells ≡ total_kind before.of }
     requires axis { axis < length out.old.mask.shape }
     requires at { IsPoint out.old.mask.shape at.now }
     requires line { IsLine a.now.mask.shape axis (get_or out.old.mask.shape axis 0) }
@@ -177,7 +197,6 @@ pub fn scan<'v>(before: Partial, a: &CellView<'v>, axis: usize, at: &Shape, out:
     ensures sums { (b : List (ℕ × Option ℤ)) (first j : ℕ) → StandsFor before b → j < get_or out.old.mask.shape axis 0 → cell_in out.new (slice_set at.now axis j) ≡ fold_of Sum before.of (b ++ numbered first (take (j + 1) (line_cells (cell_shown a.now) a.now.mask.shape axis))) }
     ensures others { (cs : List ℕ) → IsPoint out.old.mask.whole cs → ((j : ℕ) → j < get_or out.old.mask.shape axis 0 → ¬ (cs ≡ plus out.old.mask.low (slice_set at.now axis j))) → cell_held out.new cs ≡ cell_held out.old cs }
 {
-    let start = before.total();
-    scan_into(start, &a.cells, &a.mask, axis, at, &mut out.cells);
+    scan_into(&before, &a.cells, &a.mask, axis, at, &mut out.cells);
     show_line(axis, at, out);
 }

@@ -1,7 +1,8 @@
 //! A fold of cells that is under way.
 ghost use Rattle.std.specs.Prelude.{◌≡◌, ◌≤◌, ◌<◌, ◌+◌, ◌^◌, ℕ, ℤ, List, [], ◌∷◌, ◌++◌, map, length, Option, Some, None};
 ghost use Rattle.xr_arrays.specs.Arrays.{hidden};
-ghost use Rattle.xr_arrays.specs.Folds.{fold_of, numbered, present};
+ghost use Rattle.xr_types.specs.Kinds.{wrap_to};
+ghost use Rattle.xr_arrays.specs.Folds.{fold_of, numbered, present, total_kind};
 ghost use Rattle.xr_types.specs.declared.operation.FoldKind.TheVariants.{Sum};
 ghost use Rattle.fold_kernel.specs.Partials.{StandsFor, joined_number, number_of, chosen, keeps_first, first_found};
 ghost use Rattle.fold_kernel.specs.Rows.{placed};
@@ -11,15 +12,14 @@ use crate::gather::{added, multiplied, truth};
 use crate::row::{Masked, Row, Whole};
 use crate::run::{run_found, run_number};
 use std::marker::Model;
-use xr_types::FoldKind;
-use xr_types::{DType, Elem};
+use xr_types::{DType, Elem, FoldKind, is_unsigned, wrap};
 
 /// A fold of the cells that it has absorbed so far, each with its position. It takes no memory.
 #[derive(Drop)]
 pub struct Partial {
     kind: FoldKind,
     of: DType,
-    /// The sum, the product or the count, wrapped at 64 bits, or 1 or 0 for any and all.
+    /// The sum or the product, wrapped at 64 bits with a sign whatever its kind, the count, or 1 or 0 for any and all.
     number: i64,
     /// The cell that min, max, first, last, argmin or argmax has chosen.
     found: Option<Found>,
@@ -128,23 +128,27 @@ impl Partial {
         both
     }
 
-    /// The sum of the cells.
-    pub(crate) fn total(&self) -> i64
-        requires { self.now.kind ≡ Sum }
-        ensures { Some result ≡ self.now.value }
+    /// The sum of the cells, as a cell of its kind.
+    #[tactic(auto, using(crate::proofs::Totals::total_again))]
+    pub(crate) fn total<S: Elem>(&self) -> S
+        requires sum { self.now.kind ≡ Sum }
+        requires kind { S.kind ≡ total_kind self.now.of }
+        ensures { Some (S.number result) ≡ self.now.value }
     {
-        self.number
+        S::wrap_from(i128::from(self.number))
     }
 
     /// The same fold with this sum.
-    pub(crate) fn with_total(self, total: i64) -> Partial
-        requires { self.kind ≡ Sum }
-        ensures { result ≡ record self { value = Some total } }
+    #[tactic(auto, using(crate::proofs::Totals::total_again))]
+    pub(crate) fn with_total<S: Elem>(self, total: S) -> Partial
+        requires sum { self.kind ≡ Sum }
+        requires kind { S.kind ≡ total_kind self.of }
+        ensures { result ≡ record self { value = Some (S.number total) } }
     {
         Partial {
             kind: self.kind,
             of: self.of,
-            number: total,
+            number: i64::wrap_from(total.widen()),
             found: self.found,
         }
     }
@@ -162,8 +166,20 @@ impl Partial {
                 Some(cell) => Some(i128::from(cell.position)),
                 None => None,
             },
-            _ => Some(i128::from(self.number)),
+            FoldKind::Sum | FoldKind::Prod => Some(of_total(self.of, self.number)),
+            FoldKind::Count | FoldKind::Any | FoldKind::All => Some(i128::from(self.number)),
         }
+    }
+}
+
+/// The sum or the product of cells of a kind, of a number that agrees with it in 64 bits.
+fn of_total(of: DType, number: i64) -> i128
+    ensures { result ≡ wrap_to (total_kind of) number }
+{
+    if is_unsigned(of) {
+        wrap(DType::UInt64, i128::from(number))
+    } else {
+        wrap(DType::Int64, i128::from(number))
     }
 }
 

@@ -12,8 +12,7 @@ use crate::gather::{
     AllNonzero, AnyNonzero, Greatest, Least, Product, Total, gather, gather_halves, truth,
 };
 use crate::row::{Filled, Row};
-use xr_types::FoldKind;
-use xr_types::Elem;
+use xr_types::{Elem, FoldKind};
 
 /// The sum, the product or the count of the present cells, wrapped at 64 bits, or 1 or 0 for any and all.
 pub fn run_number<T: Elem, R: Row<T>>(kind: FoldKind, row: R) -> i64
