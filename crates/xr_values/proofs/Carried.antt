@@ -1,19 +1,22 @@
 -- Which coordinates a result keeps, one after the other.
-use Rattle.std.proofs.Common.{◌≡◌, ◌<◌, ◌≤◌, ◌+◌, ℕ, ℤ, zero, suc, Bool, true, false, not, ◌&&◌, ◌||◌, List, [], ◌∷◌, ◌++◌, length, map, take, drop, drop-cons, get_or, filter, Bor, Option, Some, None, refl, sym, ap, ◌∙◌, arith}
+use Rattle.std.proofs.Common.{◌≡◌, ◌<◌, ◌≤◌, ◌+◌, ℕ, ℤ, Bool, true, false, not, ◌&&◌, List, [], ◌∷◌, ◌++◌, length, map, take, drop, get_or, filter, Bor, Option, Some, None, refl, sym, ap, ◌∙◌}
 use Rattle.std.specs.Prelude.{flat_map, nat_eq, if◌then◌else◌}
 use Rattle.std.specs.Str.{bytes_eq}
-use Rattle.std.specs.List.{list_all}
 use Rattle.std.specs.Cmp.Lexicographic.{pointwise}
-use Rattle.std.proofs.lemmas.List.{map-append, take_more, take-append-drop}
+use Rattle.std.proofs.lemmas.List.{map-id}
 use Rattle.std.proofs.lemmas.List.Elements.{filter-append}
-use Rattle.std.proofs.lemmas.List.Folds.{list_all-append}
 use Rattle.std.proofs.lemmas.Slice.Eq.{bytes_eq-Decides}
 use Rattle.std.proofs.lemmas.Bool.{and_parts, eq-eqb, false≢true}
 use Rattle.std.specs.Ordering.{int_eq}
 use Rattle.std.proofs.lemmas.Bool.Decides.{Decides-int_eq}
 use Rattle.xr_values.proofs.Named.{bytes_eq_swap}
+use Rattle.xr_values.proofs.Firsts.{all_taken, kept_on, nows}
+use Rattle.xr_types.specs.declared.attr.Attr.{Attr}
+use Rattle.xr_types.specs.declared.attr.NcType.{NcType}
+use Rattle.xr_types.specs.declared.attr.NcType.TheVariants.{Byte, Char, Short, Int, Float, Double, UByte, UShort, UInt, Int64, UInt64}
 use Rattle.xr_types.specs.declared.axis.Axis.{Axis}
 use Rattle.xr_arrays.specs.declared.node.Node.{Node}
+use Rattle.xr_files.specs.Classic.{number_of}
 use Rattle.xr_defs.specs.declared.value.Content.{Content}
 use Rattle.xr_defs.specs.declared.value.Content.TheVariants.{Cells, Text, Time}
 use Rattle.xr_defs.specs.declared.value.Coord.{Coord}
@@ -23,8 +26,8 @@ use Rattle.xr_defs.specs.declared.carrying.Carry.{Carry}
 use Rattle.xr_defs.specs.declared.carrying.Parts.{Parts}
 use Rattle.xr_values.specs.declared.data_array.DataArray.{DataArray}
 use Rattle.xr_values.specs.Stands.{array_in}
-use Rattle.xr_defs.specs.Carrying.{attrs_among, carried, coords_among, first_named, has_place, is_agreed, is_new, name_among, named_as, same_cell, same_content, same_coord, stands}
-use Rattle.xr_values.specs.Carrying.{kept_here, the_attrs, the_coords, the_names}
+use Rattle.xr_defs.specs.Carrying.{attrs_among, called_as, carried, coords_among, first_called, first_named, has_place, is_agreed, is_new, is_shared, joined_attrs, joined_coord, name_among, named_as, same_attr, same_cell, same_content, same_coord, shared_attrs, stands}
+use Rattle.xr_values.specs.Carrying.{joined_behind, kept_here, shared_here, the_attrs, the_coords, the_names}
 
 -- ---- arrays in a plan
 
@@ -78,110 +81,108 @@ pub coord_same : (c : Coord) → same_coord c c ≡ true
 unfolding same_coord
 coord_same c = ap (λ b. b && same_content c.content c.content) (all_same bytes_eq bytes_same (axis_names c.axes)) ∙ content_same c.content
 
--- ---- one more coordinate
+-- ---- the first coordinate of each name
 
-abbrev if_new : List Coord → Coord → List Coord
-if_new coords c = if is_new coords c then c ∷ [] else []
+abbrev coord_attrs : Coord → List Attr
+coord_attrs c = c.attrs
 
-filtered_new : (w c : Coord) (coords : List Coord) → filter (λ d. not (named_as w d)) (if_new coords c) ≡ if_new (w ∷ coords) c
-filtered_new w c coords = by (is_new coords c)
+abbrev attrs_named : Coord → List Coord → List (List Attr)
+attrs_named c coords = map coord_attrs (filter (named_as c) coords)
+
+none_named : (before : List Coord) (c : Coord) → is_new before c ≡ true → filter (named_as c) before ≡ []
+none_named [] c is = refl
+none_named (d ∷ before) c is = by (named_as c d) (and_parts (not (named_as c d)) (is_new before c) is) (none_named before c)
   where
-    by : (b : Bool) → filter (λ d. not (named_as w d)) (if b then c ∷ [] else []) ≡ (if not (named_as c w) && b then c ∷ [] else [])
-    by false = by_both (not (named_as c w))
-      where
-        by_both : (t : Bool) → [] ≡ (if t && false then c ∷ [] else [])
-        by_both true = refl
-        by_both false = refl
-    by true = ap (λ t. if not t then c ∷ [] else []) (bytes_eq_swap c.name w.name) ∙ by_one (not (named_as c w))
-      where
-        by_one : (t : Bool) → (if t then c ∷ [] else []) ≡ (if t && true then c ∷ [] else [])
-        by_one true = refl
-        by_one false = refl
+    by : (t : Bool) → (not t ≡ true) × (is_new before c ≡ true) → (is_new before c ≡ true → filter (named_as c) before ≡ []) → (if t then d ∷ filter (named_as c) before else filter (named_as c) before) ≡ []
+    by true parts rest = absurd (false≢true parts.0)
+    by false parts rest = rest parts.1
 
-pub first_more : (coords : List Coord) (c : Coord) → first_named (coords ++ c ∷ []) ≡ first_named coords ++ if_new coords c
+-- where none before has its name, its attributes are joined with those behind it
+joined_here : (before : List Coord) (c : Coord) (behind : List Coord) → is_new before c ≡ true → joined_coord (before ++ c ∷ behind) c ≡ joined_behind c behind
+joined_here before c behind is =
+    ap with_joined (filter-append (named_as c) before (c ∷ behind) ∙ ap (λ cs. cs ++ filter (named_as c) (c ∷ behind)) (none_named before c is) ∙ ap (λ b. if b then c ∷ filter (named_as c) behind else filter (named_as c) behind) (bytes_same c.name))
+  where
+    with_joined : List Coord → Coord
+    with_joined cs = record c { attrs = joined_attrs (map coord_attrs cs) }
+
+same_names : (c d : Coord) → named_as c d ≡ named_as d c
+same_names c d = bytes_eq_swap d.name c.name
+
+pub no_first : first_named [] ≡ []
 unfolding first_named
-first_more [] c = refl
-first_more (w ∷ coords) c =
-    ap (λ cs. w ∷ filter (λ d. not (named_as w d)) cs) (first_more coords c)
-    ∙ ap (λ cs. w ∷ cs) (filter-append (λ d. not (named_as w d)) (first_named coords) (if_new coords c))
-    ∙ ap (λ cs. w ∷ (filter (λ d. not (named_as w d)) (first_named coords) ++ cs)) (filtered_new w c coords)
+no_first = refl
 
--- where none before has its name, those behind it decide
-pub new_agrees : (before : List Coord) (c : Coord) → is_new before c ≡ true → is_agreed before c ≡ true
-unfolding is_agreed
-new_agrees [] c is = refl
-new_agrees (d ∷ before) c is = by (not (named_as c d)) (and_parts (not (named_as c d)) (is_new before c) is) (new_agrees before c)
-  where
-    by : (t : Bool) → (t ≡ true) × (is_new before c ≡ true) → (is_new before c ≡ true → list_all (λ e. not (named_as c e) || same_coord c e) before ≡ true) → ((t || same_coord c d) && list_all (λ e. not (named_as c e) || same_coord c e) before) ≡ true
-    by true parts rest = rest parts.1
-    by false parts rest = absurd (false≢true parts.0)
-
-pub agreed_behind : (before : List Coord) (c : Coord) (behind : List Coord) → is_new before c ≡ true → is_agreed (before ++ c ∷ behind) c ≡ is_agreed behind c
-unfolding is_agreed
-agreed_behind before c behind is =
-    list_all-append (λ d. not (named_as c d) || same_coord c d) before (c ∷ behind)
-    ∙ ap (λ b. b && ((not (named_as c c) || same_coord c c) && is_agreed behind c)) (new_agrees before c is)
-    ∙ ap (λ b. (not b || same_coord c c) && is_agreed behind c) (bytes_same c.name)
-    ∙ ap (λ b. b && is_agreed behind c) (coord_same c)
-
--- the result's coordinates after one more operand's coordinate
-pub one_more : (axes : List Axis) (before : List Coord) (c : Coord) (behind : List Coord)
-    → filter (stands axes (before ++ c ∷ behind)) (first_named (before ++ c ∷ []))
-    ≡ filter (stands axes (before ++ c ∷ behind)) (first_named before) ++ (if is_new before c && (has_place axes c && is_agreed behind c) then c ∷ [] else [])
-one_more axes before c behind =
-    ap (filter (stands axes (before ++ c ∷ behind))) (first_more before c)
-    ∙ filter-append (stands axes (before ++ c ∷ behind)) (first_named before) (if_new before c)
-    ∙ ap (λ cs. filter (stands axes (before ++ c ∷ behind)) (first_named before) ++ cs) (by (is_new before c) refl)
-  where
-    by : (b : Bool) → is_new before c ≡ b → filter (stands axes (before ++ c ∷ behind)) (if b then c ∷ [] else []) ≡ (if b && (has_place axes c && is_agreed behind c) then c ∷ [] else [])
-    by false is = refl
-    by true is = ap (λ b. if has_place axes c && b then c ∷ [] else []) (agreed_behind before c behind is)
-
-step : (axes : List Axis) (before : List Coord) (c : Coord) (behind whole upto kept new : List Coord)
-    → whole ≡ before ++ c ∷ behind → upto ≡ before ++ c ∷ [] → kept ≡ filter (stands axes whole) (first_named before) → new ≡ kept ++ kept_here axes before c behind
-    → new ≡ filter (stands axes whole) (first_named upto)
-step axes before c behind whole upto kept new w u k n =
-    n
-    ∙ ap (λ l. l ++ kept_here axes before c behind) k
-    ∙ ap (λ v. filter (stands axes v) (first_named before) ++ kept_here axes before c behind) w
-    ∙ sym (one_more axes before c behind)
-    ∙ ap (λ v. filter (stands axes v) (first_named (before ++ c ∷ []))) (sym w)
-    ∙ ap (λ v. filter (stands axes whole) (first_named v)) (sym u)
-
-abbrev nows : List (Bor Coord) → List Coord
-nows cs = map (λ c. c.now) cs
-
-pub kept_on : (axes : List Axis) (all : List (Bor Coord)) (i : ℕ) (c : Bor Coord) (before behind : List (Bor Coord)) (kept new : List Coord)
-    → i < length all → c ≡ get_or all i c → before ≡ take i all → behind ≡ drop 1 (drop i all)
-    → kept ≡ filter (stands axes (nows all)) (first_named (nows (take i all)))
-    → new ≡ kept ++ kept_here axes (nows before) c.now (nows behind)
-    → new ≡ filter (stands axes (nows all)) (first_named (nows (take (i + 1) all)))
-kept_on axes all i c before behind kept new lt at front back k n =
-    let rest : drop i all ≡ c ∷ behind = drop-cons all i c lt ∙ ap (λ d. d ∷ drop (suc i) all) (sym at) ∙ ap (λ ds. c ∷ ds) (sym (back ∙ drop_behind all i)) in
-    let whole : all ≡ before ++ c ∷ behind = sym (take-append-drop i all) ∙ ap (λ ds. ds ++ drop i all) (sym front) ∙ ap (λ ds. before ++ ds) rest in
-    let upto : take (i + 1) all ≡ before ++ c ∷ [] = take_more all i c lt ∙ ap (λ d. take i all ++ d ∷ []) (sym at) ∙ ap (λ ds. ds ++ c ∷ []) (sym front) in
-    step axes (nows before) c.now (nows behind) (nows all) (nows (take (i + 1) all)) kept new
-    (ap nows whole ∙ map-append (λ d. d.now) before (c ∷ behind))
-    (ap nows upto ∙ map-append (λ d. d.now) before (c ∷ []))
-    (k ∙ ap (λ ds. filter (stands axes (nows all)) (first_named (nows ds))) (sym front))
-    n
-  where
-    drop_behind : (ds : List (Bor Coord)) (k : ℕ) → drop 1 (drop k ds) ≡ drop (suc k) ds
-    drop_behind [] zero = refl
-    drop_behind [] (suc k) = refl
-    drop_behind (d ∷ ds) zero = refl
-    drop_behind (d ∷ ds) (suc k) = drop_behind ds k
-
-pub kept_first : (axes : List Axis) (all : List (Bor Coord)) → [] ≡ filter (stands axes (nows all)) (first_named (nows (take 0 all)))
+pub one_first : (c : Coord) (coords : List Coord) → first_named (c ∷ coords) ≡ c ∷ filter (λ d. not (named_as c d)) (first_named coords)
 unfolding first_named
-kept_first axes all = refl
+one_first c coords = refl
 
-pub kept_last : (axes : List Axis) (all : List (Bor Coord)) (i : ℕ) (kept : List Coord) → length all ≤ i → kept ≡ filter (stands axes (nows all)) (first_named (nows (take i all))) → kept ≡ coords_among axes (nows all)
+-- those of the whole list that stand, as far as they are looked at
+abbrev pub kept_upto : List Axis → List (Bor Coord) → ℕ → List Coord
+kept_upto axes all i = map (joined_coord (nows all)) (filter (stands axes (nows all)) (first_named (nows (take i all))))
+
+pub coords_on : (axes : List Axis) (all : List (Bor Coord)) (i : ℕ) (c : Bor Coord) (before behind : List (Bor Coord)) (kept new : List Coord)
+    → i < length all → c ≡ get_or all i c → before ≡ take i all → behind ≡ drop 1 (drop i all) → kept ≡ kept_upto axes all i
+    → new ≡ kept ++ kept_here axes (nows before) c.now (nows behind) → new ≡ kept_upto axes all (i + 1)
+unfolding is_agreed
+coords_on axes = kept_on named_as same_coord same_names (λ d. bytes_same d.name) coord_same first_named no_first one_first (has_place axes) joined_coord joined_behind joined_here
+
+pub coords_start : (axes : List Axis) (all : List (Bor Coord)) → [] ≡ kept_upto axes all 0
+unfolding first_named
+coords_start axes all = refl
+
+pub coords_end : (axes : List Axis) (all : List (Bor Coord)) (i : ℕ) (kept : List Coord) → length all ≤ i → kept ≡ kept_upto axes all i → kept ≡ coords_among axes (nows all)
 unfolding coords_among
-kept_last axes all i kept end k = k ∙ ap (λ ds. filter (stands axes (nows all)) (first_named (nows ds))) (all_taken all i end)
-  where
-    all_taken : (ds : List (Bor Coord)) (n : ℕ) → length ds ≤ n → take n ds ≡ ds
-    all_taken [] zero e = refl
-    all_taken [] (suc n) e = refl
-    all_taken (d ∷ ds) zero e = absurd (omega arith)
-    all_taken (d ∷ ds) (suc n) e = ap (λ l. d ∷ l) (all_taken ds n (omega arith))
+coords_end axes all i kept end k = k ∙ ap (λ ds. map (joined_coord (nows all)) (filter (stands axes (nows all)) (first_named (nows ds)))) (all_taken all i end)
+
+-- ---- the first attribute of each name
+
+abbrev numbered_back : ℕ → NcType
+numbered_back n = get_or (Byte ∷ Byte ∷ Char ∷ Short ∷ Int ∷ Float ∷ Double ∷ UByte ∷ UShort ∷ UInt ∷ Int64 ∷ UInt64 ∷ []) n Byte
+
+back : (k : NcType) → numbered_back (number_of k) ≡ k
+back Byte = refl
+back Char = refl
+back Short = refl
+back Int = refl
+back Float = refl
+back Double = refl
+back UByte = refl
+back UShort = refl
+back UInt = refl
+back Int64 = refl
+back UInt64 = refl
+
+-- types are equal where their numbers are
+pub same_number : (a b : NcType) → number_of a ≡ number_of b → a ≡ b
+same_number a b e = sym (back a) ∙ ap numbered_back e ∙ back b
+
+same_calls : (a b : Attr) → called_as a b ≡ called_as b a
+same_calls a b = bytes_eq_swap b.name a.name
+
+attr_same : (a : Attr) → same_attr a a ≡ true
+attr_same a = ap (λ t. t && bytes_eq a.raw a.raw) (eq-eqb (number_of a.kind) (number_of a.kind) refl) ∙ bytes_same a.raw
+
+pub no_first_attr : first_called [] ≡ []
+unfolding first_called
+no_first_attr = refl
+
+pub one_first_attr : (a : Attr) (attrs : List Attr) → first_called (a ∷ attrs) ≡ a ∷ filter (λ b. not (called_as a b)) (first_called attrs)
+unfolding first_called
+one_first_attr a attrs = refl
+
+abbrev pub shared_upto : List (Bor Attr) → ℕ → List Attr
+shared_upto all i = map (λ a. a) (filter (is_shared (nows all)) (first_called (nows (take i all))))
+
+pub attrs_on : (all : List (Bor Attr)) (i : ℕ) (a : Bor Attr) (before behind : List (Bor Attr)) (kept new : List Attr)
+    → i < length all → a ≡ get_or all i a → before ≡ take i all → behind ≡ drop 1 (drop i all) → kept ≡ shared_upto all i
+    → new ≡ kept ++ shared_here (nows before) a.now (nows behind) → new ≡ shared_upto all (i + 1)
+unfolding is_shared
+attrs_on = kept_on called_as same_attr same_calls (λ b. bytes_same b.name) attr_same first_called no_first_attr one_first_attr (λ b. true) (λ whole b. b) (λ b behind. b) (λ before b behind is. refl)
+
+pub attrs_start : (all : List (Bor Attr)) → [] ≡ shared_upto all 0
+unfolding first_called
+attrs_start all = refl
+
+pub attrs_end : (all : List (Bor Attr)) (i : ℕ) (kept : List Attr) → length all ≤ i → kept ≡ shared_upto all i → kept ≡ shared_attrs (nows all)
+unfolding shared_attrs
+attrs_end all i kept end k = k ∙ map-id (filter (is_shared (nows all)) (first_called (nows (take i all)))) ∙ ap (λ ds. filter (is_shared (nows all)) (first_called (nows ds))) (all_taken all i end)

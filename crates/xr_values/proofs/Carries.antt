@@ -1,86 +1,135 @@
--- What a result carries is well formed where its operands are; of one operand it carries each coordinate that has a place.
-use Rattle.std.proofs.Common.{◌≡◌, ℕ, Bool, true, false, not, ◌&&◌, ◌||◌, cond, List, [], ◌∷◌, ◌++◌, map, filter, Option, None, MatchOption, refl, sym, ap, ◌∙◌}
+-- What a result carries is well formed where its operands are.
+use Rattle.std.proofs.Common.{◌≡◌, ℕ, Bool, true, false, not, ◌&&◌, ◌||◌, cond, List, [], ◌∷◌, ◌++◌, map, filter, Option, None, MatchOption, refl, sym, ap, subst, ◌∙◌}
 use Rattle.std.specs.Prelude.{flat_map, ⊤}
 use Rattle.std.specs.Str.{bytes_eq}
 use Rattle.std.specs.List.{list_all, AllByRecursion}
-use Rattle.std.proofs.lemmas.Bool.{and_parts, and_from, or_parts, not-true, not_from_false, cond-true}
-use Rattle.std.proofs.lemmas.List.{append-nil, append_assoc}
+use Rattle.std.proofs.lemmas.Bool.{and_parts, and_from, or_parts, not-true, not_from_false}
+use Rattle.xr_types.specs.declared.attr.Attr.{Attr}
 use Rattle.xr_types.specs.declared.axis.Axis.{Axis}
 use Rattle.xr_defs.specs.declared.value.Coord.{Coord}
-use Rattle.xr_types.specs.Names.{among}
+use Rattle.xr_types.specs.Names.{among, are_distinct, axis_names}
 use Rattle.xr_files.specs.Classic.{is_name}
-use Rattle.xr_types.specs.Names.{are_distinct}
 use Rattle.xr_defs.specs.Selecting.{axis_called}
 use Rattle.xr_defs.specs.Values as of
-use Rattle.xr_types.specs.Names.{axis_names}
+use Rattle.xr_defs.specs.Values.{names_fill}
 use Rattle.xr_defs.specs.declared.carrying.Carry.{Carry}
 use Rattle.xr_defs.specs.declared.carrying.Carry.TheVariants.{Keep, Method, Binary, Where, First}
-use Rattle.xr_defs.specs.Carrying.{attr_rule, carried, coord_rule, coords_among, first_attrs, first_name, first_named, has_place, is_agreed, is_new, name_rule, named_as, same_name, shared_name, stands}
+use Rattle.xr_defs.specs.Carrying.{attr_rule, attrs_among, carried, coord_rule, coords_among, first_attrs, first_called, first_name, first_named, has_place, is_agreed, is_shared, joined_attrs, joined_coord, name_among, name_rule, named_as, same_name, shared_attrs, shared_name, stands}
 use Rattle.xr_defs.specs.Carries.{AreParts, IsOperand, Shares}
-use Rattle.xr_defs.specs.WellFormed.{AreAttributes, AreDimensions, IsCoordinate, names_of}
+use Rattle.xr_defs.specs.WellFormed.{AreAttributes, AreDimensions, IsAttribute, IsCoordinate, names_of}
+use Rattle.xr_arrays.specs.declared.node.Node.{Node}
+use Rattle.xr_defs.specs.declared.carrying.Parts.{Parts}
+use Rattle.xr_values.specs.declared.data_array.DataArray.{DataArray}
+use Rattle.xr_values.specs.Stands.{array_in}
+use Rattle.xr_values.specs.Carrying.{the_attrs, the_coords, the_names}
 use Rattle.xr_values.proofs.Named.{bytes_eq_swap}
-use Rattle.xr_values.proofs.Carried.{agreed_behind, new_agrees}
+use Rattle.xr_values.proofs.Carried.{in_any_plan, no_first, no_first_attr, one_first, one_first_attr}
 
--- ---- one operand
+module _ {X : Type 0} (P Q : X → Type 0) (p : X → Bool) (gives : (x : X) → p x ≡ true → P x → Q x) where
+  filtered : (xs : List X) → AllByRecursion P xs → AllByRecursion Q (filter p xs)
+  filtered [] all = tt
+  filtered (x ∷ xs) all = by (p x) refl (filtered xs all.1)
+    where
+      by : (b : Bool) → p x ≡ b → AllByRecursion Q (filter p xs) → AllByRecursion Q (cond b (x ∷ filter p xs) (filter p xs))
+      by true e rest = (gives x e all.0, rest)
+      by false e rest = rest
 
--- the two ways to say that a name is new
-new_test : (coords : List Coord) (c : Coord) → not (among (names_of coords) c.name) ≡ is_new coords c
-new_test [] c = refl
-new_test (d ∷ coords) c = ap (λ t. not (t || among (names_of coords) c.name)) (bytes_eq_swap c.name d.name) ∙ by (named_as c d) (new_test coords c)
+mapped : {X Y : Type 0} (P : X → Type 0) (Q : Y → Type 0) (f : X → Y) → ((x : X) → P x → Q (f x)) → (xs : List X) → AllByRecursion P xs → AllByRecursion Q (map f xs)
+mapped P Q f gives [] all = tt
+mapped P Q f gives (x ∷ xs) all = (gives x all.0, mapped P Q f gives xs all.1)
+
+both_lists : {X : Type 0} (P : X → Type 0) (xs ys : List X) → AllByRecursion P xs → AllByRecursion P ys → AllByRecursion P (xs ++ ys)
+both_lists P [] ys all_xs all_ys = all_ys
+both_lists P (x ∷ xs) ys all_xs all_ys = (all_xs.0, both_lists P xs ys all_xs.1 all_ys)
+
+passes_all : {X : Type 0} (p : X → Bool) (xs : List X) → list_all p (filter p xs) ≡ true
+passes_all p [] = refl
+passes_all p (x ∷ xs) = by (p x) refl (passes_all p xs)
   where
-    by : (t : Bool) → not (among (names_of coords) c.name) ≡ is_new coords c → not (t || among (names_of coords) c.name) ≡ (not t && is_new coords c)
-    by true rest = refl
-    by false rest = rest
+    by : (b : Bool) → p x ≡ b → list_all p (filter p xs) ≡ true → list_all p (cond b (x ∷ filter p xs) (filter p xs)) ≡ true
+    by true e rest = and_from (p x) (list_all p (filter p xs)) e rest
+    by false e rest = rest
 
-new_first : (coords : List Coord) (c : Coord) → not (among (names_of coords) c.name) ≡ true → is_new coords c ≡ true
-new_first coords c h = sym (new_test coords c) ∙ h
+-- ---- the first of each name
 
-apart : (before : List Coord) (c : Coord) (behind : List Coord) (name : List ℕ) → among (names_of (before ++ c ∷ behind)) name ≡ false → bytes_eq name c.name ≡ false
-apart [] c behind name absent = (or_parts (bytes_eq name c.name) (among (names_of behind) name) absent).0
-apart (d ∷ before) c behind name absent = apart before c behind name (or_parts (bytes_eq name d.name) (among (names_of (before ++ c ∷ behind)) name) absent).1
+module _ {X : Type 0} (name : X → List ℕ) where
+  abbrev named : X → X → Bool
+  named x y = bytes_eq (name y) (name x)
 
-new_among : (before : List Coord) (c : Coord) (behind : List Coord) → are_distinct (names_of (before ++ c ∷ behind)) ≡ true → (is_new before c ≡ true) × (is_new behind c ≡ true)
-new_among [] c behind distinct = (refl, new_first behind c (and_parts (not (among (names_of behind) c.name)) (are_distinct (names_of behind)) distinct).0)
-new_among (d ∷ before) c behind distinct =
-    let parts = and_parts (not (among (names_of (before ++ c ∷ behind)) d.name)) (are_distinct (names_of (before ++ c ∷ behind))) distinct in
-    let rest = new_among before c behind parts.1 in
-    let other : named_as c d ≡ false = apart before c behind d.name (not-true (among (names_of (before ++ c ∷ behind)) d.name) parts.0) in
-    (and_from (not (named_as c d)) (is_new before c) (not_from_false (named_as c d) other) rest.0, rest.1)
+  -- the two ways to say that a name is new
+  new_test : (xs : List X) (x : X) → not (among (map name xs) (name x)) ≡ list_all (λ y. not (named x y)) xs
+  new_test [] x = refl
+  new_test (y ∷ xs) x = ap (λ t. not (t || among (map name xs) (name x))) (bytes_eq_swap (name x) (name y)) ∙ by (named x y) (new_test xs x)
+    where
+      by : (t : Bool) → not (among (map name xs) (name x)) ≡ list_all (λ y. not (named x y)) xs → not (t || among (map name xs) (name x)) ≡ (not t && list_all (λ y. not (named x y)) xs)
+      by true rest = refl
+      by false rest = rest
 
-all_pass : {X : Type 0} (p : X → Bool) (xs : List X) → list_all p xs ≡ true → filter p xs ≡ xs
-all_pass p [] all = refl
-all_pass p (x ∷ xs) all =
-    let parts = and_parts (p x) (list_all p xs) all in
-    cond-true (p x) (x ∷ filter p xs) (filter p xs) parts.0 ∙ ap (λ ys. x ∷ ys) (all_pass p xs parts.1)
+  absent_filtered : (p : X → Bool) (xs : List X) (n : List ℕ) → among (map name xs) n ≡ false → among (map name (filter p xs)) n ≡ false
+  absent_filtered p [] n absent = refl
+  absent_filtered p (x ∷ xs) n absent =
+      let parts = or_parts (bytes_eq n (name x)) (among (map name xs) n) absent in
+      by (p x) parts.0 (absent_filtered p xs n parts.1)
+    where
+      by : (b : Bool) → bytes_eq n (name x) ≡ false → among (map name (filter p xs)) n ≡ false → among (map name (cond b (x ∷ filter p xs) (filter p xs))) n ≡ false
+      by true other rest = ap (λ t. t || among (map name (filter p xs)) n) other ∙ rest
+      by false other rest = rest
 
-each_first : (coords : List Coord) → are_distinct (names_of coords) ≡ true → first_named coords ≡ coords
-unfolding first_named
-each_first [] distinct = refl
-each_first (c ∷ coords) distinct =
-    let parts = and_parts (not (among (names_of coords) c.name)) (are_distinct (names_of coords)) distinct in
-    ap (λ cs. c ∷ filter (λ d. not (named_as c d)) cs) (each_first coords parts.1)
-    ∙ ap (λ cs. c ∷ cs) (all_pass (λ d. not (named_as c d)) coords (new_first coords c parts.0))
+  distinct_filtered : (p : X → Bool) (xs : List X) → are_distinct (map name xs) ≡ true → are_distinct (map name (filter p xs)) ≡ true
+  distinct_filtered p [] distinct = refl
+  distinct_filtered p (x ∷ xs) distinct =
+      let parts = and_parts (not (among (map name xs) (name x))) (are_distinct (map name xs)) distinct in
+      by (p x) (absent_filtered p xs (name x) (not-true (among (map name xs) (name x)) parts.0)) (distinct_filtered p xs parts.1)
+    where
+      by : (b : Bool) → among (map name (filter p xs)) (name x) ≡ false → are_distinct (map name (filter p xs)) ≡ true → are_distinct (map name (cond b (x ∷ filter p xs) (filter p xs))) ≡ true
+      by true absent rest = and_from (not (among (map name (filter p xs)) (name x))) (are_distinct (map name (filter p xs))) (not_from_false (among (map name (filter p xs)) (name x)) absent) rest
+      by false absent rest = rest
 
-placed_alone : (axes : List Axis) (before rest whole : List Coord) → whole ≡ before ++ rest → are_distinct (names_of whole) ≡ true → filter (stands axes whole) rest ≡ filter (has_place axes) rest
-placed_alone axes before [] whole is distinct = refl
-placed_alone axes before (c ∷ rest) whole is distinct =
-    let new = new_among before c rest (ap (λ cs. are_distinct (names_of cs)) (sym is) ∙ distinct) in
-    let agreed : is_agreed whole c ≡ true = ap (λ cs. is_agreed cs c) is ∙ agreed_behind before c rest new.0 ∙ new_agrees rest c new.1 in
-    ap (λ b. cond (has_place axes c && b) (c ∷ filter (stands axes whole) rest) (filter (stands axes whole) rest)) agreed
-    ∙ by (has_place axes c) (placed_alone axes (before ++ c ∷ []) rest whole (is ∙ sym (append_assoc before (c ∷ []) rest)) distinct)
-  where
-    by : (b : Bool) → filter (stands axes whole) rest ≡ filter (has_place axes) rest → cond (b && true) (c ∷ filter (stands axes whole) rest) (filter (stands axes whole) rest) ≡ cond b (c ∷ filter (has_place axes) rest) (filter (has_place axes) rest)
-    by true e = ap (λ cs. c ∷ cs) e
-    by false e = e
+  module _ (first : List X → List X) (none : first [] ≡ []) (some : (x : X) (xs : List X) → first (x ∷ xs) ≡ x ∷ filter (λ y. not (named x y)) (first xs)) where
+    first_distinct : (xs : List X) → are_distinct (map name (first xs)) ≡ true
+    first_distinct [] = ap (λ ys. are_distinct (map name ys)) none
+    first_distinct (x ∷ xs) =
+        let others = filter (λ y. not (named x y)) (first xs) in
+        ap (λ ys. are_distinct (map name ys)) (some x xs)
+        ∙ and_from (not (among (map name others) (name x))) (are_distinct (map name others))
+        (new_test others x ∙ passes_all (λ y. not (named x y)) (first xs))
+        (distinct_filtered (λ y. not (named x y)) (first xs) (first_distinct xs))
 
-pub one_operand : (axes : List Axis) (a : of.DataArray) → are_distinct (names_of a.coords) ≡ true → coord_rule (a ∷ []) axes ≡ filter (has_place axes) a.coords
-unfolding coords_among
-one_operand axes a distinct =
-    ap (coords_among axes) (append-nil a.coords)
-    ∙ ap (filter (stands axes a.coords)) (each_first a.coords distinct)
-    ∙ placed_alone axes [] a.coords a.coords refl distinct
+    firsts_all : (P : X → Type 0) (xs : List X) → AllByRecursion P xs → AllByRecursion P (first xs)
+    firsts_all P [] all = subst (AllByRecursion P) (sym none) tt
+    firsts_all P (x ∷ xs) all = subst (AllByRecursion P) (sym (some x xs)) (all.0, filtered P P (λ y. not (named x y)) (λ y e is. is) (first xs) (firsts_all P xs all.1))
+
+-- ---- attributes
+
+abbrev attr_name : Attr → List ℕ
+attr_name a = a.name
+
+no_attributes : AreAttributes []
+no_attributes = record { each = tt; distinct = refl }
+
+fewer_attributes : (p : Attr → Bool) (attrs : List Attr) → AreAttributes attrs → AreAttributes (filter p attrs)
+fewer_attributes p attrs are = record {
+  each = filtered IsAttribute IsAttribute p (λ a e is. is) attrs are.each;
+  distinct = distinct_filtered attr_name p attrs are.distinct;
+}
+
+in_all_lists : (lists : List (List Attr)) → AllByRecursion AreAttributes lists → AllByRecursion IsAttribute (flat_map (λ attrs. attrs) lists)
+in_all_lists [] all = tt
+in_all_lists (attrs ∷ lists) all = both_lists IsAttribute attrs (flat_map (λ attrs. attrs) lists) all.0.each (in_all_lists lists all.1)
+
+joined_formed : (lists : List (List Attr)) → AllByRecursion AreAttributes lists → AreAttributes (joined_attrs lists)
+unfolding shared_attrs
+joined_formed lists all =
+    let attrs = flat_map (λ attrs. attrs) lists in
+    fewer_attributes (is_shared attrs) (first_called attrs) (record {
+      each = firsts_all attr_name first_called no_first_attr one_first_attr IsAttribute attrs (in_all_lists lists all);
+      distinct = first_distinct attr_name first_called no_first_attr one_first_attr attrs;
+    })
 
 -- ---- a result's coordinates lie over its axes
+
+abbrev coord_name : Coord → List ℕ
+coord_name c = c.name
 
 -- a coordinate of an array that shares its axes with the result
 record HasHome (axes : List Axis) (c : Coord) : Type 0 where
@@ -109,24 +158,6 @@ settled axes c place home =
       content = home.formed.content;
     }
 
-module _ {X : Type 0} (P Q : X → Type 0) (p : X → Bool) (gives : (x : X) → p x ≡ true → P x → Q x) where
-  filtered : (xs : List X) → AllByRecursion P xs → AllByRecursion Q (filter p xs)
-  filtered [] all = tt
-  filtered (x ∷ xs) all = by (p x) refl (filtered xs all.1)
-    where
-      by : (b : Bool) → p x ≡ b → AllByRecursion Q (filter p xs) → AllByRecursion Q (cond b (x ∷ filter p xs) (filter p xs))
-      by true e rest = (gives x e all.0, rest)
-      by false e rest = rest
-
-both_lists : {X : Type 0} (P : X → Type 0) (xs ys : List X) → AllByRecursion P xs → AllByRecursion P ys → AllByRecursion P (xs ++ ys)
-both_lists P [] ys all_xs all_ys = all_ys
-both_lists P (x ∷ xs) ys all_xs all_ys = (all_xs.0, both_lists P xs ys all_xs.1 all_ys)
-
-first_homes : (axes : List Axis) (coords : List Coord) → AllByRecursion (HasHome axes) coords → AllByRecursion (HasHome axes) (first_named coords)
-unfolding first_named
-first_homes axes [] all = tt
-first_homes axes (c ∷ coords) all = (all.0, filtered (HasHome axes) (HasHome axes) (λ d. not (named_as c d)) (λ d e home. home) (first_named coords) (first_homes axes coords all.1))
-
 homes_in : (axes own : List Axis) (coords : List Coord) → Shares own axes → AllByRecursion (IsCoordinate own) coords → AllByRecursion (HasHome axes) coords
 homes_in axes own [] shares all = tt
 homes_in axes own (c ∷ coords) shares all = (record { own = own; shares = shares; formed = all.0 }, homes_in axes own coords shares all.1)
@@ -139,50 +170,35 @@ homes axes (a ∷ arrays) all =
 stands_placed : (axes : List Axis) (coords : List Coord) (c : Coord) → stands axes coords c ≡ true → has_place axes c ≡ true
 stands_placed axes coords c e = (and_parts (has_place axes c) (is_agreed coords c) e).0
 
+own_attrs : (axes : List Axis) (coords : List Coord) (c : Coord) → AllByRecursion (HasHome axes) coords → AllByRecursion AreAttributes (map (λ (d : Coord). d.attrs) (filter (named_as c) coords))
+own_attrs axes coords c all =
+    mapped (HasHome axes) AreAttributes (λ (d : Coord). d.attrs) (λ d home. home.formed.attrs) (filter (named_as c) coords) (filtered (HasHome axes) (HasHome axes) (named_as c) (λ d e home. home) coords all)
+
+-- a coordinate with joined attributes
+rejoined : (axes : List Axis) (coords : List Coord) (c : Coord) → AllByRecursion (HasHome axes) coords → IsCoordinate axes c → IsCoordinate axes (joined_coord coords c)
+rejoined axes coords c all is =
+    record {
+      name = is.name;
+      over = is.over;
+      distinct = is.distinct;
+      attrs = joined_formed (map (λ (d : Coord). d.attrs) (filter (named_as c) coords)) (own_attrs axes coords c all);
+      content = is.content;
+    }
+
 pub coords_settled : (axes : List Axis) (arrays : List of.DataArray) → AllByRecursion (IsOperand axes) arrays → AllByRecursion (IsCoordinate axes) (coord_rule arrays axes)
 unfolding coords_among
 coords_settled axes arrays all =
     let coords = flat_map (λ (a : of.DataArray). a.coords) arrays in
-    filtered (HasHome axes) (IsCoordinate axes) (stands axes coords) (λ c e home. settled axes c (stands_placed axes coords c e) home) (first_named coords) (first_homes axes coords (homes axes arrays all))
+    let own = homes axes arrays all in
+    mapped (IsCoordinate axes) (IsCoordinate axes) (joined_coord coords) (λ c is. rejoined axes coords c own is) (filter (stands axes coords) (first_named coords))
+    (filtered (HasHome axes) (IsCoordinate axes) (stands axes coords) (λ c e home. settled axes c (stands_placed axes coords c e) home) (first_named coords)
+    (firsts_all coord_name first_named no_first one_first (HasHome axes) coords own))
 
 -- ---- their names differ
 
-absent_filtered : (p : Coord → Bool) (coords : List Coord) (name : List ℕ) → among (names_of coords) name ≡ false → among (names_of (filter p coords)) name ≡ false
-absent_filtered p [] name absent = refl
-absent_filtered p (c ∷ coords) name absent =
-    let parts = or_parts (bytes_eq name c.name) (among (names_of coords) name) absent in
-    by (p c) parts.0 (absent_filtered p coords name parts.1)
-  where
-    by : (b : Bool) → bytes_eq name c.name ≡ false → among (names_of (filter p coords)) name ≡ false → among (names_of (cond b (c ∷ filter p coords) (filter p coords))) name ≡ false
-    by true other rest = ap (λ t. t || among (names_of (filter p coords)) name) other ∙ rest
-    by false other rest = rest
-
-distinct_filtered : (p : Coord → Bool) (coords : List Coord) → are_distinct (names_of coords) ≡ true → are_distinct (names_of (filter p coords)) ≡ true
-distinct_filtered p [] distinct = refl
-distinct_filtered p (c ∷ coords) distinct =
-    let parts = and_parts (not (among (names_of coords) c.name)) (are_distinct (names_of coords)) distinct in
-    by (p c) (absent_filtered p coords c.name (not-true (among (names_of coords) c.name) parts.0)) (distinct_filtered p coords parts.1)
-  where
-    by : (b : Bool) → among (names_of (filter p coords)) c.name ≡ false → are_distinct (names_of (filter p coords)) ≡ true → are_distinct (names_of (cond b (c ∷ filter p coords) (filter p coords))) ≡ true
-    by true absent rest = and_from (not (among (names_of (filter p coords)) c.name)) (are_distinct (names_of (filter p coords))) (not_from_false (among (names_of (filter p coords)) c.name) absent) rest
-    by false absent rest = rest
-
-passes_all : {X : Type 0} (p : X → Bool) (xs : List X) → list_all p (filter p xs) ≡ true
-passes_all p [] = refl
-passes_all p (x ∷ xs) = by (p x) refl (passes_all p xs)
-  where
-    by : (b : Bool) → p x ≡ b → list_all p (filter p xs) ≡ true → list_all p (cond b (x ∷ filter p xs) (filter p xs)) ≡ true
-    by true e rest = and_from (p x) (list_all p (filter p xs)) e rest
-    by false e rest = rest
-
-first_distinct : (coords : List Coord) → are_distinct (names_of (first_named coords)) ≡ true
-unfolding first_named
-first_distinct [] = refl
-first_distinct (c ∷ coords) =
-    let others = filter (λ d. not (named_as c d)) (first_named coords) in
-    and_from (not (among (names_of others) c.name)) (are_distinct (names_of others))
-    (new_test others c ∙ passes_all (λ d. not (named_as c d)) (first_named coords))
-    (distinct_filtered (λ d. not (named_as c d)) (first_named coords) (first_distinct coords))
+names_joined : (whole coords : List Coord) → names_of (map (joined_coord whole) coords) ≡ names_of coords
+names_joined whole [] = refl
+names_joined whole (c ∷ coords) = ap (λ ns. c.name ∷ ns) (names_joined whole coords)
 
 -- none of these names is a dimension's
 abbrev NoAxis : List (List ℕ) → Coord → Type 0
@@ -222,8 +238,10 @@ pub coords_distinct : (axes : List Axis) (arrays : List of.DataArray) → are_di
 unfolding coords_among
 coords_distinct axes arrays distinct =
     let coords = flat_map (λ (a : of.DataArray). a.coords) arrays in
-    distinct_both (axis_names axes) (filter (stands axes coords) (first_named coords)) distinct
-    (distinct_filtered (stands axes coords) (first_named coords) (first_distinct coords))
+    let kept = filter (stands axes coords) (first_named coords) in
+    ap (λ ns. are_distinct (axis_names axes ++ ns)) (names_joined coords kept)
+    ∙ distinct_both (axis_names axes) kept distinct
+    (distinct_filtered coord_name (stands axes coords) (first_named coords) (first_distinct coord_name first_named no_first one_first coords))
     (filtered (λ c. ⊤) (NoAxis (axis_names axes)) (stands axes coords) (λ c e any. no_axis axes c (stands_placed axes coords c e)) (first_named coords) (anything (first_named coords)))
 
 -- ---- names and attributes
@@ -250,19 +268,19 @@ name_formed Where axes arrays all = first_is_named axes arrays all
 name_formed Binary axes arrays all = shared_is_named axes arrays all
 name_formed First axes arrays all = shared_is_named axes arrays all
 
-no_attributes : AreAttributes []
-no_attributes = record { each = tt; distinct = refl }
-
 first_attributes : (axes : List Axis) (arrays : List of.DataArray) → AllByRecursion (IsOperand axes) arrays → AreAttributes (first_attrs (map (λ (a : of.DataArray). a.attrs) arrays))
 first_attributes axes [] all = no_attributes
 first_attributes axes (a ∷ arrays) all = all.0.0.attrs
 
+joined_attributes : (axes : List Axis) (arrays : List of.DataArray) → AllByRecursion (IsOperand axes) arrays → AreAttributes (joined_attrs (map (λ (a : of.DataArray). a.attrs) arrays))
+joined_attributes axes arrays all = joined_formed (map (λ (a : of.DataArray). a.attrs) arrays) (mapped (IsOperand axes) AreAttributes (λ (a : of.DataArray). a.attrs) (λ a is. is.0.attrs) arrays all)
+
 attrs_formed : (how : Carry) (axes : List Axis) (arrays : List of.DataArray) → AllByRecursion (IsOperand axes) arrays → AreAttributes (attr_rule how arrays)
 attrs_formed Keep axes arrays all = first_attributes axes arrays all
 attrs_formed Where axes arrays all = first_attributes axes arrays all
-attrs_formed First axes arrays all = first_attributes axes arrays all
-attrs_formed Method axes arrays all = no_attributes
-attrs_formed Binary axes arrays all = no_attributes
+attrs_formed First axes arrays all = joined_attributes axes arrays all
+attrs_formed Method axes arrays all = fewer_attributes (λ a. not (names_fill a)) (first_attrs (map (λ (a : of.DataArray). a.attrs) arrays)) (first_attributes axes arrays all)
+attrs_formed Binary axes arrays all = fewer_attributes (λ a. not (names_fill a)) (joined_attrs (map (λ (a : of.DataArray). a.attrs) arrays)) (joined_attributes axes arrays all)
 
 -- what a result over these axes carries of well-formed operands is well formed
 pub carried_formed : (how : Carry) (arrays : List of.DataArray) (axes : List Axis) → AreDimensions axes → AllByRecursion (IsOperand axes) arrays → AreParts axes (carried how arrays axes)
@@ -273,3 +291,9 @@ carried_formed how arrays axes dimensions all =
       coords = coords_settled axes arrays all;
       distinct = coords_distinct axes arrays dimensions.distinct;
     }
+
+-- and so is what the program makes of its own arrays
+pub parts_formed : (nodes : List Node) (how : Carry) (arrays : List DataArray) (axes : List Axis) (p : Parts)
+    → p ≡ record { name = name_among how (the_names arrays); attrs = attrs_among how (the_attrs arrays); coords = coords_among axes (the_coords arrays) }
+    → AreDimensions axes → AllByRecursion (IsOperand axes) (map (array_in nodes) arrays) → AreParts axes p
+parts_formed nodes how arrays axes p is dimensions all = subst (AreParts axes) (sym (in_any_plan nodes how arrays axes p is)) (carried_formed how (map (array_in nodes) arrays) axes dimensions all)

@@ -1,9 +1,9 @@
 pub mod Named
 pub mod Grown
-pub mod Rooms
 pub mod Trees
 pub mod Meaning
 pub mod Equal
+pub mod Firsts
 pub mod Carried
 pub mod Carries
 pub mod Places

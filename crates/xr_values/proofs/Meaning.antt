@@ -42,6 +42,9 @@ means_layer nodes (held.Table es) = ap of.Table (means_keyed nodes tree.NoEntry 
 means_layer nodes (held.Slice start stop step) = refl
 means_layer nodes (held.Array a) = refl
 means_layer nodes (held.Set s) = refl
+means_layer nodes (held.Times coding ts) = refl
+means_layer nodes (held.GroupedArray a g) = refl
+means_layer nodes (held.GroupedSet s g) = refl
 
 pub meaning_out : (nodes : List Node) (v : Value) → meaning nodes v ≡ layer nodes (out-Value v)
 meaning_out nodes v = ap (means nodes) (tree_out v) ∙ means_layer nodes (out-Value v)
@@ -106,6 +109,9 @@ layer_from nodes (held.Table es) is = entries_from nodes tree.NoEntry es.items t
 layer_from nodes (held.Slice start stop step) is = tt
 layer_from nodes (held.Array a) is = is
 layer_from nodes (held.Set s) is = is
+layer_from nodes (held.Times coding ts) is = is
+layer_from nodes (held.GroupedArray a g) is = is
+layer_from nodes (held.GroupedSet s g) is = is
 
 layer_to : (nodes : List Node) (x : Value-F Value) → IsTreeIn nodes (tree_layer x) → IsLayerIn nodes x
 unfolding IsTreeIn
@@ -119,6 +125,9 @@ layer_to nodes (held.Table es) is = (entries_to nodes tree.NoEntry es.items is).
 layer_to nodes (held.Slice start stop step) is = tt
 layer_to nodes (held.Array a) is = is
 layer_to nodes (held.Set s) is = is
+layer_to nodes (held.Times coding ts) is = is
+layer_to nodes (held.GroupedArray a g) is = is
+layer_to nodes (held.GroupedSet s g) is = is
 
 -- what a value of the plan holds is of the plan
 pub value_out : (nodes : List Node) (v : Value) → IsValueIn nodes v → IsLayerIn nodes (out-Value v)
@@ -147,6 +156,9 @@ mutual
   tree_kept old new g (tree.Slice start stop step) is = refl
   tree_kept old new g (tree.Array a) is = ap of.Array (array_kept old new a g is)
   tree_kept old new g (tree.Set s) is = ap of.Set (dataset_kept old new s g is)
+  tree_kept old new g (tree.Times coding ts) is = refl
+  tree_kept old new g (tree.GroupedArray a by) is = ap (λ b. of.GroupedArray b by) (array_kept old new a g is)
+  tree_kept old new g (tree.GroupedSet s by) is = ap (λ t. of.GroupedSet t by) (dataset_kept old new s g is)
 
   items_kept : (old new : List Node) → Grows old new → (ts : Trees) → AreTreesIn old ts → means_items new ts ≡ means_items old ts
   items_kept old new g tree.NoTree is = refl
@@ -170,6 +182,9 @@ mutual
   tree_stays old new g (tree.Slice start stop step) is = tt
   tree_stays old new g (tree.Array a) is = stays_array old new a g is
   tree_stays old new g (tree.Set s) is = stays_dataset old new s g is
+  tree_stays old new g (tree.Times coding ts) is = is
+  tree_stays old new g (tree.GroupedArray a by) is = stays_array old new a g is
+  tree_stays old new g (tree.GroupedSet s by) is = stays_dataset old new s g is
 
   items_stay : (old new : List Node) → Grows old new → (ts : Trees) → AreTreesIn old ts → AreTreesIn new ts
   items_stay old new g tree.NoTree is = tt

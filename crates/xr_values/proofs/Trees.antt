@@ -18,6 +18,9 @@ by_parts (held.Table es) = refl
 by_parts (held.Slice start stop step) = refl
 by_parts (held.Array a) = refl
 by_parts (held.Set s) = refl
+by_parts (held.Times coding ts) = refl
+by_parts (held.GroupedArray a g) = refl
+by_parts (held.GroupedSet s g) = refl
 
 pub tree_out : (v : Value) → tree v ≡ tree_layer (out-Value v)
 tree_out v = fold_out-Value Tree tree_step v ∙ by_parts (out-Value v)

@@ -3,6 +3,7 @@ use Rattle.std.specs.Prelude.{List, [], ◌∷◌, map, All, ⊤}
 use Rattle.xr_types.specs.declared.text.TextBytes.{TextBytes}
 use Rattle.xr_defs.specs.Meanings as of
 use Rattle.xr_defs.specs.Meanings.{Values, NoValue, With, Entries, NoEntry, Entry, Given}
+use Rattle.xr_arrays.specs.Times.{IsTime}
 use Rattle.xr_arrays.specs.declared.node.Node.{Node}
 use Rattle.xr_values.specs.declared.value.Value.{Value}
 use Rattle.xr_values.specs.declared.value.Value.TheOpen as held
@@ -26,6 +27,9 @@ unfoldable mutual
   means nodes (tree.Slice start stop step) = of.Slice start stop step
   means nodes (tree.Array a) = of.Array (array_in nodes a)
   means nodes (tree.Set s) = of.Set (dataset_in nodes s)
+  means nodes (tree.Times coding ts) = of.Times coding ts
+  means nodes (tree.GroupedArray a g) = of.GroupedArray (array_in nodes a) g
+  means nodes (tree.GroupedSet s g) = of.GroupedSet (dataset_in nodes s) g
 
   pub means_items : List Node → Trees → Values
   means_items nodes tree.NoTree = NoValue
@@ -68,6 +72,9 @@ layer nodes (held.Table es) = of.Table (all_entries nodes es.items)
 layer nodes (held.Slice start stop step) = of.Slice start stop step
 layer nodes (held.Array a) = of.Array (array_in nodes a.value)
 layer nodes (held.Set s) = of.Set (dataset_in nodes s.value)
+layer nodes (held.Times coding ts) = of.Times coding ts
+layer nodes (held.GroupedArray a g) = of.GroupedArray (array_in nodes a.value) g
+layer nodes (held.GroupedSet s g) = of.GroupedSet (dataset_in nodes s.value) g
 
 -- what the arguments of a call stand for
 unfoldable pub given : List Node → Args → Given
@@ -75,7 +82,7 @@ given nodes args = record { plain = map (meaning nodes) args.plain.items; keyed 
 
 -- ---- values of a plan
 
--- each array and dataset in it is one of the plan
+-- each array and dataset in it is one of the plan, and its times stand in the years 1 to 9999
 unfoldable mutual
   pub IsTreeIn : List Node → Tree → Type 0
   IsTreeIn nodes tree.Absent = ⊤
@@ -88,6 +95,9 @@ unfoldable mutual
   IsTreeIn nodes (tree.Slice start stop step) = ⊤
   IsTreeIn nodes (tree.Array a) = IsArrayIn nodes a
   IsTreeIn nodes (tree.Set s) = IsDatasetIn nodes s
+  IsTreeIn nodes (tree.Times coding ts) = All IsTime ts
+  IsTreeIn nodes (tree.GroupedArray a g) = IsArrayIn nodes a
+  IsTreeIn nodes (tree.GroupedSet s g) = IsDatasetIn nodes s
 
   pub AreTreesIn : List Node → Trees → Type 0
   AreTreesIn nodes tree.NoTree = ⊤
@@ -115,6 +125,9 @@ IsLayerIn nodes (held.Table es) = All (IsEntryIn nodes) es.items
 IsLayerIn nodes (held.Slice start stop step) = ⊤
 IsLayerIn nodes (held.Array a) = IsArrayIn nodes a.value
 IsLayerIn nodes (held.Set s) = IsDatasetIn nodes s.value
+IsLayerIn nodes (held.Times coding ts) = All IsTime ts
+IsLayerIn nodes (held.GroupedArray a g) = IsArrayIn nodes a.value
+IsLayerIn nodes (held.GroupedSet s g) = IsDatasetIn nodes s.value
 
 -- the arguments of a call
 pub record AreArgsIn (nodes : List Node) (args : Args) : Type 0 where

@@ -1,6 +1,8 @@
 -- The program's values without their places in memory.
 use Rattle.std.specs.Prelude.{ℕ, ℤ, Bool, List, [], ◌∷◌, map, Option}
 use Rattle.xr_types.specs.declared.text.TextBytes.{TextBytes}
+use Rattle.xr_types.specs.declared.axis.TimeCoding.{TimeCoding}
+use Rattle.xr_defs.specs.declared.grouping.Grouping.{Grouping}
 use Rattle.xr_defs.specs.declared.slice.Part.{Part}
 use Rattle.xr_values.specs.declared.data_array.DataArray.{DataArray}
 use Rattle.xr_values.specs.declared.dataset.Dataset.{Dataset}
@@ -21,6 +23,9 @@ mutual
     Slice : Part → Part → Option ℤ → Tree
     Array : DataArray → Tree
     Set : Dataset → Tree
+    Times : TimeCoding → List ℤ → Tree
+    GroupedArray : DataArray → Grouping → Tree
+    GroupedSet : Dataset → Grouping → Tree
 
   -- items of a list, the last one outermost
   pub data Trees : Type 0 where
@@ -51,6 +56,9 @@ tree_step (held.Table es) = Table (entries NoEntry es.items)
 tree_step (held.Slice start stop step) = Slice start stop step
 tree_step (held.Array a) = Array a.value
 tree_step (held.Set s) = Set s.value
+tree_step (held.Times coding ts) = Times coding ts
+tree_step (held.GroupedArray a g) = GroupedArray a.value g
+tree_step (held.GroupedSet s g) = GroupedSet s.value g
 
 abbrev pub tree : Value → Tree
 tree = fold-Value Tree tree_step
@@ -70,3 +78,6 @@ tree_layer (held.Table es) = Table (entries NoEntry (map keyed_tree es.items))
 tree_layer (held.Slice start stop step) = Slice start stop step
 tree_layer (held.Array a) = Array a.value
 tree_layer (held.Set s) = Set s.value
+tree_layer (held.Times coding ts) = Times coding ts
+tree_layer (held.GroupedArray a g) = GroupedArray a.value g
+tree_layer (held.GroupedSet s g) = GroupedSet s.value g

@@ -52,6 +52,21 @@ impl Value {
             }
             Value::Array(array) => Ok(Value::Array(array.clone()?)),
             Value::Set(set) => Ok(Value::Set(set.clone()?)),
+            Value::Times(coding, times) => {
+                let coding = coding.deep_copy(alloc)?;
+                let times = times.deep_copy(alloc)?;
+                Ok(Value::Times(coding, times))
+            }
+            Value::GroupedArray(array, grouping) => {
+                let array = array.clone()?;
+                let grouping = grouping.deep_copy(alloc)?;
+                Ok(Value::GroupedArray(array, grouping))
+            }
+            Value::GroupedSet(set, grouping) => {
+                let set = set.clone()?;
+                let grouping = grouping.deep_copy(alloc)?;
+                Ok(Value::GroupedSet(set, grouping))
+            }
         }
     }
 

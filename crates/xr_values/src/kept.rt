@@ -4,14 +4,15 @@ ghost use Rattle.std.specs.List.{list_all};
 ghost use Rattle.xr_types.specs.Names.{among};
 ghost use Rattle.xr_types.specs.Names.{axis_names};
 ghost use Rattle.xr_defs.specs.Carrying.{coords_among, has_place, is_agreed, is_new};
-ghost use Rattle.xr_values.specs.Carrying.{kept_here, the_coords};
+ghost use Rattle.xr_values.specs.Carrying.{joined_behind, kept_here, the_coords};
 
-use crate::copies::copy_coord;
+use crate::copies::copy_content;
 use crate::data_array::DataArray;
+use crate::joined::coord_attrs;
 use crate::same::same_coord;
 use std::alloc::{AllocError, Global};
 use xr_defs::Coord;
-use xr_types::{Axis, Items, Name};
+use xr_types::{Axis, DeepCopy, Items, Name};
 
 fn push_coords<'a>(all: &mut Vec<&'a Coord>, coords: &'a [Coord]) -> Result<(), AllocError>
     ensures { OnOk result (map (λ c. c.now) all.new.items ≡ map (λ c. c.now) all.old.items ++ coords.now) }
@@ -100,18 +101,34 @@ fn is_kept(
     is_agreed(alloc, behind, coord)
 }
 
-fn push_kept(
+// The coordinate with the attributes that it and those of its name have in common.
+fn joined_coord<'a>(
+    alloc: Global,
+    coord: &'a Coord,
+    behind: &[&'a Coord],
+) -> Result<Coord, AllocError>
+    ensures { IfOk result (λ c. c ≡ joined_behind coord.now (map (λ c. c.now) behind.now)) }
+{
+    Ok(Coord {
+        name: coord.name.deep_copy(alloc)?,
+        axes: coord.axes.deep_copy(alloc)?,
+        attrs: coord_attrs(alloc, coord, behind)?,
+        content: copy_content(alloc, &coord.content)?,
+    })
+}
+
+fn push_kept<'a>(
     alloc: Global,
     kept: &mut Items<Coord>,
     axes: &[Axis],
     before: &[&Coord],
-    coord: &Coord,
-    behind: &[&Coord],
+    coord: &'a Coord,
+    behind: &[&'a Coord],
 ) -> Result<(), AllocError>
     ensures { OnOk result (kept.new ≡ kept.old ++ kept_here axes.now (map (λ c. c.now) before.now) coord.now (map (λ c. c.now) behind.now)) }
 {
     if is_kept(alloc, axes, before, coord, behind)? {
-        kept.push(copy_coord(alloc, coord)?)?;
+        kept.push(joined_coord(alloc, coord, behind)?)?;
     }
     Ok(())
 }

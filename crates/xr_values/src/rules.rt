@@ -1,16 +1,19 @@
 //! The name, the attributes and the coordinates of a result, by those of its operands.
 ghost use Rattle.std.specs.Prelude.{◌≡◌, List, map, IfOk};
-ghost use Rattle.std.specs.List.{list_all};
+ghost use Rattle.std.specs.List.{list_all, AllByRecursion};
 ghost use Rattle.xr_arrays.specs.declared.node.Node.{Node};
+ghost use Rattle.xr_defs.specs.Carries.{AreParts, IsOperand};
+ghost use Rattle.xr_defs.specs.WellFormed.{AreDimensions};
 ghost use Rattle.xr_values.specs.Stands.{array_in};
-ghost use Rattle.xr_defs.specs.Carrying.{attrs_among, carried, coords_among, first_attrs, first_name, name_among, same_name, shared_name};
+ghost use Rattle.xr_defs.specs.Carrying.{attrs_among, carried, coords_among, first_name, name_among, same_name, shared_name};
 ghost use Rattle.xr_values.specs.Carrying.{the_attrs, the_coords, the_names};
 
 use crate::data_array::DataArray;
+use crate::joined::attrs_among;
 use crate::kept::coords_among;
 use std::alloc::{AllocError, Global};
 use xr_defs::{Carry, Parts};
-use xr_types::{Attr, Axis, DeepCopy, Items, Name, NoMemory};
+use xr_types::{Axis, DeepCopy, Name, NoMemory};
 
 fn first_name(alloc: Global, operands: &[DataArray]) -> Result<Option<Name>, AllocError>
     ensures { IfOk result (λ name. name ≡ first_name (the_names operands.now)) }
@@ -66,24 +69,6 @@ fn name_among(alloc: Global, how: Carry, operands: &[DataArray]) -> Result<Optio
     }
 }
 
-fn first_attrs(alloc: Global, operands: &[DataArray]) -> Result<Items<Attr>, AllocError>
-    ensures { IfOk result (λ attrs. attrs ≡ first_attrs (the_attrs operands.now)) }
-{
-    match operands {
-        [] => Ok(Items::new(alloc)),
-        [first, ..] => first.attrs.deep_copy(alloc),
-    }
-}
-
-fn attrs_among(alloc: Global, how: Carry, operands: &[DataArray]) -> Result<Items<Attr>, AllocError>
-    ensures { IfOk result (λ attrs. attrs ≡ attrs_among how (the_attrs operands.now)) }
-{
-    match how {
-        Carry::Keep | Carry::Where | Carry::First => first_attrs(alloc, operands),
-        Carry::Method | Carry::Binary => Ok(Items::new(alloc)),
-    }
-}
-
 fn all_parts(
     alloc: Global,
     operands: &[DataArray],
@@ -102,10 +87,11 @@ fn all_parts(
 /// The name, the attributes and the coordinates that are no index of a result over these axes, by the kind of operation that
 /// gives it. `Keep` and `Method` have one operand, the others one or more.
 ///
-/// A method keeps the name, a binary operation and a combination the name that all operands have. `Keep` and `Where` keep the
-/// attributes, a combination has those of the first operand. A coordinate is kept where its dimensions are among the result's
-/// and no dimension of the result has its name; where several operands have one of that name, the first one is kept if all are
-/// equal.
+/// A method keeps the name, a binary operation and a combination the name that all operands have. `Keep`, `Method` and `Where`
+/// keep the attributes of the first operand; a binary operation and a combination keep those that all operands have alike who
+/// have one of that name. `Method` and `Binary` drop those that name fill numbers. A coordinate is kept where its dimensions are
+/// among the result's and no dimension of the result has its name; where several operands have one of that name, the first one
+/// is kept if all are equal, with the attributes that they have in common. Of well-formed operands comes what is well formed.
 #[tactic(auto, using(crate::proofs::Carried::in_any_plan))]
 pub fn carry(
     alloc: Global,
@@ -113,7 +99,8 @@ pub fn carry(
     axes: &[Axis],
     how: Carry,
 ) -> Result<Parts, NoMemory>
-    ensures { IfOk result (λ p. (nodes : List Node) → p ≡ carried how (map (array_in nodes) operands.now) axes.now) }
+    ensures carried { IfOk result (λ p. (nodes : List Node) → p ≡ carried how (map (array_in nodes) operands.now) axes.now) }
+    ensures formed { IfOk result (λ p. (nodes : List Node) → AreDimensions axes.now → AllByRecursion (IsOperand axes.now) (map (array_in nodes) operands.now) → AreParts axes.now p) }
 {
     Ok(all_parts(alloc, operands, axes, how)?)
 }

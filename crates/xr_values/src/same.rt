@@ -88,6 +88,10 @@ fn same_as_typed<T: Elem>(
         Cells::Int16(v) => same_typed(a, a_mask, v.as_slice(), b_mask),
         Cells::Int32(v) => same_typed(a, a_mask, v.as_slice(), b_mask),
         Cells::Int64(v) => same_typed(a, a_mask, v.as_slice(), b_mask),
+        Cells::UInt8(v) => same_typed(a, a_mask, v.as_slice(), b_mask),
+        Cells::UInt16(v) => same_typed(a, a_mask, v.as_slice(), b_mask),
+        Cells::UInt32(v) => same_typed(a, a_mask, v.as_slice(), b_mask),
+        Cells::UInt64(v) => same_typed(a, a_mask, v.as_slice(), b_mask),
     }
 }
 
@@ -103,6 +107,10 @@ fn same_cells(a: &Cells, a_mask: Option<&Items<u8>>, b: &Cells, b_mask: Option<&
         Cells::Int16(v) => same_as_typed(v.as_slice(), a_mask, b, b_mask),
         Cells::Int32(v) => same_as_typed(v.as_slice(), a_mask, b, b_mask),
         Cells::Int64(v) => same_as_typed(v.as_slice(), a_mask, b, b_mask),
+        Cells::UInt8(v) => same_as_typed(v.as_slice(), a_mask, b, b_mask),
+        Cells::UInt16(v) => same_as_typed(v.as_slice(), a_mask, b, b_mask),
+        Cells::UInt32(v) => same_as_typed(v.as_slice(), a_mask, b, b_mask),
+        Cells::UInt64(v) => same_as_typed(v.as_slice(), a_mask, b, b_mask),
     }
 }
 

@@ -2,8 +2,8 @@
 use crate::data_array::DataArray;
 use crate::dataset::Dataset;
 use std::rc::Rc;
-use xr_defs::Part;
-use xr_types::TextBytes;
+use xr_defs::{Grouping, Part};
+use xr_types::{Shared, TextBytes, TimeCoding};
 
 /// A value of the script language. Arrays and datasets are shared by those that hold them.
 #[derive(Drop)]
@@ -21,4 +21,10 @@ pub enum Value {
     Slice(Part, Part, Option<i128>),
     Array(Rc<DataArray>),
     Set(Rc<Dataset>),
+    /// Times in seconds from 1970-01-01T00:00:00, and how they stand in a file.
+    Times(TimeCoding, Shared<i64>),
+    /// An array with its positions in groups.
+    GroupedArray(Rc<DataArray>, Grouping),
+    /// A dataset with its positions in groups.
+    GroupedSet(Rc<Dataset>, Grouping),
 }

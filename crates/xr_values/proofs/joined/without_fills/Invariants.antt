@@ -1,0 +1,6 @@
+use Rattle.std.proofs.Common.{◌≡◌, ◌++◌, drop}
+use Rattle.xr_defs.specs.Values.{without_fills}
+use Rattle.xr_values.proofs.joined.without_fills.Given as goal
+
+abbrev pub invariant-loop-attr : goal.invariant-loop-attr
+invariant-loop-attr l = l.kept ++ without_fills (drop l.attr-index l.attrs) ≡ without_fills l.attrs

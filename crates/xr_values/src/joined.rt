@@ -1,0 +1,182 @@
+//! The attributes that several operands have in common.
+ghost use Rattle.std.specs.Prelude.{◌≡◌, ◌==◌, ◌∷◌, ◌++◌, map, flat_map, filter, OnOk, IfOk};
+ghost use Rattle.xr_defs.specs.Carrying.{attrs_among, first_attrs, is_shared, joined_attrs, named_as, same_attr, shared_attrs};
+ghost use Rattle.xr_defs.specs.Values.{names_fill, without_fills};
+ghost use Rattle.xr_defs.specs.declared.value.Coord.{Coord as CoordOf};
+ghost use Rattle.xr_files.specs.Classic.{number_of};
+ghost use Rattle.xr_values.specs.Carrying.{is_new_attr, shared_here, the_attrs};
+
+use crate::data_array::DataArray;
+use std::alloc::{AllocError, Global};
+use xr_defs::{Carry, Coord};
+use xr_types::{Attr, DeepCopy, Items, NcType};
+
+#[tactic(auto, using(crate::proofs::Carried::same_number))]
+fn same_type(a: NcType, b: NcType) -> bool
+    ensures { result ≡ (number_of a == number_of b) }
+{
+    a == b
+}
+
+fn same_attr(a: &Attr, b: &Attr) -> bool
+    ensures { result ≡ same_attr a.now b.now }
+{
+    same_type(a.kind, b.kind) && a.raw.as_slice() == b.raw.as_slice()
+}
+
+fn is_new(before: &[&Attr], attr: &Attr) -> bool
+    ensures { result ≡ is_new_attr (map (λ a. a.now) before.now) attr.now }
+{
+    for other in before {
+        if other.name.is(&attr.name) {
+            return false;
+        }
+    }
+    true
+}
+
+// Whether those of its name have its type and values.
+#[tactic(auto, unfolding(xr_defs::specs::Carrying::is_shared))]
+fn is_shared(others: &[&Attr], attr: &Attr) -> bool
+    ensures { result ≡ is_shared (map (λ a. a.now) others.now) attr.now }
+{
+    for other in others {
+        if other.name.is(&attr.name) && !same_attr(attr, other) {
+            return false;
+        }
+    }
+    true
+}
+
+fn push_shared(
+    alloc: Global,
+    shared: &mut Items<Attr>,
+    before: &[&Attr],
+    attr: &Attr,
+    behind: &[&Attr],
+) -> Result<(), AllocError>
+    ensures { OnOk result (shared.new ≡ shared.old ++ shared_here (map (λ a. a.now) before.now) attr.now (map (λ a. a.now) behind.now)) }
+{
+    if is_new(before, attr) && is_shared(behind, attr) {
+        shared.push(attr.deep_copy(alloc)?)?;
+    }
+    Ok(())
+}
+
+/// The attributes that all have alike who have one of that name, in the order of first appearance.
+fn shared_attrs(alloc: Global, all: &[&Attr]) -> Result<Items<Attr>, AllocError>
+    ensures { IfOk result (λ shared. shared ≡ shared_attrs (map (λ a. a.now) all.now)) }
+{
+    let mut shared = Items::new(alloc);
+    for i in 0..all.len() {
+        let (before, rest) = all.split_at(i);
+        let (_, behind) = rest.split_at(1);
+        push_shared(alloc, &mut shared, before, all[i], behind)?;
+    }
+    Ok(shared)
+}
+
+fn push_attrs<'a>(all: &mut Vec<&'a Attr>, attrs: &'a [Attr]) -> Result<(), AllocError>
+    ensures { OnOk result (map (λ a. a.now) all.new.items ≡ map (λ a. a.now) all.old.items ++ attrs.now) }
+{
+    for attr in attrs {
+        all.push(attr)?;
+    }
+    Ok(())
+}
+
+fn push_named<'a>(
+    all: &mut Vec<&'a Attr>,
+    coord: &Coord,
+    others: &[&'a Coord],
+) -> Result<(), AllocError>
+    ensures { OnOk result (map (λ a. a.now) all.new.items ≡ map (λ a. a.now) all.old.items ++ flat_map (λ attrs. attrs) (map (λ (c : CoordOf). c.attrs) (filter (named_as coord.now) (map (λ c. c.now) others.now)))) }
+{
+    for other in others {
+        if other.name.is(&coord.name) {
+            push_attrs(all, other.attrs.as_slice())?;
+        }
+    }
+    Ok(())
+}
+
+/// The attributes that a coordinate and those of its name have in common.
+pub(crate) fn coord_attrs<'a>(
+    alloc: Global,
+    coord: &'a Coord,
+    others: &[&'a Coord],
+) -> Result<Items<Attr>, AllocError>
+    ensures { IfOk result (λ attrs. attrs ≡ joined_attrs (coord.now.attrs ∷ map (λ (c : CoordOf). c.attrs) (filter (named_as coord.now) (map (λ c. c.now) others.now)))) }
+{
+    let mut all = Vec::new(alloc);
+    push_attrs(&mut all, coord.attrs.as_slice())?;
+    push_named(&mut all, coord, others)?;
+    shared_attrs(alloc, &all)
+}
+
+fn all_attrs<'a>(alloc: Global, operands: &'a [DataArray]) -> Result<Vec<&'a Attr>, AllocError>
+    ensures { IfOk result (λ all. map (λ a. a.now) all.items ≡ flat_map (λ attrs. attrs) (the_attrs operands.now)) }
+{
+    let mut all = Vec::new(alloc);
+    for operand in operands {
+        push_attrs(&mut all, operand.attrs.as_slice())?;
+    }
+    Ok(all)
+}
+
+fn joined_attrs(alloc: Global, operands: &[DataArray]) -> Result<Items<Attr>, AllocError>
+    ensures { IfOk result (λ attrs. attrs ≡ joined_attrs (the_attrs operands.now)) }
+{
+    let all = all_attrs(alloc, operands)?;
+    shared_attrs(alloc, &all)
+}
+
+fn first_attrs(alloc: Global, operands: &[DataArray]) -> Result<Items<Attr>, AllocError>
+    ensures { IfOk result (λ attrs. attrs ≡ first_attrs (the_attrs operands.now)) }
+{
+    match operands {
+        [] => Ok(Items::new(alloc)),
+        [first, ..] => first.attrs.deep_copy(alloc),
+    }
+}
+
+fn names_fill(attr: &Attr) -> bool
+    ensures { result ≡ names_fill attr.now }
+{
+    attr.name.as_str() == "_FillValue" || attr.name.as_str() == "missing_value"
+}
+
+/// The attributes without those that name the numbers of missing cells.
+pub fn without_fills(alloc: Global, attrs: &[Attr]) -> Result<Items<Attr>, AllocError>
+    ensures { IfOk result (λ kept. kept ≡ without_fills attrs.now) }
+{
+    let mut kept = Items::new(alloc);
+    for attr in attrs {
+        if !names_fill(attr) {
+            kept.push(attr.deep_copy(alloc)?)?;
+        }
+    }
+    Ok(kept)
+}
+
+/// The attributes of a result.
+pub(crate) fn attrs_among(
+    alloc: Global,
+    how: Carry,
+    operands: &[DataArray],
+) -> Result<Items<Attr>, AllocError>
+    ensures { IfOk result (λ attrs. attrs ≡ attrs_among how (the_attrs operands.now)) }
+{
+    match how {
+        Carry::Keep | Carry::Where => first_attrs(alloc, operands),
+        Carry::First => joined_attrs(alloc, operands),
+        Carry::Method => {
+            let attrs = first_attrs(alloc, operands)?;
+            without_fills(alloc, attrs.as_slice())
+        }
+        Carry::Binary => {
+            let attrs = joined_attrs(alloc, operands)?;
+            without_fills(alloc, attrs.as_slice())
+        }
+    }
+}
