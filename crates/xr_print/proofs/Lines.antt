@@ -5,6 +5,9 @@ use Rattle.std.proofs.lemmas.List.{take-map, drop-map}
 use Rattle.std.specs.Fmt.{decimal, signed_decimal}
 use Rattle.xr_types.specs.declared.kind.DType.{DType}
 use Rattle.xr_types.specs.declared.kind.DType.TheVariants as kinds
+use Rattle.xr_types.specs.declared.attr.NcType.{NcType}
+use Rattle.xr_types.specs.declared.attr.NcType.TheVariants as types
+use Rattle.xr_arrays.specs.Numbers.{cells_kind, is_whole}
 use Rattle.xr_arrays.specs.declared.typed.Cells.{Cells}
 use Rattle.xr_arrays.specs.declared.typed.Cells.TheVariants as kept
 use Rattle.xr_arrays.specs.Arrays.{kind_of, wide, hidden}
@@ -93,6 +96,43 @@ shown_is (kept.Int8 v) mask = signed kinds.Int8 v mask refl (λ n. refl)
 shown_is (kept.Int16 v) mask = signed kinds.Int16 v mask refl (λ n. refl)
 shown_is (kept.Int32 v) mask = signed kinds.Int32 v mask refl (λ n. refl)
 shown_is (kept.Int64 v) mask = signed kinds.Int64 v mask refl (λ n. refl)
+shown_is (kept.UInt8 v) mask = sym (texts_are kinds.UInt8 pos decimal v mask refl (λ n. refl))
+shown_is (kept.UInt16 v) mask = sym (texts_are kinds.UInt16 pos decimal v mask refl (λ n. refl))
+shown_is (kept.UInt32 v) mask = sym (texts_are kinds.UInt32 pos decimal v mask refl (λ n. refl))
+shown_is (kept.UInt64 v) mask = sym (texts_are kinds.UInt64 pos decimal v mask refl (λ n. refl))
+
+-- ---- numbers without a sign, and the numbers of a list
+
+pub decimals : (ns : List ℕ) → map decimal ns ≡ map signed_decimal (map pos ns)
+decimals [] = refl
+decimals (n ∷ ns) = ap (λ ts. decimal n ∷ ts) (decimals ns)
+
+-- no type of a file is that of truth values
+not_truths : (kind : NcType) → is_whole kind ≡ true → kinds.Bool ≡ cells_kind kind → ⊥
+not_truths types.Byte whole e = absurd cc
+not_truths types.Char whole e = absurd cc
+not_truths types.Short whole e = absurd cc
+not_truths types.Int whole e = absurd cc
+not_truths types.Float whole e = absurd cc
+not_truths types.Double whole e = absurd cc
+not_truths types.UByte whole e = absurd cc
+not_truths types.UShort whole e = absurd cc
+not_truths types.UInt whole e = absurd cc
+not_truths types.Int64 whole e = absurd cc
+not_truths types.UInt64 whole e = absurd cc
+
+-- cells that aren't truth values, as numbers
+pub shown_numbers : (kind : NcType) (cells : Cells) → is_whole kind ≡ true → kind_of cells ≡ cells_kind kind → shown cells None ≡ map signed_decimal (wide cells)
+shown_numbers kind (kept.Bool v) whole is = absurd (not_truths kind whole is)
+shown_numbers kind (kept.Char v) whole is = decimals v
+shown_numbers kind (kept.Int8 v) whole is = refl
+shown_numbers kind (kept.Int16 v) whole is = refl
+shown_numbers kind (kept.Int32 v) whole is = refl
+shown_numbers kind (kept.Int64 v) whole is = refl
+shown_numbers kind (kept.UInt8 v) whole is = decimals v
+shown_numbers kind (kept.UInt16 v) whole is = decimals v
+shown_numbers kind (kept.UInt32 v) whole is = decimals v
+shown_numbers kind (kept.UInt64 v) whole is = decimals v
 
 -- ---- an array's cells
 

@@ -4,7 +4,7 @@ use Rattle.std.specs.Fmt.{decimal, signed_decimal}
 use Rattle.xr_types.specs.declared.axis.LabelList.{LabelList}
 use Rattle.xr_types.specs.declared.axis.LabelList.TheVariants.{Numbers, Times, Texts}
 use Rattle.xr_types.specs.declared.attr.NcType.{NcType}
-use Rattle.xr_types.specs.declared.attr.NcType.TheVariants.{Char, Float, Double}
+use Rattle.xr_types.specs.declared.attr.NcType.TheVariants.{Byte, Char, Short, Int, Float, Double, UByte, UShort, UInt, Int64, UInt64}
 use Rattle.xr_types.specs.Kinds.{kind_name}
 use Rattle.xr_defs.specs.declared.value.Content.{Content}
 use Rattle.xr_defs.specs.declared.value.Content.TheVariants as contents
@@ -75,7 +75,14 @@ abbrev pub items_of : NcType → List ℕ → List (List ℕ)
 items_of Char raw = chars_text raw ∷ []
 items_of Float raw = unread_text (length raw / 4) ∷ []
 items_of Double raw = unread_text (length raw / 8) ∷ []
-items_of kind raw = map signed_decimal (numbers_of kind raw)
+items_of Byte raw = map signed_decimal (numbers_of Byte raw)
+items_of Short raw = map signed_decimal (numbers_of Short raw)
+items_of Int raw = map signed_decimal (numbers_of Int raw)
+items_of UByte raw = map signed_decimal (numbers_of UByte raw)
+items_of UShort raw = map signed_decimal (numbers_of UShort raw)
+items_of UInt raw = map signed_decimal (numbers_of UInt raw)
+items_of Int64 raw = map signed_decimal (numbers_of Int64 raw)
+items_of UInt64 raw = map signed_decimal (numbers_of UInt64 raw)
 
 -- ---- cells
 
@@ -111,3 +118,7 @@ shown (kept.Int8 v) mask = texts_of signed_decimal v mask
 shown (kept.Int16 v) mask = texts_of signed_decimal v mask
 shown (kept.Int32 v) mask = texts_of signed_decimal v mask
 shown (kept.Int64 v) mask = texts_of signed_decimal v mask
+shown (kept.UInt8 v) mask = texts_of decimal v mask
+shown (kept.UInt16 v) mask = texts_of decimal v mask
+shown (kept.UInt32 v) mask = texts_of decimal v mask
+shown (kept.UInt64 v) mask = texts_of decimal v mask

@@ -5,8 +5,8 @@ ghost use Rattle.xr_defs.specs.Printing.{type_name, attr_line, chars_text};
 ghost use Rattle.xr_print.specs.Pieces.{unread_text, items_of};
 
 use crate::chars::push_chars;
+use crate::grid::push_numbers;
 use crate::names::push_name;
-use crate::numbers::push_numbers;
 use itoa::Buffer;
 use std::alloc::AllocError;
 use xr_types::{Attr, NcType};
@@ -21,6 +21,11 @@ fn type_name(kind: NcType) -> &'static str
         NcType::Int => "int",
         NcType::Float => "float",
         NcType::Double => "double",
+        NcType::UByte => "ubyte",
+        NcType::UShort => "ushort",
+        NcType::UInt => "uint",
+        NcType::Int64 => "int64",
+        NcType::UInt64 => "uint64",
     }
 }
 
@@ -53,7 +58,12 @@ fn push_items(
 {
     match kind {
         NcType::Char => push_text_item(out, raw),
-        NcType::Byte | NcType::Short | NcType::Int => push_numbers(out, digits, kind, raw),
+        NcType::Byte | NcType::Short | NcType::Int | NcType::Int64 => {
+            push_numbers(out, digits, kind, raw)
+        }
+        NcType::UByte | NcType::UShort | NcType::UInt | NcType::UInt64 => {
+            push_numbers(out, digits, kind, raw)
+        }
         NcType::Float => push_unread(out, digits, raw.len() / 4),
         NcType::Double => push_unread(out, digits, raw.len() / 8),
     }

@@ -1,6 +1,8 @@
 //! The cells of an array, with its mask where it has one.
-ghost use Rattle.std.specs.Prelude.{◌≡◌, ◌++◌, ◌*◌, ◌/◌, ◌≤◌, length, map, OnOk, option_copied};
+ghost use Rattle.std.specs.Prelude.{◌≡◌, ◌++◌, ◌*◌, ◌/◌, ◌≤◌, true, length, map, OnOk, option_copied};
+ghost use Rattle.std.specs.Fmt.{signed_decimal};
 ghost use Rattle.xr_arrays.specs.Arrays.{wide};
+ghost use Rattle.xr_arrays.specs.Numbers.{is_whole, numbers_of};
 ghost use Rattle.xr_defs.specs.Text.{after_blanks, cell_text, rows_text};
 ghost use Rattle.xr_print.specs.Pieces.{texts_of, grid_text, shown, IsMaskOf};
 
@@ -8,9 +10,9 @@ use crate::cells::{CellText, Decimal, Truth};
 use crate::{masked_rows, rows};
 use itoa::Buffer;
 use std::alloc::AllocError;
-use stored_cells::as_typed;
+use stored_cells::{as_typed, decoded_cells};
 use xr_arrays::{ArrayValue, Cells};
-use xr_types::Items;
+use xr_types::{Items, NcType};
 
 fn push_texts<T: Copy, P: CellText<T>>(
     out: &mut Vec<u8>,
@@ -72,6 +74,10 @@ fn push_shown(
         Cells::Int16(v) => push_texts::<i16, Decimal>(out, digits, v.as_slice(), mask),
         Cells::Int32(v) => push_texts::<i32, Decimal>(out, digits, v.as_slice(), mask),
         Cells::Int64(v) => push_texts::<i64, Decimal>(out, digits, v.as_slice(), mask),
+        Cells::UInt8(v) => push_texts::<u8, Decimal>(out, digits, v.as_slice(), mask),
+        Cells::UInt16(v) => push_texts::<u16, Decimal>(out, digits, v.as_slice(), mask),
+        Cells::UInt32(v) => push_texts::<u32, Decimal>(out, digits, v.as_slice(), mask),
+        Cells::UInt64(v) => push_texts::<u64, Decimal>(out, digits, v.as_slice(), mask),
     }
 }
 
@@ -92,6 +98,10 @@ fn push_shown_lines(
         Cells::Int16(v) => push_grid::<i16, Decimal>(out, digits, v.as_slice(), mask, n),
         Cells::Int32(v) => push_grid::<i32, Decimal>(out, digits, v.as_slice(), mask, n),
         Cells::Int64(v) => push_grid::<i64, Decimal>(out, digits, v.as_slice(), mask, n),
+        Cells::UInt8(v) => push_grid::<u8, Decimal>(out, digits, v.as_slice(), mask, n),
+        Cells::UInt16(v) => push_grid::<u16, Decimal>(out, digits, v.as_slice(), mask, n),
+        Cells::UInt32(v) => push_grid::<u32, Decimal>(out, digits, v.as_slice(), mask, n),
+        Cells::UInt64(v) => push_grid::<u64, Decimal>(out, digits, v.as_slice(), mask, n),
     }
 }
 
@@ -120,4 +130,19 @@ pub(crate) fn push_cell_lines(
     let typed = as_typed(*out.allocator(), array)?;
     let (cells, mask) = typed.parts();
     push_shown_lines(out, digits, cells, mask, n as usize)
+}
+
+/// Appends the numbers that bytes of a file's type spell, a blank before each.
+#[tactic(auto, using(crate::proofs::Lines::shown_numbers))]
+pub(crate) fn push_numbers(
+    out: &mut Vec<u8>,
+    digits: &mut Buffer,
+    kind: NcType,
+    raw: &[u8],
+) -> Result<(), AllocError>
+    requires { is_whole kind ≡ true }
+    ensures { OnOk result (out.new.items ≡ out.old.items ++ after_blanks (map signed_decimal (numbers_of kind raw.now))) }
+{
+    let cells = decoded_cells(*out.allocator(), kind, raw)?;
+    push_shown(out, digits, &cells, None)
 }

@@ -1,5 +1,6 @@
 //! The lines of indexes.
 ghost use Rattle.std.specs.Prelude.{◌≡◌, ◌++◌, All, flat_map, map, OnOk};
+ghost use Rattle.std.specs.Fmt.{signed_decimal};
 ghost use Rattle.xr_defs.specs.Text.{after_blanks, quoted, label_kind, index_line, index_text};
 ghost use Rattle.xr_arrays.specs.Times.{IsTime};
 ghost use Rattle.xr_print.specs.Conditions.{AreTimes, HasTimes};
@@ -11,7 +12,7 @@ use crate::rows::push_after_blanks;
 use crate::times::push_time;
 use itoa::Buffer;
 use std::alloc::AllocError;
-use xr_types::{Axis, LabelList, TextBytes};
+use xr_types::{Axis, Integers, IntegersForm, LabelList, TextBytes};
 
 fn push_times(out: &mut Vec<u8>, times: &[i64]) -> Result<(), AllocError>
     requires { All IsTime times.now }
@@ -34,14 +35,26 @@ fn push_texts(out: &mut Vec<u8>, texts: &[TextBytes]) -> Result<(), AllocError>
     Ok(())
 }
 
+#[tactic(auto, using(crate::proofs::Lines::decimals))]
+fn push_integers(
+    out: &mut Vec<u8>,
+    digits: &mut Buffer,
+    numbers: &Integers,
+) -> Result<(), AllocError>
+    ensures { OnOk result (out.new.items ≡ out.old.items ++ after_blanks (map signed_decimal numbers.now)) }
+{
+    match numbers.form() {
+        IntegersForm::Signed(numbers) => push_after_blanks::<i64, Decimal>(out, digits, numbers),
+        IntegersForm::Unsigned(numbers) => push_after_blanks::<u64, Decimal>(out, digits, numbers),
+    }
+}
+
 fn push_labels(out: &mut Vec<u8>, digits: &mut Buffer, labels: &LabelList) -> Result<(), AllocError>
     requires { AreTimes labels.now }
     ensures { OnOk result (out.new.items ≡ out.old.items ++ after_blanks (label_items labels.now)) }
 {
     match labels {
-        LabelList::Numbers(_, numbers) => {
-            push_after_blanks::<i64, Decimal>(out, digits, numbers.as_slice())
-        }
+        LabelList::Numbers(_, numbers) => push_integers(out, digits, numbers),
         LabelList::Times(_, times) => push_times(out, times.as_slice()),
         LabelList::Texts(texts) => push_texts(out, texts.as_slice()),
     }

@@ -13,7 +13,6 @@ mod grid;
 mod index;
 mod masked_rows;
 mod names;
-mod numbers;
 mod rows;
 mod times;
 
