@@ -32,7 +32,7 @@ fn has_mask(array: &ArrayValue, cells: &[u8]) -> bool {
 }
 
 /// Whether an array is stored as these bytes and has these fill numbers.
-fn has_bytes(array: &ArrayValue, bytes: &[u8], fills: &[i64]) -> bool {
+fn has_bytes(array: &ArrayValue, bytes: &[u8], fills: &[i128]) -> bool {
     match array.form() {
         Form::Stored(stored) => {
             let parts = stored.parts();

@@ -12,8 +12,8 @@ use cdf_reader::{
 use std::alloc::{AllocError, Global};
 use std::test::*;
 use stored_cells::sum;
-use xr_files::{CdfFile, CdfVar};
 use xr_arrays::Cells;
+use xr_files::{CdfFile, CdfVar};
 use xr_types::{Items, NcType, TextBytes};
 
 const ONE: [u8; 92] = [
@@ -36,9 +36,23 @@ const LONE: [u8; 86] = [
     0, 0, 0, 0, 0, 0, 0, 0, 0, 0, 3, 0, 0, 0, 4, 0, 0, 0, 80, 0, 1, 0, 2, 0, 3,
 ];
 
+/// The same file as the first one, in version 5.
+const WIDE: [u8; 140] = [
+    67, 68, 70, 5, 0, 0, 0, 0, 0, 0, 0, 0, 0, 0, 0, 10, 0, 0, 0, 0, 0, 0, 0, 1, 0, 0, 0, 0, 0, 0,
+    0, 1, 120, 0, 0, 0, 0, 0, 0, 0, 0, 0, 0, 3, 0, 0, 0, 0, 0, 0, 0, 0, 0, 0, 0, 0, 0, 0, 0, 11, 0,
+    0, 0, 0, 0, 0, 0, 1, 0, 0, 0, 0, 0, 0, 0, 1, 118, 0, 0, 0, 0, 0, 0, 0, 0, 0, 0, 1, 0, 0, 0, 0,
+    0, 0, 0, 0, 0, 0, 0, 0, 0, 0, 0, 0, 0, 0, 0, 0, 0, 0, 0, 4, 0, 0, 0, 0, 0, 0, 0, 12, 0, 0, 0,
+    0, 0, 0, 0, 128, 0, 0, 0, 1, 0, 0, 0, 2, 0, 0, 0, 3,
+];
+
 /// The variable `v` over `x`, which holds 1, 2 and 3.
 fn one() -> &'static [u8] {
     &ONE
+}
+
+/// The same in version 5.
+fn wide() -> &'static [u8] {
+    &WIDE
 }
 
 /// Three records of the byte `b` and the int `i`.
@@ -95,8 +109,23 @@ fn cut_files(rt: HostRuntime) {
     }
 }
 
+#[test]
+fn cut_files_of_version_5(rt: HostRuntime) {
+    let alloc = rt.alloc();
+    for n in 0..140 {
+        let want = if n < 4 {
+            ("BadMagic", 0)
+        } else if n < 128 {
+            ("CutHeader", n as u64)
+        } else {
+            ("CutData", n as u64)
+        };
+        assert_eq!(rt; answer(alloc, cut(wide(), n)), want, "cut at {n}");
+    }
+}
+
 /// Fronts of files, and the answers.
-const FRONTS: [(&[u8], &str, u64); 4] = [
+const FRONTS: [(&[u8], &str, u64); 6] = [
     (
         &[67, 68, 70, 1, 0, 0, 0, 0, 0, 0, 0, 10, 255, 255, 255, 254],
         "CutHeader",
@@ -114,6 +143,25 @@ const FRONTS: [(&[u8], &str, u64); 4] = [
         ],
         "CutHeader",
         24,
+    ),
+    // more dimensions than a number of 64 bits counts bytes
+    (
+        &[
+            67, 68, 70, 5, 0, 0, 0, 0, 0, 0, 0, 0, 0, 0, 0, 10, 255, 255, 255, 255, 255, 255, 255,
+            255,
+        ],
+        "CutHeader",
+        24,
+    ),
+    // an attribute of 2 ^ 61 + 1 doubles
+    (
+        &[
+            67, 68, 70, 5, 0, 0, 0, 0, 0, 0, 0, 0, 0, 0, 0, 0, 0, 0, 0, 0, 0, 0, 0, 0, 0, 0, 0, 12,
+            0, 0, 0, 0, 0, 0, 0, 1, 0, 0, 0, 0, 0, 0, 0, 1, 97, 0, 0, 0, 0, 0, 0, 6, 32, 0, 0, 0,
+            0, 0, 0, 1,
+        ],
+        "CutHeader",
+        60,
     ),
 ];
 
@@ -163,6 +211,62 @@ fn changed_bytes(rt: HostRuntime) -> Result<(), Fail> {
     Ok(())
 }
 
+/// The file of version 5 with one byte changed: which, to what, and the answer.
+const WIDE_CHANGES: [(usize, u8, &str, u64); 16] = [
+    (3, 2, "BadTag", 12),
+    (3, 4, "BadMagic", 0),
+    (16, 255, "BadName", 44),
+    (24, 255, "CutHeader", 140),
+    (31, 0, "BadName", 24),
+    (36, 1, "CutData", 140),
+    (55, 1, "BadTag", 48),
+    (80, 128, "BadDimension", 104),
+    (95, 1, "BadDimension", 88),
+    (111, 0, "BadType", 108),
+    (111, 7, "", 0),
+    (111, 11, "CutData", 140),
+    (111, 12, "BadType", 108),
+    (120, 255, "CutData", 140),
+    // vsize is ignored
+    (112, 255, "", 0),
+    (11, 7, "", 7),
+];
+
+fn wide_changes() -> &'static [(usize, u8, &'static str, u64)] {
+    &WIDE_CHANGES
+}
+
+#[test]
+fn changed_bytes_of_version_5(rt: HostRuntime) -> Result<(), Fail> {
+    for (place, byte, word, offset) in wide_changes() {
+        let found = answer_changed(rt.alloc(), wide(), &[(*place, *byte)])?;
+        assert_eq!(rt; found, (*word, *offset), "byte {place} is {byte}");
+    }
+    Ok(())
+}
+
+/// The number of records has all bits set in a streamed file, in version 5 all 64.
+#[test]
+fn streamed_files_of_version_5(rt: HostRuntime) -> Result<(), Fail> {
+    let half: &[(usize, u8)] = &[(8, 255), (9, 255), (10, 255), (11, 255)];
+    let whole: &[(usize, u8)] = &[
+        (4, 255),
+        (5, 255),
+        (6, 255),
+        (7, 255),
+        (8, 255),
+        (9, 255),
+        (10, 255),
+        (11, 255),
+    ];
+    assert_eq!(rt;
+        answer_changed(rt.alloc(), wide(), half)?,
+        ("", 4_294_967_295)
+    );
+    assert_eq!(rt; answer_changed(rt.alloc(), wide(), whole)?, ("", 0));
+    Ok(())
+}
+
 #[test]
 fn changed_counts_of_records(rt: HostRuntime) -> Result<(), Fail> {
     let streamed: &[(usize, u8)] = &[(4, 255), (5, 255), (6, 255), (7, 255)];
@@ -197,7 +301,8 @@ fn has_values(alloc: Global, file: &[u8], place: usize, values: &[u8]) -> bool {
 
 #[test]
 fn whole_files(rt: HostRuntime) {
-    let table: [(&[u8], usize, &[u8]); 4] = [
+    let table: [(&[u8], usize, &[u8]); 5] = [
+        (wide(), 0, &[0, 0, 0, 1, 0, 0, 0, 2, 0, 0, 0, 3]),
         (one(), 0, &[0, 0, 0, 1, 0, 0, 0, 2, 0, 0, 0, 3]),
         (records(), 0, &[1, 2, 3]),
         (records(), 1, &[0, 0, 0, 10, 0, 0, 0, 20, 0, 0, 0, 30]),

@@ -1,5 +1,6 @@
-//! A file whose bytes were worked out by hand from the format's text.
-ghost use Rattle.std.specs.Prelude.{◌≡◌, IfOk};
+//! Files whose bytes were worked out by hand from the format's text.
+ghost use Rattle.std.specs.Prelude.{◌≡◌, IfOk, true};
+ghost use Rattle.xr_files.specs.Files.{is_version};
 ghost use Rattle.xr_files.specs.Canonical.{IsFile};
 
 use bytes::{Bytes, BytesQueue};
@@ -10,7 +11,8 @@ use xr_files::{CdfDim, CdfFile, CdfVar};
 use xr_types::{Items, Name, NcType};
 
 // a variable `v` over `x` that holds 1, 2 and 3
-fn three_ints(alloc: Global) -> Result<CdfFile, AllocError>
+fn three_ints(alloc: Global, version: u8) -> Result<CdfFile, AllocError>
+    requires { is_version version ≡ true }
     ensures { IfOk result IsFile }
 {
     let mut dims = Items::new(alloc);
@@ -27,7 +29,7 @@ fn three_ints(alloc: Global) -> Result<CdfFile, AllocError>
         raw: Bytes::copy_from_slice(alloc, &[0, 0, 0, 1, 0, 0, 0, 2, 0, 0, 0, 3])?,
     })?;
     Ok(CdfFile {
-        version: 1,
+        version,
         numrecs: 0,
         dims,
         attrs: Items::new(alloc),
@@ -42,14 +44,37 @@ const THREE_INTS: [u8; 92] = [
     0, 0, 0, 0, 0, 0, 0, 0, 0, 0, 4, 0, 0, 0, 12, 0, 0, 0, 80, 0, 0, 0, 1, 0, 0, 0, 2, 0, 0, 0, 3,
 ];
 
+// those of version 5
+const WIDE_INTS: [u8; 140] = [
+    67, 68, 70, 5, 0, 0, 0, 0, 0, 0, 0, 0, 0, 0, 0, 10, 0, 0, 0, 0, 0, 0, 0, 1, 0, 0, 0, 0, 0, 0,
+    0, 1, 120, 0, 0, 0, 0, 0, 0, 0, 0, 0, 0, 3, 0, 0, 0, 0, 0, 0, 0, 0, 0, 0, 0, 0, 0, 0, 0, 11, 0,
+    0, 0, 0, 0, 0, 0, 1, 0, 0, 0, 0, 0, 0, 0, 1, 118, 0, 0, 0, 0, 0, 0, 0, 0, 0, 0, 1, 0, 0, 0, 0,
+    0, 0, 0, 0, 0, 0, 0, 0, 0, 0, 0, 0, 0, 0, 0, 0, 0, 0, 0, 4, 0, 0, 0, 0, 0, 0, 0, 12, 0, 0, 0,
+    0, 0, 0, 0, 128, 0, 0, 0, 1, 0, 0, 0, 2, 0, 0, 0, 3,
+];
+
 // the same from a function with no contract, so that no proof reads them
 fn written() -> &'static [u8] {
     &THREE_INTS
 }
 
+fn written_wide() -> &'static [u8] {
+    &WIDE_INTS
+}
+
+#[test]
+fn writes_ints_in_version_5(rt: HostRuntime) -> Result<(), Fail> {
+    let file = three_ints(rt.alloc(), 5)?;
+    match write(rt.alloc(), &file) {
+        Ok(bytes) => assert_eq!(rt; bytes.as_slice(), written_wide()),
+        Err(_) => assert!(rt; false),
+    }
+    Ok(())
+}
+
 #[test]
 fn writes_ints(rt: HostRuntime) -> Result<(), Fail> {
-    let file = three_ints(rt.alloc())?;
+    let file = three_ints(rt.alloc(), 1)?;
     match write(rt.alloc(), &file) {
         Ok(bytes) => assert_eq!(rt; bytes.as_slice(), written()),
         Err(_) => assert!(rt; false),
@@ -59,7 +84,7 @@ fn writes_ints(rt: HostRuntime) -> Result<(), Fail> {
 
 #[test]
 fn ints_have_their_places(rt: HostRuntime) -> Result<(), Fail> {
-    let file = three_ints(rt.alloc())?;
+    let file = three_ints(rt.alloc(), 1)?;
     match layout(rt.alloc(), &file) {
         Ok(places) => {
             assert_eq!(rt; places.header, 80);
@@ -87,7 +112,7 @@ fn are_header_and_shared_values(pieces: BytesQueue, header: &[u8], values: &[u8]
 
 #[test]
 fn values_are_a_piece_that_is_shared(rt: HostRuntime) -> Result<(), Fail> {
-    let file = three_ints(rt.alloc())?;
+    let file = three_ints(rt.alloc(), 1)?;
     let (header, values) = written().split_at_checked(80).ok_or("80 bytes")?;
     match write_pieces(rt.alloc(), &file) {
         Ok(pieces) => {
