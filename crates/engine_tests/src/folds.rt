@@ -3,8 +3,7 @@ ghost use Rattle.std.specs.Prelude.{◌≡◌, ◌≤◌, ◌^◌, length};
 
 use fold_kernel::{Partial, scan_masked, scan_run};
 use std::process::Abort;
-use xr_types::FoldKind;
-use xr_types::{DType, Elem};
+use xr_types::{DType, Elem, FoldKind};
 
 fn folds() -> [FoldKind; 11] {
     [
@@ -198,6 +197,119 @@ fn wide_kinds(rt: HostRuntime) {
     );
 }
 
+// `sum(dtype="uint64")` and `prod(dtype="uint64")`, which wrap at 64 bits; the numbers are those of Python's whole
+// numbers.
+#[test]
+fn kinds_without_a_sign(rt: HostRuntime) {
+    try_kind(
+        &rt,
+        DType::UInt8,
+        &[200u8, 100, 255, 100, 7, 255],
+        &[917, 910350000000, 7, 255, 200, 255, 4, 2, 6, 1, 1],
+        &[710, 650250000, 100, 255, 100, 255, 1, 2, 4, 1, 1],
+    );
+    try_kind(
+        &rt,
+        DType::UInt16,
+        &[65535u16, 40000, 65535, 3, 1, 40001],
+        &[
+            211075,
+            2168985186637448384,
+            1,
+            65535,
+            65535,
+            40001,
+            4,
+            0,
+            6,
+            1,
+            1,
+        ],
+        &[
+            145539,
+            314575864200000,
+            3,
+            65535,
+            40000,
+            40001,
+            3,
+            2,
+            4,
+            1,
+            1,
+        ],
+    );
+    try_kind(
+        &rt,
+        DType::UInt32,
+        &[4294967295u32, 4294967295, 2147483648, 7, 2147483648, 1],
+        &[
+            12884901894,
+            13835058055282163712,
+            1,
+            4294967295,
+            4294967295,
+            1,
+            5,
+            0,
+            6,
+            1,
+            1,
+        ],
+        &[
+            6442450951,
+            9223372021822390272,
+            1,
+            4294967295,
+            4294967295,
+            1,
+            5,
+            1,
+            4,
+            1,
+            1,
+        ],
+    );
+    try_kind(
+        &rt,
+        DType::UInt64,
+        &[
+            18446744073709551615u64,
+            9223372036854775808,
+            3,
+            18446744073709551615,
+            5,
+            9223372036854775809,
+        ],
+        &[
+            7,
+            9223372036854775808,
+            3,
+            18446744073709551615,
+            18446744073709551615,
+            9223372036854775809,
+            2,
+            0,
+            6,
+            1,
+            1,
+        ],
+        &[
+            3,
+            9223372036854775808,
+            3,
+            18446744073709551615,
+            9223372036854775808,
+            9223372036854775809,
+            2,
+            3,
+            4,
+            1,
+            1,
+        ],
+    );
+}
+
 /// What a fold of missing cells gives, as two runs with a mask.
 fn of_hidden(fold: FoldKind) -> Option<i128> {
     of_masked::<i16>(fold, DType::Int16, &[4, 5], &[1, 1])
@@ -262,4 +374,20 @@ fn running_sums(rt: HostRuntime) {
     are(&rt, whole, [1100, 972, 1099, 1104]);
     are(&rt, masked, [1204, 1204, 1331, 1336]);
     assert_eq!(rt; last.finish(), Some(1336));
+}
+
+// The same of `uint8`, whose sums are `uint64`.
+#[test]
+fn running_sums_without_a_sign(rt: HostRuntime) {
+    let mut before = Partial::empty(FoldKind::Sum, DType::UInt8);
+    before.absorb(0, Some(55));
+    for i in 0..4 {
+        before.absorb(i + 1, Some(255));
+    }
+    let mut sums = [0u64; 3];
+    let after = scan_run(before, &[200u8, 0, 255], &mut sums);
+    for (sum, wanted) in sums.iter().zip([1275, 1275, 1530]) {
+        assert_eq!(rt; *sum, wanted);
+    }
+    assert_eq!(rt; after.finish(), Some(1530));
 }

@@ -6,10 +6,10 @@ use label_index::Index;
 use std::alloc::{AllocError, Global};
 use std::process::Abort;
 use std::test::Fail;
-use xr_types::Near;
 use xr_arrays::{Direction, Span};
 use xr_types::{
-    Axis, DType, Fault, Items, Label, LabelList, Labels, TextBytes, TimeCoding, TimeUnit, Units,
+    Axis, Calendar, DType, Fault, Integers, Items, Label, LabelList, Labels, Near, Shared,
+    TextBytes, TimeCoding, TimeUnit, Units,
 };
 
 /// An axis `x` with these numbers.
@@ -18,8 +18,9 @@ fn number_axis(alloc: Global, numbers: &[i64]) -> Result<Axis, AllocError>
     ensures labelled { IfOk result IsLabelled }
     ensures size { IfOk result (λ a. a.size ≤ 1000) }
 {
+    let list = Integers::signed(alloc, Items::from_slice(alloc, numbers)?)?;
     let labels = Labels {
-        list: LabelList::Numbers(DType::Int64, Items::from_slice(alloc, numbers)?),
+        list: LabelList::Numbers(DType::Int64, list),
         attrs: Items::new(alloc),
     };
     Ok(Axis {
@@ -39,13 +40,15 @@ fn time_axis(alloc: Global, times: &[i64]) -> Result<Axis, AllocError>
         units: Units {
             unit: TimeUnit::Days,
             reference: 946_684_800,
+            calendar: Calendar::Civil,
             early: false,
         },
         units_text: TextBytes::from_str(alloc, "days since 2000-01-01")?,
         calendar_text: None,
     };
+    let list = Shared::of(alloc, Items::from_slice(alloc, times)?)?;
     let labels = Labels {
-        list: LabelList::Times(coding, Items::from_slice(alloc, times)?),
+        list: LabelList::Times(coding, list),
         attrs: Items::new(alloc),
     };
     Ok(Axis {

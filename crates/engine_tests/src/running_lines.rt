@@ -2,6 +2,7 @@
 ghost use Rattle.std.specs.Prelude.{◌≡◌, ◌<◌, [], ◌∷◌, All, IfOk};
 ghost use Rattle.xr_types.specs.declared.kind.DType.TheVariants.{Int8, Int64};
 ghost use Rattle.xr_arrays.specs.Arrays.{IsCell};
+ghost use Rattle.xr_arrays.specs.Folds.{total_kind};
 ghost use Rattle.strided_block.specs.Typed.{block_kind, win_kind};
 ghost use Rattle.strided_block.specs.Views.{IsWhole};
 
@@ -10,8 +11,7 @@ use std::alloc::Global;
 use std::process::Abort;
 use std::test::Fail;
 use strided_block::{CellBlock, CellView, CellWin};
-use xr_types::FoldKind;
-use xr_types::{DType, Shape};
+use xr_types::{DType, FoldKind, Shape, is_unsigned};
 
 /// The sums down the second column of a block, into that of a window, from 1000 on.
 #[tactic(auto, using(strided_block::proofs::Wholes::still_whole, strided_block::proofs::Wholes::same_shape))]
@@ -96,7 +96,7 @@ fn sums_down_a_column(rt: HostRuntime) -> Result<(), Fail> {
 fn scan_row(block: &CellBlock, out: &mut CellWin)
     requires block { block.now.mask.shape ≡ 4 ∷ [] }
     requires out { out.old.mask.shape ≡ 4 ∷ [] }
-    requires sums { win_kind out.old.cells ≡ Int64 }
+    requires sums { win_kind out.old.cells ≡ total_kind (block_kind block.now.cells) }
     requires whole { IsWhole out.old.mask }
     ensures whole { IsWhole out.new.mask }
     ensures shape { out.new.mask.shape ≡ 4 ∷ [] }
@@ -122,11 +122,22 @@ fn row_of(alloc: Global, kind: DType) -> Result<CellBlock, Fail>
     )
 }
 
+/// The kind of sums of a kind.
+fn sum_kind(kind: DType) -> DType
+    ensures { result ≡ total_kind kind }
+{
+    if is_unsigned(kind) {
+        DType::UInt64
+    } else {
+        DType::Int64
+    }
+}
+
 fn row_of_sums(alloc: Global, block: &CellBlock) -> Result<CellBlock, Fail>
     requires { block.now.mask.shape ≡ 4 ∷ [] }
     ensures { IfOk result (λ b. b.mask.shape ≡ 4 ∷ []) }
 {
-    let zeros = CellBlock::zeroed(alloc, DType::Int64, &four())
+    let zeros = CellBlock::zeroed(alloc, sum_kind(block.kind()), &four())
         .ok()
         .ok_or("memory")?;
     let mut out = CellWin::whole(zeros);
@@ -154,10 +165,20 @@ fn cells_of(kind: DType) -> [Option<i128>; 4]
         DType::Int16 => [Some(32767), None, Some(32767), Some(-1)],
         DType::Int32 => [None, Some(-2147483648), Some(-1), Some(7)],
         DType::Int64 => [Some(9223372036854775807), Some(1), Some(-1), Some(5)],
+        DType::UInt8 => [Some(200), None, Some(255), Some(1)],
+        DType::UInt16 => [Some(65535), Some(65535), None, Some(2)],
+        DType::UInt32 => [Some(4294967295), Some(4294967295), Some(0), None],
+        DType::UInt64 => [
+            Some(18446744073709551615),
+            Some(2),
+            None,
+            Some(9223372036854775808),
+        ],
     }
 }
 
-// `numpy.array(cells, dtype=kind).cumsum(dtype="int64")`, a missing cell being 0; `uint8` for bytes of text.
+// `numpy.array(cells, dtype=kind).cumsum(dtype="int64")`, a missing cell being 0; `uint8` for bytes of text. Of kinds
+// without a sign, sums of Python's whole numbers modulo 2^64.
 fn sums_of(kind: DType) -> [i128; 4] {
     match kind {
         DType::Bool => [1, 1, 2, 3],
@@ -171,6 +192,10 @@ fn sums_of(kind: DType) -> [i128; 4] {
             9223372036854775807,
             -9223372036854775804,
         ],
+        DType::UInt8 => [200, 200, 455, 456],
+        DType::UInt16 => [65535, 131070, 131070, 131072],
+        DType::UInt32 => [4294967295, 8589934590, 8589934590, 8589934590],
+        DType::UInt64 => [18446744073709551615, 1, 1, 9223372036854775809],
     }
 }
 
@@ -188,5 +213,9 @@ fn sums_along_a_row(rt: HostRuntime) -> Result<(), Fail> {
     try_row(&rt, rt.alloc(), DType::Int8)?;
     try_row(&rt, rt.alloc(), DType::Int16)?;
     try_row(&rt, rt.alloc(), DType::Int32)?;
-    try_row(&rt, rt.alloc(), DType::Int64)
+    try_row(&rt, rt.alloc(), DType::Int64)?;
+    try_row(&rt, rt.alloc(), DType::UInt8)?;
+    try_row(&rt, rt.alloc(), DType::UInt16)?;
+    try_row(&rt, rt.alloc(), DType::UInt32)?;
+    try_row(&rt, rt.alloc(), DType::UInt64)
 }

@@ -6,7 +6,7 @@ use cf_time::{bins, count, decode, field, fields, read_date, read_units, text, w
 use std::alloc::Global;
 use std::process::Abort;
 use xr_arrays::{Field, Freq};
-use xr_types::{CallFault, TimeUnit, Units};
+use xr_types::{Calendar, CallFault, TimeUnit, Units};
 
 // The times and what they show are those of Python:
 // for y in (1, 1582, 1600, 1900, 2000, 2100, 9999):
@@ -73,6 +73,7 @@ fn from(unit: TimeUnit, reference: i64) -> Units {
     Units {
         unit,
         reference,
+        calendar: Calendar::Civil,
         early: false,
     }
 }

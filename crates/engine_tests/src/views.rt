@@ -11,8 +11,7 @@ use elem_kernel::{binary, cast, choose, compare, fill, unary};
 use std::alloc::Global;
 use std::test::Fail;
 use strided_block::{CellBlock, CellView, CellWin};
-use xr_types::OpKind;
-use xr_types::{DType, Shape};
+use xr_types::{DType, OpKind, Shape};
 
 /// The numbers at the edges of a kind's range, with a few between.
 fn edge_cells(kind: DType) -> [Option<i128>; 6]
@@ -20,7 +19,7 @@ fn edge_cells(kind: DType) -> [Option<i128>; 6]
 {
     match kind {
         DType::Bool => [Some(0), Some(1), Some(0), Some(1), Some(0), Some(1)],
-        DType::Char => [Some(0), Some(1), Some(2), Some(7), Some(127), Some(255)],
+        DType::Char | DType::UInt8 => [Some(0), Some(1), Some(2), Some(7), Some(127), Some(255)],
         DType::Int8 => [Some(-128), Some(-7), Some(-1), Some(0), Some(2), Some(127)],
         DType::Int16 => [
             Some(-32_768),
@@ -45,6 +44,30 @@ fn edge_cells(kind: DType) -> [Option<i128>; 6]
             Some(0),
             Some(2),
             Some(9_223_372_036_854_775_807),
+        ],
+        DType::UInt16 => [
+            Some(0),
+            Some(1),
+            Some(2),
+            Some(7),
+            Some(32_767),
+            Some(65_535),
+        ],
+        DType::UInt32 => [
+            Some(0),
+            Some(1),
+            Some(2),
+            Some(7),
+            Some(2_147_483_647),
+            Some(4_294_967_295),
+        ],
+        DType::UInt64 => [
+            Some(0),
+            Some(1),
+            Some(2),
+            Some(7),
+            Some(9_223_372_036_854_775_807),
+            Some(18_446_744_073_709_551_615),
         ],
     }
 }
