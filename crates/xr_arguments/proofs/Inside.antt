@@ -1,9 +1,12 @@
 -- Which values are of a plan, by their variant.
-use Rattle.std.proofs.Common.{◌≡◌, ℕ, ℤ, Bool, List, Option, ap, sym, subst, ◌∙◌}
+use Rattle.std.proofs.Common.{◌≡◌, ℤ, All, Bool, List, Option, ap, sym, subst, ◌∙◌}
 use Rattle.std.specs.declared.rc.Rc.{Rc}
 use Rattle.std.specs.declared.alloc.Global.{Global}
 use Rattle.xr_types.specs.declared.text.TextBytes.{TextBytes}
+use Rattle.xr_types.specs.declared.axis.TimeCoding.{TimeCoding}
+use Rattle.xr_defs.specs.declared.grouping.Grouping.{Grouping}
 use Rattle.xr_defs.specs.declared.slice.Part.{Part}
+use Rattle.xr_arrays.specs.Times.{IsTime}
 use Rattle.xr_arrays.specs.declared.node.Node.{Node}
 use Rattle.xr_values.specs.declared.data_array.DataArray.{DataArray}
 use Rattle.xr_values.specs.declared.dataset.Dataset.{Dataset}
@@ -48,6 +51,14 @@ pub slice_inside : (nodes : List Node) (v : Value) (start stop : Part) (step : O
 unfolding roll-Value denote.Hole.Carrier.roll
 slice_inside nodes v start stop step is = of_layer nodes v (held.Slice start stop step) is tt
 
+pub times_inside : (nodes : List Node) (v : Value) (coding : TimeCoding) (ts : List ℤ) → v ≡ variants.Times coding ts → All IsTime ts → IsValueIn nodes v
+unfolding roll-Value denote.Hole.Carrier.roll
+times_inside nodes v coding ts is inside = of_layer nodes v (held.Times coding ts) is inside
+
+pub inside_times : (nodes : List Node) (v : Value) (coding : TimeCoding) (ts : List ℤ) → v ≡ variants.Times coding ts → IsValueIn nodes v → All IsTime ts
+unfolding roll-Value denote.Hole.Carrier.roll
+inside_times nodes v coding ts is inside = by_layer nodes v (held.Times coding ts) is inside
+
 -- ---- arrays and datasets of a plan
 
 pub array_inside : (nodes : List Node) (v : Value) (a : Rc DataArray Global) → v ≡ variants.Array a → IsArrayIn nodes a.value → IsValueIn nodes v
@@ -65,6 +76,22 @@ inside_array nodes v a is inside = by_layer nodes v (held.Array a) is inside
 pub inside_set : (nodes : List Node) (v : Value) (s : Rc Dataset Global) → v ≡ variants.Set s → IsValueIn nodes v → IsDatasetIn nodes s.value
 unfolding roll-Value denote.Hole.Carrier.roll
 inside_set nodes v s is inside = by_layer nodes v (held.Set s) is inside
+
+pub grouped_array_inside : (nodes : List Node) (v : Value) (a : Rc DataArray Global) (g : Grouping) → v ≡ variants.GroupedArray a g → IsArrayIn nodes a.value → IsValueIn nodes v
+unfolding roll-Value denote.Hole.Carrier.roll
+grouped_array_inside nodes v a g is inside = of_layer nodes v (held.GroupedArray a g) is inside
+
+pub grouped_set_inside : (nodes : List Node) (v : Value) (s : Rc Dataset Global) (g : Grouping) → v ≡ variants.GroupedSet s g → IsDatasetIn nodes s.value → IsValueIn nodes v
+unfolding roll-Value denote.Hole.Carrier.roll
+grouped_set_inside nodes v s g is inside = of_layer nodes v (held.GroupedSet s g) is inside
+
+pub inside_grouped_array : (nodes : List Node) (v : Value) (a : Rc DataArray Global) (g : Grouping) → v ≡ variants.GroupedArray a g → IsValueIn nodes v → IsArrayIn nodes a.value
+unfolding roll-Value denote.Hole.Carrier.roll
+inside_grouped_array nodes v a g is inside = by_layer nodes v (held.GroupedArray a g) is inside
+
+pub inside_grouped_set : (nodes : List Node) (v : Value) (s : Rc Dataset Global) (g : Grouping) → v ≡ variants.GroupedSet s g → IsValueIn nodes v → IsDatasetIn nodes s.value
+unfolding roll-Value denote.Hole.Carrier.roll
+inside_grouped_set nodes v s g is inside = by_layer nodes v (held.GroupedSet s g) is inside
 
 -- the same where what is shared is looked at
 pub held_array : (nodes : List Node) (v : Value) (a : Rc DataArray Global) (x : DataArray) → v ≡ variants.Array a → x ≡ a.value → IsValueIn nodes v → IsArrayIn nodes x

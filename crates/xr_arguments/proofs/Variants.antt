@@ -4,6 +4,8 @@ use Rattle.std.specs.Prelude.{Vec}
 use Rattle.std.specs.declared.rc.Rc.{Rc}
 use Rattle.std.specs.declared.alloc.Global.{Global}
 use Rattle.xr_types.specs.declared.text.TextBytes.{TextBytes}
+use Rattle.xr_types.specs.declared.axis.TimeCoding.{TimeCoding}
+use Rattle.xr_defs.specs.declared.grouping.Grouping.{Grouping}
 use Rattle.xr_defs.specs.declared.slice.Part.{Part}
 use Rattle.xr_arrays.specs.declared.node.Node.{Node}
 use Rattle.xr_defs.specs.Meanings as of
@@ -60,3 +62,15 @@ is_array nodes v a is = by_layer nodes v (held.Array a) is
 pub is_set : (nodes : List Node) (v : Value) (s : Rc Dataset Global) → v ≡ variants.Set s → meaning nodes v ≡ of.Set (dataset_in nodes s.value)
 unfolding roll-Value denote.Hole.Carrier.roll
 is_set nodes v s is = by_layer nodes v (held.Set s) is
+
+pub is_times : (nodes : List Node) (v : Value) (coding : TimeCoding) (ts : List ℤ) → v ≡ variants.Times coding ts → meaning nodes v ≡ of.Times coding ts
+unfolding roll-Value denote.Hole.Carrier.roll
+is_times nodes v coding ts is = by_layer nodes v (held.Times coding ts) is
+
+pub is_grouped_array : (nodes : List Node) (v : Value) (a : Rc DataArray Global) (g : Grouping) → v ≡ variants.GroupedArray a g → meaning nodes v ≡ of.GroupedArray (array_in nodes a.value) g
+unfolding roll-Value denote.Hole.Carrier.roll
+is_grouped_array nodes v a g is = by_layer nodes v (held.GroupedArray a g) is
+
+pub is_grouped_set : (nodes : List Node) (v : Value) (s : Rc Dataset Global) (g : Grouping) → v ≡ variants.GroupedSet s g → meaning nodes v ≡ of.GroupedSet (dataset_in nodes s.value) g
+unfolding roll-Value denote.Hole.Carrier.roll
+is_grouped_set nodes v s g is = by_layer nodes v (held.GroupedSet s g) is
