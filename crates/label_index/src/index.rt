@@ -1,5 +1,5 @@
 //! The index of an axis.
-ghost use Rattle.std.specs.Prelude.{◌≡◌, ◌<◌, ◌≤◌, ◌^◌, IfOk, MatchOption, MatchResult, Ok, Err, Some, not};
+ghost use Rattle.std.specs.Prelude.{◌≡◌, ◌<◌, ◌≤◌, ◌^◌, length, IfOk, MatchOption, MatchResult, Ok, Err, Some, not};
 ghost use Rattle.std.specs.List.{range_with_len};
 ghost use Rattle.std.specs.Option.{option_copied};
 ghost use Rattle.xr_arrays.specs.Labels.{labels_of, repeats, direction_of, find_of, find_near_of, slice_of, IsLabelled, list_of};
@@ -37,17 +37,12 @@ impl<'a> Model for Index<'a> {
 }
 
 impl<'a> Index<'a> {
-    /// The index of an axis with labels. It is made in few passes where they ascend or descend or are
+    /// The index of a list of labels. It is made in few passes where they ascend or descend or are
     /// numbers of which none stands twice, and by a sort else.
-    pub fn of(alloc: Global, axis: &'a Axis) -> Result<Index<'a>, NoMemory>
-        requires labelled { IsLabelled axis.now }
-        requires most { axis.now.size ≤ 33554432 }
-        ensures { IfOk result (λ i. list_of axis.now ≡ Some i) }
+    pub fn over(alloc: Global, list: &'a LabelList) -> Result<Index<'a>, NoMemory>
+        requires most { length (labels_of list.now) ≤ 33554432 }
+        ensures { IfOk result (λ i. i ≡ list.now) }
     {
-        let list = match &axis.labels {
-            Some(labels) => &labels.list,
-            None => return Err(NoMemory),
-        };
         let places = place::place_all(alloc, list)?;
         let is_unique = place::is_distinct(list, &places);
         let step = if is_unique {
@@ -61,6 +56,19 @@ impl<'a> Index<'a> {
             is_unique,
             step,
         })
+    }
+
+    /// The index of an axis with labels.
+    pub fn of(alloc: Global, axis: &'a Axis) -> Result<Index<'a>, NoMemory>
+        requires labelled { IsLabelled axis.now }
+        requires most { axis.now.size ≤ 33554432 }
+        ensures { IfOk result (λ i. list_of axis.now ≡ Some i) }
+    {
+        let list = match &axis.labels {
+            Some(labels) => &labels.list,
+            None => return Err(NoMemory),
+        };
+        Index::over(alloc, list)
     }
 
     /// The one position that holds a label. A label of another kind is refused first, then one that stands

@@ -2,6 +2,8 @@
 -- "Automatic alignment"; `xarray.align`; pandas, `Index.join`).
 use Rattle.std.specs.Prelude.{◌+◌, ◌==◌, ◌&&◌, ◌||◌, ℕ, ℤ, pos, Bool, true, false, not, List, [], ◌∷◌, ◌++◌, length, map, fold, get_or, Option, Some, None, is_some, is_none, option_map, Result, Ok, Err, if◌then◌else◌}
 use Rattle.std.specs.List.{filter, list_any, list_all, range_with_len}
+use Rattle.std.specs.BTreeSet.{insert_key}
+use Rattle.std.specs.Result.{result_ok}
 use Rattle.std.specs.Str.{bytes_eq}
 use Rattle.xr_types.specs.Kinds.{promoted}
 use Rattle.xr_types.specs.Names.{among, axis_names, shape_over}
@@ -17,10 +19,11 @@ use Rattle.xr_types.specs.declared.axis.LabelList.TheVariants.{Numbers, Times, T
 use Rattle.xr_types.specs.declared.fault.Fault.{Fault}
 use Rattle.xr_types.specs.declared.fault.Fault.TheVariants.{LabelKind, NotAligned, NotUnique, SizeConflict, WouldPromote}
 use Rattle.xr_types.specs.declared.kind.DType.{DType}
+use Rattle.xr_types.specs.declared.kind.DType.TheVariants.{Int64}
 use Rattle.xr_types.specs.declared.operation.How.{How}
 use Rattle.xr_types.specs.declared.operation.How.TheVariants as how
 use Rattle.xr_arrays.specs.Arrays.{Array, at, made}
-use Rattle.xr_arrays.specs.Labels.{below, labels_of, repeats, same}
+use Rattle.xr_arrays.specs.Labels.{labels_of, order, place, repeats, same}
 use Rattle.xr_defs.specs.Building.{same_labels}
 use Rattle.xr_defs.specs.Selecting.{axis_called}
 use Rattle.xr_defs.specs.Values.{DataArray, array_of, no_axis}
@@ -43,6 +46,12 @@ are_kin (Times coding ts) (Times other us) = same_calendar coding.units.calendar
 are_kin (Texts ts) (Texts us) = true
 are_kin list other = false
 
+-- the kind of whole numbers; that of times and texts stands for nothing
+abbrev pub number_kind : LabelList → DType
+number_kind (Numbers kind ns) = kind
+number_kind (Times coding ts) = Int64
+number_kind (Texts ts) = Int64
+
 -- the kind to which the whole numbers of the lists are promoted
 unfoldable pub common_kind : DType → List LabelList → Result DType Fault
 common_kind t [] = Ok t
@@ -60,25 +69,20 @@ text_of (Text t) = t
 text_of (Int n) = []
 text_of (Time t) = []
 
--- a list of the sort of another, with these labels; whole numbers become those of the kind to which all are promoted
-unfoldable pub relisted : LabelList → List LabelList → List Label → Result LabelList Fault
-relisted (Numbers kind ns) others labels = common_kind kind others >>= λ t. Ok (Numbers t (map number_of labels))
-relisted (Times coding ts) others labels = Ok (Times coding (map number_of labels))
-relisted (Texts ts) others labels = Ok (Texts (map text_of labels))
+-- these labels in a list of the sort of another, whole numbers as those of a kind
+abbrev pub relisted : DType → LabelList → List Label → LabelList
+relisted t (Numbers kind ns) labels = Numbers t (map number_of labels)
+relisted t (Times coding ts) labels = Times coding (map number_of labels)
+relisted t (Texts ts) labels = Texts (map text_of labels)
 
 -- ---- the joined labels
 
 abbrev pub holds_label : List Label → Label → Bool
-holds_label labels l = list_any (same l) labels
+holds_label labels l = list_any (λ m. same m l) labels
 
--- a label put among ascending ones that differ, unless it stands there
-abbrev pub put_label : List Label → Label → List Label
-put_label [] l = l ∷ []
-put_label (m ∷ ms) l = if below l m then l ∷ m ∷ ms else (if same l m then m ∷ ms else m ∷ put_label ms l)
-
--- the distinct labels, ascending
+-- the distinct labels, ascending: each put in its place among those before it, unless it stands there
 abbrev pub ascending : List Label → List Label
-ascending labels = fold put_label [] labels
+ascending labels = fold (insert_key order) [] labels
 
 abbrev pub is_empty : List Label → Bool
 is_empty [] = true
@@ -130,9 +134,8 @@ listed ls = map (λ (l : Labels). l.list) ls
 unfoldable pub joined_index : How → Labels → List Labels → Result Labels Fault
 joined_index j l ls =
     unless (list_all (are_kin l.list) (listed ls)) LabelKind >>= λ u.
-    relisted l.list (listed ls) [] >>= λ v.
-    joined_labels j (labels_of l.list) (map labels_of (listed ls)) >>= λ labels.
-    relisted l.list (listed ls) labels >>= λ list. Ok (record { list = list; attrs = l.attrs })
+    common_kind (number_kind l.list) (listed ls) >>= λ t.
+    joined_labels j (labels_of l.list) (map labels_of (listed ls)) >>= λ labels. Ok (record { list = relisted t l.list labels; attrs = l.attrs })
 
 -- an axis without labels where none has some
 unfoldable pub labelled_axis : How → Axis → List Labels → Result Axis Fault
@@ -144,10 +147,9 @@ has_size joined x = is_some x.labels || (x.size == joined.size)
 
 -- ---- the position of an old axis that stands for each position of a new one
 
--- the first position that holds a label, if there is one
+-- the position that holds a label, if there is one and no other
 abbrev pub found : List Label → Label → Option ℕ
-found [] l = None
-found (m ∷ ms) l = if same m l then Some 0 else option_map (λ n. n + 1) (found ms l)
+found labels l = result_ok (place labels l)
 
 abbrev pub each_position : ℕ → List (Option ℕ)
 each_position n = map Some (range_with_len 0 n)
