@@ -30,7 +30,7 @@ pub fn keep(alloc: Global, labels: Vec<Key>, list: &LabelList) -> Result<Vec<Key
     let mut kept = labels;
     kept.retain(
         |key: &Key| -> bool
-            ensures { result ≡ holds_label (labels_of index.entry.now) key.now }
+            ensures { result ≡ holds_label (labels_of index.entry) key.now }
         { is_held(&index, key.label()) },
     );
     Ok(kept)
@@ -49,6 +49,7 @@ fn found(index: &Index<'_>, label: &Label) -> Option<u32>
 }
 
 /// Each of so many positions.
+#[tactic(auto, using(crate::proofs::Found::each_more))]
 fn each_position(alloc: Global, size: u64) -> Result<Sources, AllocError>
     ensures { IfOk result (λ s. s ≡ each_position size) }
 {
