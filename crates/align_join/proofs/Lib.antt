@@ -1,3 +1,4 @@
 pub mod Same
 pub mod Found
 pub mod Relisted
+pub mod Keeping

@@ -7,3 +7,4 @@ pub mod label;
 pub mod ordered;
 pub mod relist;
 pub mod source;
+pub mod lists;

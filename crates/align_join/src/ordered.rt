@@ -22,7 +22,7 @@ fn put_all(alloc: Global, set: &mut BTreeSet<Key>, list: &LabelList) -> Result<(
 
 /// The labels of all lists, put in their places.
 fn put_each(alloc: Global, lists: &[&LabelList]) -> Result<BTreeSet<Key>, AllocError>
-    ensures { IfOk result (λ s. s.keys ≡ ascending (all_of_lists (map (λ l. labels_of l.now) lists.now))) }
+    ensures { IfOk result (λ s. s.keys ≡ ascending (all_of_lists (map labels_of (map (λ l. l.now) lists.now)))) }
 {
     let mut set = BTreeSet::new(alloc);
     for list in lists {
@@ -33,7 +33,7 @@ fn put_each(alloc: Global, lists: &[&LabelList]) -> Result<BTreeSet<Key>, AllocE
 
 /// The labels of all lists in ascending order, each once.
 pub fn ascending(alloc: Global, lists: &[&LabelList]) -> Result<Vec<Key>, AllocError>
-    ensures { IfOk result (λ v. v.items ≡ ascending (all_of_lists (map (λ l. labels_of l.now) lists.now))) }
+    ensures { IfOk result (λ v. v.items ≡ ascending (all_of_lists (map labels_of (map (λ l. l.now) lists.now)))) }
 {
     let set = put_each(alloc, lists)?;
     set.into_iter().collect(alloc)
