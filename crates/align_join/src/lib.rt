@@ -1,10 +1,14 @@
 //! Joins of axes by their labels: the joined axis, and for each axis the positions that its own take there.
 #![tactic(auto)]
 
-pub mod key;
-pub mod kind;
-pub mod label;
-pub mod ordered;
-pub mod relist;
-pub mod source;
-pub mod lists;
+mod alignment;
+mod axes;
+mod key;
+mod kind;
+mod label;
+mod lists;
+mod ordered;
+mod relist;
+mod source;
+
+pub use alignment::{Joined, join};

@@ -48,7 +48,6 @@ fn any_repeats(alloc: Global, lists: &[&LabelList]) -> Result<bool, NoMemory>
 }
 
 /// The labels that all have, in the order of the first.
-#[tactic(auto, using(crate::proofs::Keeping::keep_more, crate::proofs::Keeping::keep_all))]
 fn inner(
     alloc: Global,
     first: &LabelList,
