@@ -2,3 +2,4 @@ pub mod Same
 pub mod Found
 pub mod Relisted
 pub mod Keeping
+pub mod Told

@@ -1,5 +1,5 @@
 -- The join as a function of the lists of labels.
-use Rattle.std.specs.Prelude.{◌≤◌, List, [], ◌∷◌, length, map, Option, Some, None, Result, Ok, Err, MatchOption, ⊤}
+use Rattle.std.specs.Prelude.{◌≤◌, ◌||◌, Bool, List, [], ◌∷◌, length, map, Option, Some, None, Result, Ok, Err, MatchOption, ⊤}
 use Rattle.std.specs.List.{list_all}
 use Rattle.xr_types.specs.Results.{◌>>=◌, unless}
 use Rattle.xr_types.specs.declared.attr.Attr.{Attr}
@@ -8,11 +8,11 @@ use Rattle.xr_types.specs.declared.axis.Labels.{Labels}
 use Rattle.xr_types.specs.declared.axis.LabelList.{LabelList}
 use Rattle.xr_types.specs.declared.axis.LabelList.TheVariants.{Texts}
 use Rattle.xr_types.specs.declared.fault.Fault.{Fault}
-use Rattle.xr_types.specs.declared.fault.Fault.TheVariants.{LabelKind}
+use Rattle.xr_types.specs.declared.fault.Fault.TheVariants.{LabelKind, SizeConflict, WouldPromote}
 use Rattle.xr_types.specs.declared.kind.DType.{DType}
 use Rattle.xr_types.specs.declared.operation.How.{How}
 use Rattle.xr_arrays.specs.Labels.{labels_of}
-use Rattle.xr_operations.specs.Alignment.{are_kin, common_kind, joined_by, joined_labels, number_kind, relisted}
+use Rattle.xr_operations.specs.Alignment.{are_kin, common_kind, has_all, has_size, joined_by, joined_labels, number_kind, relisted}
 
 -- labels that can be looked up
 abbrev pub IsFew : LabelList → Type 0
@@ -45,3 +45,7 @@ head (l ∷ ls) = Some l
 -- an axis with these labels
 abbrev pub indexed : Axis → List Attr → LabelList → Axis
 indexed x attrs list = record x { size = length (labels_of list); labels = Some (record { list = list; attrs = attrs }) }
+
+-- the checks of a joined axis
+abbrev pub checked : Bool → Axis → List Axis → Result (Unit {0}) Fault
+checked filled joined xs = unless (list_all (has_size joined) xs) SizeConflict >>= λ u. unless (filled || list_all (has_all joined) xs) WouldPromote

@@ -1,11 +1,11 @@
 //! The join of axes.
-ghost use Rattle.std.specs.Prelude.{◌≡◌, ◌<◌, map, length, All, IfOk};
+ghost use Rattle.std.specs.Prelude.{◌≡◌, ◌<◌, ◌||◌, ℕ, List, map, length, Option, All, IfOk};
 ghost use Rattle.std.specs.List.{list_all};
 ghost use Rattle.std.specs.Option.{is_some};
 ghost use Rattle.xr_types.specs.declared.axis.Axis.{Axis as AnAxis};
 ghost use Rattle.xr_types.specs.Results.{Answers};
 ghost use Rattle.xr_operations.specs.Alignment.{join, sources};
-ghost use Rattle.align_join.specs.Joined.{HasFew};
+ghost use Rattle.align_join.specs.Joined.{HasFew, checked};
 
 use crate::axes;
 use std::alloc::Global;
@@ -33,6 +33,35 @@ fn are_whole(from: &[Sources]) -> bool
     from.iter().all(|positions| is_whole(positions.as_slice()))
 }
 
+/// Whether each new position has one from each axis or a fill.
+fn are_covered(filled: bool, from: &[Sources]) -> bool
+    ensures { result ≡ (filled || list_all (λ s. list_all is_some s) from.now) }
+{
+    filled || are_whole(from)
+}
+
+/// For each axis the positions that stand for those of the joined one, if bare axes have its size and, without a fill, each axis
+/// has each joined label.
+fn checked_sources(
+    alloc: Global,
+    joined: &Axis,
+    axes: &[&Axis],
+    filled: bool,
+) -> Result<Items<Sources>, CallFault>
+    requires { All (λ x. HasFew x.now) axes.now }
+    ensures told { Answers (λ (s : List (List (Option ℕ))). tt) result (checked filled joined.now (map (λ x. x.now) axes.now)) }
+    ensures from { IfOk result (λ s. s ≡ map (λ x. sources x.now joined.now) axes.now) }
+{
+    if !axes::all_sized(joined, axes) {
+        return Err(CallFault::Refused(Fault::SizeConflict));
+    }
+    let from = axes::all_sources(alloc, joined, axes)?;
+    if !are_covered(filled, from.as_slice()) {
+        return Err(CallFault::Refused(Fault::WouldPromote));
+    }
+    Ok(from)
+}
+
 /// The join of axes of one name by their labels. With a fill, an axis may lack a joined label.
 ///
 /// # Errors
@@ -47,12 +76,6 @@ pub fn join(alloc: Global, axes: &[&Axis], how: How, filled: bool) -> Result<Joi
     ensures from { IfOk result (λ j. j.from ≡ map (λ x. sources x.now j.axis) axes.now) }
 {
     let axis = axes::labelled_axis(alloc, how, axes[0], axes)?;
-    if !axes::all_sized(&axis, axes) {
-        return Err(CallFault::Refused(Fault::SizeConflict));
-    }
-    let from = axes::all_sources(alloc, &axis, axes)?;
-    if !filled && !are_whole(from.as_slice()) {
-        return Err(CallFault::Refused(Fault::WouldPromote));
-    }
+    let from = checked_sources(alloc, &axis, axes, filled)?;
     Ok(Joined { axis, from })
 }
