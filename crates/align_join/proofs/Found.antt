@@ -1,5 +1,5 @@
 -- What a look-up in an index finds.
-use Rattle.std.proofs.Common.{◌≡◌, ◌<◌, ◌+◌, ℕ, ℤ, pos, zero, suc, Bool, true, false, cond, ◌||◌, List, [], ◌∷◌, length, map, get_or, Option, Some, None, ◌++◌, Result, Ok, Err, refl, sym, ap, ◌∙◌, arith}
+use Rattle.std.proofs.Common.{◌≡◌, ◌<◌, ◌+◌, ℕ, zero, suc, Bool, true, false, cond, ◌||◌, List, [], ◌∷◌, length, map, Some, None, ◌++◌, Result, Ok, Err, refl, sym, ap, ◌∙◌, arith}
 use Rattle.std.specs.List.{filter, list_any, range_with_len}
 use Rattle.std.specs.Result.{result_ok}
 use Rattle.std.proofs.lemmas.List.{map-append}
@@ -8,8 +8,8 @@ use Rattle.xr_types.specs.declared.axis.Label.TheVariants.{Int, Time, Text}
 use Rattle.xr_types.specs.declared.axis.LabelList.{LabelList}
 use Rattle.xr_types.specs.declared.axis.LabelList.TheVariants.{Numbers, Times, Texts}
 use Rattle.xr_types.specs.declared.fault.Fault.{Fault}
-use Rattle.xr_types.specs.declared.fault.Fault.TheVariants.{LabelKind, NotUnique, NoSuchLabel}
-use Rattle.xr_arrays.specs.Labels.{find_of, is_kin, labels_of, label_at, place, positions, same, sole}
+use Rattle.xr_types.specs.declared.fault.Fault.TheVariants.{LabelKind, NotUnique}
+use Rattle.xr_arrays.specs.Labels.{find_of, is_kin, labels_of, label_at, place, same, sole}
 use Rattle.xr_operations.specs.Alignment.{each_position, found, holds_label}
 use Rattle.label_index.proofs.Permuting.{range_push}
 

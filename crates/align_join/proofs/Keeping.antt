@@ -1,6 +1,6 @@
 -- Labels that stand in several lists.
 use Rattle.std.proofs.lemmas.List.{drop_more, drop_all}
-use Rattle.std.proofs.Common.{◌≡◌, ◌<◌, ◌≤◌, ◌+◌, ℕ, suc, length, map, drop, get_or, arith, Bool, true, false, cond, ◌&&◌, List, [], ◌∷◌, refl, ap, ◌∙◌, sym}
+use Rattle.std.proofs.Common.{◌≡◌, ◌<◌, ◌≤◌, ◌+◌, ℕ, length, map, drop, get_or, Bool, true, false, cond, ◌&&◌, List, [], ◌∷◌, refl, ap, ◌∙◌, sym}
 use Rattle.std.specs.List.{filter, list_all}
 use Rattle.xr_types.specs.declared.axis.Label.{Label}
 use Rattle.xr_operations.specs.Alignment.{holds_label}

@@ -6,7 +6,6 @@ use Rattle.std.proofs.lemmas.List.Folds.{list_all-map}
 use Rattle.xr_types.specs.Results.{◌>>=◌, unless, Answers}
 use Rattle.xr_types.specs.declared.axis.Axis.{Axis}
 use Rattle.xr_types.specs.declared.axis.Labels.{Labels}
-use Rattle.xr_types.specs.declared.axis.LabelList.{LabelList}
 use Rattle.xr_types.specs.declared.fault.CallFault.{CallFault}
 use Rattle.xr_types.specs.declared.fault.CallFault.TheVariants.{Refused, Declined, NoMemory}
 use Rattle.xr_types.specs.declared.fault.Fault.{Fault}
@@ -39,8 +38,8 @@ axis_told j x (m ∷ ms) l h =
     by (unless (list_all (are_kin m.list) (listed ms)) LabelKind) (common_kind (number_kind m.list) (listed ms)) (joined_labels j (labels_of m.list) (map labels_of (listed ms))) ∙ ap (λ n. joined_lists j (listed (m ∷ ms)) >>= λ list. Ok (indexed x n.attrs list)) e
   where
     by : (a : Result (Unit {0}) Fault) (b : Result _ Fault) (d : Result _ Fault) →
-      ((a >>= λ u. b >>= λ t. d >>= λ labels. Ok (record { list = relisted t m.list labels; attrs = m.attrs })) >>= λ n. Ok (record x { size = length (labels_of n.list); labels = Some n }))
-      ≡ ((a >>= λ u. b >>= λ t. d >>= λ labels. Ok (relisted t m.list labels)) >>= λ list. Ok (indexed x m.attrs list))
+        ((a >>= λ u. b >>= λ t. d >>= λ labels. Ok (record { list = relisted t m.list labels; attrs = m.attrs })) >>= λ n. Ok (record x { size = length (labels_of n.list); labels = Some n }))
+        ≡ ((a >>= λ u. b >>= λ t. d >>= λ labels. Ok (relisted t m.list labels)) >>= λ list. Ok (indexed x m.attrs list))
     by (Ok u) (Ok t) (Ok labels) = refl
     by (Ok u) (Ok t) (Err e) = refl
     by (Ok u) (Err e) d = refl

@@ -1,5 +1,5 @@
 -- The join as a function of the lists of labels.
-use Rattle.std.specs.Prelude.{◌≤◌, ◌||◌, Bool, List, [], ◌∷◌, length, map, Option, Some, None, Result, Ok, Err, MatchOption, ⊤}
+use Rattle.std.specs.Prelude.{◌≤◌, ◌||◌, Bool, List, [], ◌∷◌, length, map, Option, Some, None, Result, Ok, MatchOption, ⊤}
 use Rattle.std.specs.List.{list_all}
 use Rattle.xr_types.specs.Results.{◌>>=◌, unless}
 use Rattle.xr_types.specs.declared.attr.Attr.{Attr}

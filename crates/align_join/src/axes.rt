@@ -99,11 +99,7 @@ pub fn all_sized(joined: &Axis, axes: &[&Axis]) -> bool
 }
 
 /// For each axis the positions that stand for those of the joined one.
-pub fn all_sources(
-    alloc: Global,
-    joined: &Axis,
-    axes: &[&Axis],
-) -> Result<Items<Sources>, NoMemory>
+pub fn all_sources(alloc: Global, joined: &Axis, axes: &[&Axis]) -> Result<Items<Sources>, NoMemory>
     requires { All (λ x. HasFew x.now) axes.now }
     ensures { IfOk result (λ s. s ≡ map (λ x. sources x.now joined.now) axes.now) }
 {

@@ -53,7 +53,6 @@ pub fn number_kind(list: &LabelList) -> DType
     }
 }
 
-
 /// The kind to which one and those of all lists are promoted.
 #[tactic(auto, unfolding(xr_operations::specs::Alignment::common_kind))]
 pub fn common_kind(kind: DType, lists: &[&LabelList]) -> Result<DType, CallFault>

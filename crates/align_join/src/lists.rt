@@ -48,11 +48,7 @@ fn any_repeats(alloc: Global, lists: &[&LabelList]) -> Result<bool, NoMemory>
 }
 
 /// The labels that all have, in the order of the first.
-fn inner(
-    alloc: Global,
-    first: &LabelList,
-    others: &[&LabelList],
-) -> Result<Vec<Key>, NoMemory>
+fn inner(alloc: Global, first: &LabelList, others: &[&LabelList]) -> Result<Vec<Key>, NoMemory>
     requires { All (λ l. IsFew l.now) others.now }
     ensures { IfOk result (λ v. v.items ≡ filter (λ l. list_all (λ ms. holds_label ms l) (map labels_of (map (λ l. l.now) others.now))) (labels_of first.now)) }
 {
@@ -74,10 +70,7 @@ fn is_empty(list: &LabelList) -> bool
 }
 
 /// The lists that aren't empty.
-fn not_empty<'a>(
-    alloc: Global,
-    lists: &[&'a LabelList],
-) -> Result<Vec<&'a LabelList>, AllocError>
+fn not_empty<'a>(alloc: Global, lists: &[&'a LabelList]) -> Result<Vec<&'a LabelList>, AllocError>
     ensures { IfOk result (λ v. map labels_of (map (λ l. l.now) v.items) ≡ filter (λ ms. not (is_empty ms)) (map labels_of (map (λ l. l.now) lists.now))) }
 {
     let mut full = Vec::new(alloc);
@@ -195,11 +188,7 @@ fn joined_list(
 
 /// Lists of labels, joined: one with labels of the kind that all have, in the sort of the first.
 #[tactic(auto, unfolding(xr_types::specs::Results::unless))]
-pub fn joined_lists(
-    alloc: Global,
-    how: How,
-    lists: &[&LabelList],
-) -> Result<LabelList, CallFault>
+pub fn joined_lists(alloc: Global, how: How, lists: &[&LabelList]) -> Result<LabelList, CallFault>
     requires { All (λ l. IsFew l.now) lists.now }
     ensures { Answers (λ l. l) result (joined_lists how (map (λ l. l.now) lists.now)) }
 {

@@ -1,4 +1,4 @@
-use Rattle.std.proofs.Common.{◌≡◌, ◌∙◌, ◌||◌, ap, map, sym}
+use Rattle.std.proofs.Common.{◌∙◌, ◌||◌, ap, map, sym}
 use Rattle.align_join.proofs.Told.{covered, missized, uncovered, whole_is}
 use Rattle.align_join.proofs.alignment.checked_sources.Goals as goal
 

@@ -1,4 +1,4 @@
-use Rattle.std.proofs.Common.{◌≡◌, ◌∙◌, ap, map, sym, Ok, Err, List, Option, ℕ}
+use Rattle.std.proofs.Common.{◌∙◌, ap, map, Ok, Err, List, Option, ℕ}
 use Rattle.std.proofs.lemmas.Result.{err_from_is_err_and}
 use Rattle.xr_types.specs.Results.{◌>>=◌}
 use Rattle.xr_operations.specs.Alignment.{indexes, labelled_axis}

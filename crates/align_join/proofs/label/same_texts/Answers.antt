@@ -1,4 +1,4 @@
-use Rattle.std.proofs.Common.{pos, [], sym, ◌≡◌, ◌∙◌, length, arith}
+use Rattle.std.proofs.Common.{[], sym, ◌≡◌, ◌∙◌, length, arith}
 use Rattle.xr_types.specs.declared.axis.Label.TheVariants.{Text}
 use Rattle.align_join.proofs.Same.{each_by, one_by}
 use Rattle.align_join.proofs.label.same_texts.Goals as goal
