@@ -133,7 +133,6 @@ pub(crate) fn push_cell_lines(
 }
 
 /// Appends the numbers that bytes of a file's type spell, a blank before each.
-#[tactic(auto, using(crate::proofs::Lines::shown_numbers))]
 pub(crate) fn push_numbers(
     out: &mut Vec<u8>,
     digits: &mut Buffer,
