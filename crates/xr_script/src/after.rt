@@ -98,7 +98,10 @@ pub fn after(alloc: Global, seat: Seat, e: Expr, token: Terminal) -> Result<Next
         Seat::Alone => match token {
             Terminal::Dot => Ok(Next::Go(State::At(Place::Dotted(e), Seat::Alone))),
             Terminal::Left => Ok(Next::Go(State::At(Place::Indexed(e), Seat::Alone))),
-            _ => Err(Stop::Syntax),
+            _ => {
+                drop(e);
+                Err(Stop::Syntax)
+            }
         },
     }
 }
@@ -136,7 +139,11 @@ pub fn after_write(
             Ok(Next::Go(State::At(Place::Indexed(e), Seat::Alone)))
         }
         Terminal::End => Ok(Next::Done(Statement::Write(Box::into_inner(receiver), args))),
-        _ => Err(Stop::Syntax),
+        _ => {
+            drop(receiver);
+            drop(args);
+            Err(Stop::Syntax)
+        }
     }
 }
 
@@ -146,6 +153,10 @@ pub fn after_align(names: Items<Name>, args: Vec<Argument>, token: Terminal) -> 
 {
     match token {
         Terminal::End => Ok(Next::Done(Statement::Align(names, args))),
-        _ => Err(Stop::Syntax),
+        _ => {
+            drop(names);
+            drop(args);
+            Err(Stop::Syntax)
+        }
     }
 }

@@ -1,7 +1,7 @@
 //! Calls whose arguments have ended.
 ghost use Rattle.std.specs.Prelude.{◌≡◌, IfOk, codes};
 ghost use Rattle.xr_syntax.specs.Grammar.{called};
-ghost use Rattle.xr_syntax.specs.Syntax.{tree_of, all_arguments, Method as a_method};
+ghost use Rattle.xr_syntax.specs.Syntax.{tree_of, all_arguments, Call as a_call, Method as a_method};
 ghost use Rattle.xr_grammar.specs.Machine.{At, Have, go};
 ghost use Rattle.xr_script.specs.States.{head_of, pend_of, seat_around, pend_for, around_for, alone_pend, alone_around, Follows};
 
@@ -24,6 +24,14 @@ pub fn write_call(
     Ok(method(receiver, name, args))
 }
 
+/// The call of `align`.
+fn align_call(alloc: Global, args: Vec<Argument>) -> Result<Expr, AllocError>
+    ensures { IfOk result (λ e. tree_of e ≡ a_call (codes "align") (all_arguments args.items)) }
+{
+    let name = TextBytes::from_str(alloc, "align")?;
+    Ok(call(name, args))
+}
+
 /// The call of a head with its arguments.
 fn finish_call(alloc: Global, head: Head, args: Vec<Argument>) -> Result<Expr, AllocError>
     ensures { IfOk result (λ e. tree_of e ≡ called (head_of head) (all_arguments args.items)) }
@@ -32,7 +40,10 @@ fn finish_call(alloc: Global, head: Head, args: Vec<Argument>) -> Result<Expr, A
         Head::Func(name) => Ok(call(name, args)),
         Head::Of(a, name) => Ok(method(a, name, args)),
         Head::Write(a) => write_call(alloc, a, args),
-        Head::Align(_) => Ok(call(TextBytes::from_str(alloc, "align")?, args)),
+        Head::Align(names) => {
+            drop(names);
+            align_call(alloc, args)
+        }
     }
 }
 

@@ -42,7 +42,11 @@ fn close_item(items: Vec<Expr>, seat: Seat, e: Expr, token: Terminal) -> Result<
     match token {
         Terminal::Comma => item_more(items, seat, e),
         Terminal::Right => item_last(items, seat, e),
-        _ => refused(seat),
+        _ => {
+            drop(items);
+            drop(e);
+            refused(seat)
+        }
     }
 }
 
@@ -92,7 +96,11 @@ fn close_entry(
     match token {
         Terminal::Comma => entry_more(alloc, entries, key, seat, e),
         Terminal::RightBrace => entry_last(alloc, entries, key, seat, e),
-        _ => refused(seat),
+        _ => {
+            drop(entries);
+            drop(e);
+            refused(seat)
+        }
     }
 }
 
@@ -111,6 +119,7 @@ fn end_arg(
         Terminal::Close => end_call(alloc, head, args, seat),
         _ => {
             drop(head);
+            drop(args);
             refused(seat)
         }
     }
@@ -163,7 +172,10 @@ fn close_round(seat: Seat, e: Expr, token: Terminal) -> Result<Next, Stop>
 {
     match token {
         Terminal::Close => Ok(Next::Go(State::At(Place::Have(e), seat))),
-        _ => refused(seat),
+        _ => {
+            drop(e);
+            refused(seat)
+        }
     }
 }
 
@@ -192,7 +204,10 @@ fn close_assigned(name: Name, e: Expr, token: Terminal) -> Result<Next, Stop>
 {
     match token {
         Terminal::End => Ok(Next::Done(Statement::Assign(name, e))),
-        _ => Err(Stop::Syntax),
+        _ => {
+            drop(e);
+            Err(Stop::Syntax)
+        }
     }
 }
 
@@ -202,7 +217,10 @@ fn close_placed(name: Name, key: TextBytes, e: Expr, token: Terminal) -> Result<
 {
     match token {
         Terminal::End => Ok(Next::Done(Statement::Set(name, key, e))),
-        _ => Err(Stop::Syntax),
+        _ => {
+            drop(e);
+            Err(Stop::Syntax)
+        }
     }
 }
 
@@ -212,7 +230,10 @@ fn close_printed(e: Expr, token: Terminal) -> Result<Next, Stop>
 {
     match token {
         Terminal::Close => Ok(Next::Go(State::Closed(e))),
-        _ => Err(Stop::Syntax),
+        _ => {
+            drop(e);
+            Err(Stop::Syntax)
+        }
     }
 }
 

@@ -24,7 +24,10 @@ fn dotted(e: Expr, seat: Seat, token: Terminal) -> Result<Next, Stop>
 {
     match token {
         Terminal::Name(name) => Ok(Next::Go(State::At(Place::Asked(e, name), seat))),
-        _ => refused(seat),
+        _ => {
+            drop(e);
+            refused(seat)
+        }
     }
 }
 
@@ -62,7 +65,10 @@ fn asked(alloc: Global, e: Expr, name: Name, seat: Seat, token: Terminal) -> Res
             let e = boxed(alloc, e)?;
             Ok(asked_call(alloc, e, name, seat))
         }
-        _ => refused(seat),
+        _ => {
+            drop(e);
+            refused(seat)
+        }
     }
 }
 
@@ -71,7 +77,10 @@ fn indexed(e: Expr, seat: Seat, token: Terminal) -> Result<Next, Stop>
 {
     match token {
         Terminal::Text(text) => Ok(Next::Go(State::At(Place::Indexing(e, text), seat))),
-        _ => refused(seat),
+        _ => {
+            drop(e);
+            refused(seat)
+        }
     }
 }
 
@@ -90,7 +99,10 @@ fn indexing(
             Ok(e) => Ok(Next::Go(State::At(Place::Have(e), seat))),
             Err(_) => no_room(seat),
         },
-        _ => refused(seat),
+        _ => {
+            drop(e);
+            refused(seat)
+        }
     }
 }
 
@@ -108,6 +120,7 @@ fn entry_key(entries: TableEntries, key: TextBytes, seat: Seat) -> Result<Next, 
     ensures { Follows result (step_at_of (AtEntry (all_entries entries.list.items)) (pend_of seat) (seat_around seat) (a_text key)) }
 {
     if entries.has_key(&key) {
+        drop(entries);
         refused(seat)
     } else {
         Ok(Next::Go(State::At(Place::AtKey(entries, key), seat)))
@@ -123,7 +136,10 @@ fn at_entry(entries: TableEntries, seat: Seat, token: Terminal) -> Result<Next, 
             seat,
         ))),
         Terminal::Text(key) => entry_key(entries, key, seat),
-        _ => refused(seat),
+        _ => {
+            drop(entries);
+            refused(seat)
+        }
     }
 }
 
@@ -141,7 +157,10 @@ fn at_key(
             let around = enter(alloc, seat, Bracket::Entry(entries, key))?;
             Ok(Next::Go(State::Need(nothing(), around)))
         }
-        _ => refused(seat),
+        _ => {
+            drop(entries);
+            refused(seat)
+        }
     }
 }
 
@@ -153,6 +172,7 @@ fn arg_name(head: Head, args: Arguments, name: Name, seat: Seat) -> Result<Next,
         Ok(Next::Go(State::At(Place::AtName(head, args, name), seat)))
     } else {
         drop(head);
+        drop(args);
         refused(seat)
     }
 }
@@ -171,6 +191,7 @@ fn arg_operand(
         operand_inside(alloc, seat, Bracket::Plain(head, args), token)
     } else {
         drop(head);
+        drop(args);
         refused(seat)
     }
 }
@@ -203,6 +224,7 @@ fn name_value(
 {
     if args.has_name(&name) {
         drop(head);
+        drop(args);
         refused(seat)
     } else {
         let around = enter(alloc, seat, Bracket::Named(head, args, name))?;
@@ -226,6 +248,7 @@ fn name_call(
         Ok(Next::Go(State::At(call, Seat::In(nothing(), around))))
     } else {
         drop(head);
+        drop(args);
         refused(seat)
     }
 }
@@ -245,6 +268,7 @@ fn name_operand(
         after_name_inside(alloc, seat, Bracket::Plain(head, args), name, token)
     } else {
         drop(head);
+        drop(args);
         refused(seat)
     }
 }

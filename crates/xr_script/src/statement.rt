@@ -160,7 +160,10 @@ pub fn closed(e: Expr, token: Terminal) -> Result<Next, Stop>
 {
     match token {
         Terminal::End => Ok(Next::Done(Statement::Print(e))),
-        _ => Err(Stop::Syntax),
+        _ => {
+            drop(e);
+            Err(Stop::Syntax)
+        }
     }
 }
 

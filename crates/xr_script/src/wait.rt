@@ -332,7 +332,12 @@ pub fn compare(alloc: Global, wait: Wait, e: Expr, op: OpKind) -> Result<Wait, S
         signs,
     } = opened(alloc, wait);
     match compare {
-        Some(_) => Err(Stop::Syntax),
+        Some(waiting) => {
+            drop(waiting);
+            drop(levels);
+            drop(e);
+            Err(Stop::Syntax)
+        }
         None => {
             let e = with_signs_and_levels(alloc, signs, levels, e)?;
             Ok(comparing(alloc, e, op)?)
