@@ -3,7 +3,8 @@ use Rattle.std.proofs.Common.{◌≡◌, ◌<◌, ◌≤◌, ◌+◌, ℕ, Bool,
 use Rattle.std.specs.Prelude.{nat_le}
 use Rattle.std.specs.Str.{bytes_eq}
 use Rattle.std.specs.List.{AllByRecursion, list_all, list_any}
-use Rattle.std.proofs.lemmas.Bool.{and_from, le-leb, leb-false, leb-true, lt-leb, or_parts}
+use Rattle.std.proofs.lemmas.Bool.{and_from, le-leb, leb-false, leb-true, lt-leb, or_left, or_parts, or_right}
+use Rattle.std.proofs.lemmas.Slice.Eq.{bytes_eq-Decides}
 use Rattle.std.proofs.lemmas.List.Elements.{All-nil, All-cons}
 use Rattle.xr_types.specs.declared.axis.Axis.{Axis}
 use Rattle.xr_types.specs.declared.fault.Fault.{Fault}
@@ -15,7 +16,8 @@ use Rattle.xr_defs.specs.declared.value.Coord.{Coord}
 use Rattle.xr_types.specs.Names.{among}
 use Rattle.xr_files.specs.Classic.{is_name}
 use Rattle.xr_types.specs.Names.{are_distinct}
-use Rattle.xr_defs.specs.Limits.{most_cells, most_variables}
+use Rattle.xr_defs.specs.Decoding.{is_kept}
+use Rattle.xr_defs.specs.Limits.{most_cells, most_dimensions, most_variables}
 use Rattle.xr_types.specs.Points.{size}
 use Rattle.xr_types.specs.Results.{◌>>=◌, unless}
 use Rattle.xr_defs.specs.Values as of
@@ -26,7 +28,7 @@ use Rattle.xr_values.specs.declared.data_array.DataArray.{DataArray}
 use Rattle.xr_values.specs.declared.variable.Variable.{Variable}
 use Rattle.xr_values.specs.declared.dataset.Dataset.{Dataset}
 use Rattle.xr_defs.specs.WellFormed.{AreCells, IsContent, IsCoordinate, IsDataArray, IsDimension, labelled, names_of}
-use Rattle.xr_values.specs.Stands.{array_in, dataset_in, IsArrayIn, IsDatasetIn, IsNodeOf, shape_named}
+use Rattle.xr_values.specs.Stands.{array_in, dataset_in, IsArrayIn, IsDatasetIn, IsNodeOf, shape_named, variable_in}
 use Rattle.xr_values.proofs.Named.{bytes_eq_swap}
 use Rattle.xr_parts.specs.Frames.{IsThere}
 use Rattle.xr_parts.specs.Single.{set_of, variable_of}
@@ -57,13 +59,20 @@ content_few shape (contents.Cells a masked) is = is.1.few
 content_few shape (contents.Text text) is = one_cell shape is
 content_few shape (contents.Time coding t) is = one_cell shape is.0
 
-shape_within : (shape : List ℕ) → list_all (λ n. nat_le n most_cells) shape ≡ true → size shape ≤ most_cells → is_within shape ≡ true
-shape_within shape short few = and_from (list_all (λ n. nat_le n most_cells) shape) (nat_le (size shape) most_cells) short (within_cell (size shape) few)
+content_low : (shape : List ℕ) (content : Content) → IsContent shape content → length shape ≤ most_dimensions
+content_low shape (contents.Cells a masked) is = is.1.low_rank
+content_low shape (contents.Text text) is = subst (λ s. length s ≤ most_dimensions) (sym is) (omega arith)
+content_low shape (contents.Time coding t) is = subst (λ s. length s ≤ most_dimensions) (sym is.0) (omega arith)
+
+shape_within : (shape : List ℕ) → length shape ≤ most_dimensions → list_all (λ n. nat_le n most_cells) shape ≡ true → size shape ≤ most_cells → is_within shape ≡ true
+shape_within shape low short few =
+    and_from (nat_le (length shape) most_dimensions) (list_all (λ n. nat_le n most_cells) shape && nat_le (size shape) most_cells) (le-leb (length shape) most_dimensions low)
+    (and_from (list_all (λ n. nat_le n most_cells) shape) (nat_le (size shape) most_cells) short (within_cell (size shape) few))
 
 coords_small : (axes : List Axis) (coords : List Coord) → AllByRecursion IsDimension axes → AllByRecursion (IsCoordinate axes) coords → are_within coords ≡ true
 coords_small axes [] each all = refl
 coords_small axes (c ∷ cs) each all =
-    and_from (is_within (shape_over c.axes)) (are_within cs) (shape_within (shape_over c.axes) (sizes_short axes c.axes each all.0.over) (content_few (shape_over c.axes) c.content all.0.content)) (coords_small axes cs each all.1)
+    and_from (is_within (shape_over c.axes)) (are_within cs) (shape_within (shape_over c.axes) (content_low (shape_over c.axes) c.content all.0.content) (sizes_short axes c.axes each all.0.over) (content_few (shape_over c.axes) c.content all.0.content)) (coords_small axes cs each all.1)
 
 -- ---- the one variable
 
@@ -88,7 +97,7 @@ checked name a is =
     let short = axes_short a.axes is.axes.each in
     let small = coords_small a.axes a.coords is.axes.each is.coords in
     let own = own_sizes a.axes is.axes.distinct in
-    let whole : is_within (shape_over a.axes) ≡ true = shape_within (shape_over a.axes) (sizes_short a.axes a.axes is.axes.each (own_axes a.axes is.axes.distinct)) is.cells.few in
+    let whole : is_within (shape_over a.axes) ≡ true = shape_within (shape_over a.axes) is.cells.low_rank (sizes_short a.axes a.axes is.axes.each (own_axes a.axes is.axes.distinct)) is.cells.few in
     let there : is_within (map (λ d. (axis_called a.axes d).size) (axis_names a.axes)) ≡ true = ap is_within own ∙ whole in
     ap (λ t. unless t TooLarge) (all_three _ _ _ b short small there)
   where
@@ -127,6 +136,15 @@ names_apart axes coords name distinct no_axis no_coord =
           (left name no_axis, tt);
     })
 
+-- a variable has each of these axes
+all_busy : (coords : List Coord) (v : of.Variable) (xs : List Axis) → ((n : List ℕ) → among (axis_names xs) n ≡ true → among v.dims n ≡ true) → list_all (is_kept coords (v ∷ [])) xs ≡ true
+all_busy coords v [] has = refl
+all_busy coords v (x ∷ xs) has =
+    let one = has x.name (or_left (bytes_eq x.name x.name) (among (axis_names xs) x.name) ((bytes_eq-Decides x.name x.name).1 refl)) in
+    and_from (is_kept coords (v ∷ []) x) (list_all (is_kept coords (v ∷ [])) xs)
+    (or_right (is_some x.labels || list_any (λ (c : Coord). among (axis_names c.axes) x.name) coords) (among v.dims x.name || false) (or_left (among v.dims x.name) false one))
+    (all_busy coords v xs (λ n e. has n (or_right (bytes_eq n x.name) (among (axis_names xs) n) e)))
+
 module _ (nodes : List Node) (a : DataArray) (name : List ℕ) (is : IsArrayIn nodes a) (named : is_name name ≡ true) (open_name : (among (axis_names a.axes) name || list_any (λ (c : Coord). bytes_eq c.name name) a.coords) ≡ false) where
   parts : (among (axis_names a.axes) name ≡ false) × (list_any (λ (c : Coord). bytes_eq c.name name) a.coords ≡ false)
   parts = or_parts (among (axis_names a.axes) name) (list_any (λ (c : Coord). bytes_eq c.name name) a.coords) open_name
@@ -153,6 +171,7 @@ module _ (nodes : List Node) (a : DataArray) (name : List ℕ) (is : IsArrayIn n
           );
           coords_distinct = f.distinct;
           vars_distinct = names_apart a.axes a.coords name f.distinct parts.0 (sym (among_coords a.coords name) ∙ parts.1);
+          busy = all_busy a.coords (variable_in nodes (variable_of name a)) a.axes (λ n e. e);
           attrs = record { each = tt; distinct = refl };
           few = omega arith;
         };

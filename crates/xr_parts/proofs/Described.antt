@@ -96,6 +96,9 @@ attr_formed name (of.Table es) a e named = absurd cc
 attr_formed name (of.Slice s t k) a e named = absurd cc
 attr_formed name (of.Array b) a e named = absurd cc
 attr_formed name (of.Set s) a e named = absurd cc
+attr_formed name (of.Times coding ts) a e named = absurd cc
+attr_formed name (of.GroupedArray b g) a e named = absurd cc
+attr_formed name (of.GroupedSet s g) a e named = absurd cc
 
 pub answer_formed : (name : List ℕ) (v : of.Value) (r : Result Attr CallFault) → Answers (λ a. a) r (attr_given (name, v)) → is_name name ≡ true → IfOk r IsAttribute
 answer_formed name v (Ok a) e named = attr_formed name v a e named
@@ -146,7 +149,7 @@ set_described nodes s t attrs is are e =
     subst (IsDatasetIn nodes) (sym e)
     (record {
       nodes_of = is.nodes_of;
-      formed = record { axes = f.axes; coords = f.coords; vars = f.vars; coords_distinct = f.coords_distinct; vars_distinct = f.vars_distinct; attrs = are; few = f.few };
+      formed = record { axes = f.axes; coords = f.coords; vars = f.vars; coords_distinct = f.coords_distinct; vars_distinct = f.vars_distinct; busy = f.busy; attrs = are; few = f.few };
     })
 
 -- ---- one argument after the other

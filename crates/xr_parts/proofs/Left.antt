@@ -1,8 +1,8 @@
 -- A dataset without some labels, coordinates and variables is well formed without the bare axes that nothing has.
 use Rattle.std.proofs.Common.{◌≡◌, ◌≤◌, ℕ, suc, Bool, true, false, not, ◌||◌, cond, List, [], ◌∷◌, ◌++◌, length, map, filter, None, is_some, Ok, Err, All, refl, sym, ap, subst, ◌∙◌, arith, inl, inr}
 use Rattle.std.specs.Str.{bytes_eq}
-use Rattle.std.specs.List.{AllByRecursion, list_any}
-use Rattle.std.proofs.lemmas.Bool.{cases_Bool, cond-true, or_parts}
+use Rattle.std.specs.List.{AllByRecursion, list_all, list_any}
+use Rattle.std.proofs.lemmas.Bool.{and_from, cases_Bool, cond-true, or_parts}
 use Rattle.std.proofs.lemmas.List.{length-map}
 use Rattle.std.proofs.lemmas.List.Elements.{All-nil, All-cons, All-head, All-tail}
 use Rattle.xr_types.specs.declared.axis.Axis.{Axis}
@@ -35,6 +35,15 @@ use Rattle.xr_parts.proofs.Dropped.{called_unlabelled, frame_left, name_stays, n
 or-yes : (b : Bool) → (b || true) ≡ true
 or-yes true = refl
 or-yes false = refl
+
+-- what a filter leaves passes its test
+all_left : {X : Type 0} (p : X → Bool) (xs : List X) → list_all p (filter p xs) ≡ true
+all_left p [] = refl
+all_left p (x ∷ xs) = by (p x) refl (all_left p xs)
+  where
+    by : (b : Bool) → p x ≡ b → list_all p (filter p xs) ≡ true → list_all p (cond b (x ∷ filter p xs) (filter p xs)) ≡ true
+    by true e rest = and_from (p x) (list_all p (filter p xs)) e rest
+    by false e rest = rest
 
 module _ (p : Axis → Bool) where
   pub kept_called : (axes : List Axis) (name : List ℕ) → among (axis_names axes) name ≡ true → p (axis_called axes name) ≡ true
@@ -283,6 +292,7 @@ module _ (d : of.Dataset) (names : List (List ℕ)) (is : IsDataset d) where
           apart = each_weaker (λ n. among (axis_names bare_axes) n ≡ false) (λ n. among (axis_names new_axes) n ≡ false) (names_of new_coords) (λ n lacks. absent_left (λ (x : Axis). x.name) (is_kept new_coords new_vars) bare_axes n lacks) both.apart;
         });
     vars_distinct = join (axis_names (labelled new_axes)) (names_of new_coords ++ variable_names new_vars) apart_vars;
+    busy = all_left (is_kept new_coords new_vars) bare_axes;
     attrs = is.attrs;
     few = let a = same_length names d.axes d.coords in let b = short passes d.vars in let most = is.few in omega (arith, a, b, most);
   }

@@ -1,3 +1,4 @@
+pub mod Rooms
 pub mod Naming
 pub mod Words
 pub mod Axes
@@ -12,3 +13,4 @@ pub mod Rest
 pub mod Permuted
 pub mod Turned
 pub mod Backward
+pub mod Narrowed

@@ -113,9 +113,9 @@ module _ (old new : List Node) (v : Array) (place : ℕ) (pushes : Pushes old ne
   pub sourced : (a : DataArray) → a.node ≡ place → v.shape ≡ shape_over a.axes → v.kind ≡ a.kind → IsDataArray (with_cells a v.cells) → (array_in new a ≡ with_cells a v.cells) × IsArrayIn new a
   sourced a at shape kind formed = (pushed_cells old new (Source v) place v source_value pushes a at, pushed_array old new (Source v) place v source_value pushes a at shape kind formed)
 
-pub source_fits : (done : List Array) (v : Array) → IsArray v → size v.shape ≤ 33554432 → IsNode done (Source v)
+pub source_fits : (done : List Array) (v : Array) → IsArray v → size v.shape ≤ 33554432 → length v.shape ≤ 16 → IsNode done (Source v)
 unfolding node_value
-source_fits done v is few = record { fits = is; small = omega arith }
+source_fits done v is few low = record { fits = is; small = omega arith; low_rank = low }
 
 from_cells : (shape : List ℕ) (kind : DType) (masked : Bool) (cells : List (Option ℤ)) → AreCells shape kind masked cells → IsArray (record { kind = kind; shape = shape; cells = cells })
 from_cells shape kind masked cells are = record { whole = are.whole; range = are.range }
@@ -175,7 +175,8 @@ cells_fit done axes c a v masked is e same =
     let content = content_shape axes c a masked is e in
     let few = content.1.few in
     subst (λ w. IsNode done (Source w)) (sym same)
-    (source_fits done a (subst (λ s. IsArray (record { kind = a.kind; shape = s; cells = a.cells })) (sym content.0) (from_cells (shape_over c.axes) a.kind masked a.cells content.1)) (subst (λ s. size s ≤ 33554432) (sym content.0) few))
+    (source_fits done a (subst (λ s. IsArray (record { kind = a.kind; shape = s; cells = a.cells })) (sym content.0) (from_cells (shape_over c.axes) a.kind masked a.cells content.1)) (subst (λ s. size s ≤ 33554432) (sym content.0) few)
+    (subst (λ s. length s ≤ 16) (sym content.0) content.1.low_rank))
 
 pub cells_made : (old new : List Node) (axes : List Axis) (coords : List Coord) (c : Coord) (a v : Array) (masked : Bool) (place : ℕ) (name : List ℕ) (xs own : List Axis) (kind : DType) (attrs : List Attr) (cs : List Coord)
     → IsFrame axes coords → IsCoordinate axes c → c.content ≡ Cells a masked → v ≡ a → Pushes old new (Source v) place → name ≡ c.name → xs ≡ c.axes → kind ≡ a.kind → attrs ≡ c.attrs → own ≡ c.axes → cs ≡ coords_over (axis_names own) coords
@@ -194,7 +195,7 @@ labels_fit done x kind ns v is long range same =
     let few = is.few in
     let count : length (map Some ns) ≡ length ns = length-map ns Some in
     subst (λ w. IsNode done (Source w)) (sym same)
-    (source_fits done (record { kind = kind; shape = length ns ∷ []; cells = map Some ns }) (record { whole = omega (arith, count); range = some_cells kind ns range }) (omega (arith, few, long)))
+    (source_fits done (record { kind = kind; shape = length ns ∷ []; cells = map Some ns }) (record { whole = omega (arith, count); range = some_cells kind ns range }) (omega (arith, few, long)) (omega arith))
 
 pub labels_made : (old new : List Node) (axes : List Axis) (coords : List Coord) (x : Axis) (kind : DType) (ns : List ℤ) (v : Array) (place : ℕ) (name : List ℕ) (xs own : List Axis) (attrs given : List Attr) (cs : List Coord)
     → IsFrame axes coords → IsThere axes x → IsDimension x → length ns ≡ x.size → All (InRange kind) ns → AreAttributes given → v ≡ record { kind = kind; shape = length ns ∷ []; cells = map Some ns } → Pushes old new (Source v) place

@@ -119,6 +119,8 @@ module _ (old : List Node) (a : DataArray) (order : List ℕ) (is : IsArrayIn ol
   turned_fits = record {
     fits = (node_valued old a.node (shape_over a.axes) a.kind is.node, subst (λ s. IsOrder (length s) order) (sym is.node.has_shape) (ordered (array_in old a) order is.formed fits));
     small = subst (λ (v : Array). size v.shape ≤ 2 ^ 50) (sym turned_value) (let few = is.formed.cells.few in let same = moved_size (array_in old a) order is.formed fits in omega (arith, few, same));
+    low_rank = subst (λ (v : Array). length v.shape ≤ 16) (sym turned_value)
+        (let long = length-map order (λ k. get_or (shape_over a.axes) k 0) in let each = (ordered (array_in old a) order is.formed fits).0 in let low = is.formed.cells.low_rank in omega (arith, long, each, low));
   }
 
   -- and an array over it is the one in that order

@@ -3,7 +3,6 @@ ghost use Rattle.std.specs.Prelude.{◌≡◌, ◌<◌, List, length, map, IfOk,
 ghost use Rattle.xr_arrays.specs.declared.node.Node.{Node};
 ghost use Rattle.xr_types.specs.Results.{Answers, all_of};
 ghost use Rattle.xr_defs.specs.Parts as of;
-ghost use Rattle.xr_defs.specs.Parts as calls;
 ghost use Rattle.xr_values.specs.Answers.{AnswersArray, AnswersSet};
 ghost use Rattle.xr_values.specs.Meaning.{given, meaning, with_key};
 ghost use Rattle.xr_values.specs.Stands.{array_in, dataset_in, IsArrayIn, IsDatasetIn};
@@ -146,7 +145,7 @@ fn attrs_assigned(alloc: Global, attrs: &Items<Attr>, args: &Args) -> Result<Ite
 /// for a number that isn't one of 32 bits.
 #[tactic(auto, using(crate::proofs::Described::array_described), unfolding(xr_defs::specs::Parts::array_with_attrs))]
 pub fn array_with_attrs(alloc: Global, on: &DataArray, args: &Args) -> Result<DataArray, CallFault>
-    ensures { (nodes : List Node) → IsArrayIn nodes on.now → AnswersArray nodes result (calls.array_with_attrs (given nodes args.now) (array_in nodes on.now)) }
+    ensures { (nodes : List Node) → IsArrayIn nodes on.now → AnswersArray nodes result (of.array_with_attrs (given nodes args.now) (array_in nodes on.now)) }
 {
     let attrs = attrs_assigned(alloc, &on.attrs, args)?;
     let mut array = on.deep_copy(alloc)?;
@@ -160,7 +159,7 @@ pub fn array_with_attrs(alloc: Global, on: &DataArray, args: &Args) -> Result<Da
 /// As of `array_with_attrs`.
 #[tactic(auto, using(crate::proofs::Described::set_described), unfolding(xr_defs::specs::Parts::set_with_attrs))]
 pub fn set_with_attrs(alloc: Global, on: &Dataset, args: &Args) -> Result<Dataset, CallFault>
-    ensures { (nodes : List Node) → IsDatasetIn nodes on.now → AnswersSet nodes result (calls.set_with_attrs (given nodes args.now) (dataset_in nodes on.now)) }
+    ensures { (nodes : List Node) → IsDatasetIn nodes on.now → AnswersSet nodes result (of.set_with_attrs (given nodes args.now) (dataset_in nodes on.now)) }
 {
     let attrs = attrs_assigned(alloc, &on.attrs, args)?;
     let mut set = on.deep_copy(alloc)?;

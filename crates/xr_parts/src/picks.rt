@@ -5,11 +5,10 @@ ghost use Rattle.std.specs.List.{All, AllByRecursion};
 ghost use Rattle.xr_types.specs.Kinds.{InRange};
 ghost use Rattle.xr_types.specs.declared.axis.Axis.{Axis as Dimension};
 ghost use Rattle.xr_types.specs.declared.fault.Fault.TheVariants.{NoVariable, NotLoaded};
-ghost use Rattle.xr_types.specs.declared.kind.DType.TheVariants.{Int8, Int16, Int32};
 ghost use Rattle.xr_types.specs.declared.axis.LabelList.TheVariants.{Numbers};
 ghost use Rattle.xr_defs.specs.declared.value.Content.TheVariants as contents;
 ghost use Rattle.xr_defs.specs.declared.value.Coord.{Coord as Other};
-ghost use Rattle.xr_arrays.specs.Arrays.{Array};
+ghost use Rattle.xr_arrays.specs.Arrays.{kind_of, wide, Array, InKind};
 ghost use Rattle.xr_defs.specs.Building.{is_integer_kind};
 ghost use Rattle.xr_types.specs.Names.{among};
 ghost use Rattle.xr_defs.specs.Encoding.{all_among, coords_over};
@@ -33,8 +32,8 @@ use std::alloc::{AllocError, Global};
 use xr_arrays::{ArrayValue, Cells, Node};
 use xr_defs::{Content, Coord};
 use xr_types::{
-    Attr, Axis, CallFault, DType, DeepCopy, Fault, Items, LabelList, Labels, Name, NoMemory,
-    TextBytes,
+    Attr, Axis, CallFault, DType, DeepCopy, Elem, Fault, Integers, Items, LabelList, Labels, Name,
+    NoMemory, TextBytes,
 };
 use xr_values::{DataArray, Dataset, Variable, copy_coord};
 
@@ -114,53 +113,46 @@ fn variable_as_array(
     })
 }
 
-fn int8_cells(alloc: Global, numbers: &[i64]) -> Result<Items<i8>, AllocError>
-    requires { All (InRange Int8) numbers.now }
-    ensures { IfOk result (λ cells. cells ≡ numbers.now) }
+// Numbers of a kind at the width of its cells.
+#[tactic(auto, using(crate::proofs::Narrowed::kept_number))]
+fn cells_of<T: Elem + Drop>(alloc: Global, numbers: &Integers) -> Result<Items<T>, AllocError>
+    requires { All (InRange T.kind) numbers.now }
+    ensures { IfOk result (λ cells. map T.number cells ≡ numbers.now) }
 {
     let mut out = Items::new(alloc);
-    for n in numbers {
-        out.push(*n as i8)?;
+    for at in 0..numbers.len() {
+        out.push(T::wrap_from(numbers.get(at)))?;
     }
     Ok(out)
 }
 
-fn int16_cells(alloc: Global, numbers: &[i64]) -> Result<Items<i16>, AllocError>
-    requires { All (InRange Int16) numbers.now }
-    ensures { IfOk result (λ cells. cells ≡ numbers.now) }
+fn typed_cells(alloc: Global, kind: DType, numbers: &Integers) -> Result<Cells, AllocError>
+    requires integer { is_integer_kind kind ≡ true }
+    requires range { All (InRange kind) numbers.now }
+    ensures numbers { IfOk result (λ cells. wide cells ≡ numbers.now) }
+    ensures kind { IfOk result (λ cells. kind_of cells ≡ kind) }
+    ensures range { IfOk result InKind }
 {
-    let mut out = Items::new(alloc);
-    for n in numbers {
-        out.push(*n as i16)?;
+    match kind {
+        DType::Int8 => Ok(Cells::Int8(cells_of(alloc, numbers)?)),
+        DType::Int16 => Ok(Cells::Int16(cells_of(alloc, numbers)?)),
+        DType::Int32 => Ok(Cells::Int32(cells_of(alloc, numbers)?)),
+        DType::Int64 => Ok(Cells::Int64(cells_of(alloc, numbers)?)),
+        DType::UInt8 => Ok(Cells::UInt8(cells_of(alloc, numbers)?)),
+        DType::UInt16 => Ok(Cells::UInt16(cells_of(alloc, numbers)?)),
+        DType::UInt32 => Ok(Cells::UInt32(cells_of(alloc, numbers)?)),
+        DType::UInt64 => Ok(Cells::UInt64(cells_of(alloc, numbers)?)),
+        DType::Bool | DType::Char => unreachable!(),
     }
-    Ok(out)
-}
-
-fn int32_cells(alloc: Global, numbers: &[i64]) -> Result<Items<i32>, AllocError>
-    requires { All (InRange Int32) numbers.now }
-    ensures { IfOk result (λ cells. cells ≡ numbers.now) }
-{
-    let mut out = Items::new(alloc);
-    for n in numbers {
-        out.push(*n as i32)?;
-    }
-    Ok(out)
 }
 
 // Numbers of a kind along one dimension.
-fn numbers_array(alloc: Global, kind: DType, numbers: &Items<i64>) -> Result<ArrayValue, AllocError>
+fn numbers_array(alloc: Global, kind: DType, numbers: &Integers) -> Result<ArrayValue, AllocError>
     requires integer { is_integer_kind kind ≡ true }
     requires range { All (InRange kind) numbers.now }
     ensures { IfOk result (λ a. a ≡ record { kind = kind; shape = length numbers.now ∷ []; cells = map Some numbers.now }) }
 {
-    let numbers = numbers.as_slice();
-    let cells = match kind {
-        DType::Int8 => Cells::Int8(int8_cells(alloc, numbers)?),
-        DType::Int16 => Cells::Int16(int16_cells(alloc, numbers)?),
-        DType::Int32 => Cells::Int32(int32_cells(alloc, numbers)?),
-        DType::Int64 => Cells::Int64(Items::from_slice(alloc, numbers)?),
-        DType::Bool | DType::Char => unreachable!(),
-    };
+    let cells = typed_cells(alloc, kind, numbers)?;
     let shape = Items::of(vec![in alloc; numbers.len() as u64]?);
     Ok(ArrayValue::of(shape, cells, None))
 }
@@ -235,7 +227,7 @@ fn numbers_as_array(
     axis: &Axis,
     attrs: &Items<Attr>,
     kind: DType,
-    numbers: &Items<i64>,
+    numbers: &Integers,
 ) -> Result<DataArray, NoMemory>
     requires frame { IsFrame frame.now.axes.now frame.now.coords.now }
     requires there { IsThere frame.now.axes.now axis.now }

@@ -1,6 +1,8 @@
 //! `sum()`: the sum of all cells.
 ghost use Rattle.std.specs.Prelude.{◌≡◌, List, [], ◌∷◌, filter, length, replicate, IfOk};
 ghost use Rattle.xr_arrays.specs.declared.node.Node.{Node};
+ghost use Rattle.xr_types.specs.declared.operation.FoldKind.TheVariants.{Sum};
+ghost use Rattle.xr_arrays.specs.Folds.{folded_kind};
 ghost use Rattle.xr_arrays.specs.declared.node.Feed.TheVariants as feed;
 ghost use Rattle.xr_defs.specs.Values.{is_scalar};
 ghost use Rattle.xr_defs.specs.Building as build;
@@ -15,18 +17,29 @@ ghost use Rattle.xr_parts.specs.Totals.{AnswersAsValue, IsTotal};
 use plan_core::Plan;
 use std::alloc::{AllocError, Global};
 use xr_arguments::nothing_given;
-use xr_types::FoldKind;
 use xr_arrays::{Feed, Node};
 use xr_defs::Coord;
-use xr_types::{CallFault, DType, DeepCopy, Fault, Items, NoMemory};
-use xr_values::{Args, DataArray, copy_coord};
+use xr_types::{CallFault, DType, DeepCopy, Fault, FoldKind, Items, NoMemory, is_unsigned};
+use xr_values::{Args, DataArray, copy_coord, without_fills};
 
 fn is_chars(kind: DType) -> bool
     ensures { result ≡ build.is_chars kind }
 {
     match kind {
         DType::Char => true,
-        _ => false,
+        DType::Bool => false,
+        DType::Int8 | DType::Int16 | DType::Int32 | DType::Int64 => false,
+        DType::UInt8 | DType::UInt16 | DType::UInt32 | DType::UInt64 => false,
+    }
+}
+
+fn sum_kind(kind: DType) -> DType
+    ensures { result ≡ folded_kind Sum kind }
+{
+    if is_unsigned(kind) {
+        DType::UInt64
+    } else {
+        DType::Int64
     }
 }
 
@@ -44,11 +57,15 @@ fn scalars(alloc: Global, on: &DataArray) -> Result<Items<Coord>, AllocError>
 }
 
 // Every axis is folded.
+#[tactic(auto, using(crate::proofs::Summed::all_more))]
 fn all_feeds(alloc: Global, on: &DataArray) -> Result<Items<Feed>, AllocError>
     ensures { IfOk result (λ feeds. feeds ≡ replicate (length on.now.axes) feed.All) }
 {
-    let feeds = Vec::from_elem(alloc, Feed::All, on.axes.as_slice().len())?;
-    Ok(Items::of(feeds))
+    let mut feeds = Items::new(alloc);
+    for _ in 0..on.axes.as_slice().len() {
+        feeds.push(Feed::All)?;
+    }
+    Ok(feeds)
 }
 
 // The array of one cell, which is that of a node that is added to the plan.
@@ -61,7 +78,7 @@ fn total(alloc: Global, plan: &mut Plan, on: &DataArray) -> Result<DataArray, No
     let name = on.name.deep_copy(alloc)?;
     let coords = scalars(alloc, on)?;
     let axes = Items::new(alloc);
-    let attrs = Items::new(alloc);
+    let attrs = without_fills(alloc, on.attrs.as_slice())?;
     let feeds = all_feeds(alloc, on)?;
     let node = plan.push(Node::Fold {
         fold: FoldKind::Sum,
@@ -71,7 +88,7 @@ fn total(alloc: Global, plan: &mut Plan, on: &DataArray) -> Result<DataArray, No
     Ok(DataArray {
         name,
         axes,
-        kind: DType::Int64,
+        kind: sum_kind(on.kind),
         masked: false,
         attrs,
         coords,
@@ -79,7 +96,8 @@ fn total(alloc: Global, plan: &mut Plan, on: &DataArray) -> Result<DataArray, No
     })
 }
 
-/// The sum of all cells of an array that aren't missing, in 64 bits, with its name and its coordinates without dimensions.
+/// The sum of all cells of an array that aren't missing, in 64 bits, with its name, its attributes but for those that name fill
+/// numbers, and its coordinates without dimensions.
 ///
 /// # Errors
 /// `WrongKind` for an array of chars; then `BadArgument` for any argument.

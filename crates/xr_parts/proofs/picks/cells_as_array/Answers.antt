@@ -1,6 +1,6 @@
 use Rattle.xr_parts.proofs.Picked.{cells_fit, cells_made}
 use Rattle.xr_arrays.specs.declared.node.Node.TheVariants.{Source}
-use Rattle.xr_values.proofs.Rooms.{node_added}
+use Rattle.xr_parts.proofs.Rooms.{node_added}
 use Rattle.xr_parts.proofs.picks.cells_as_array.Goals as goal
 
 pub push-requires : goal.push-requires

@@ -1,7 +1,7 @@
 use Rattle.std.proofs.Common.{◌∙◌}
 use Rattle.xr_parts.proofs.Picked.{labels_fit, labels_made}
 use Rattle.xr_arrays.specs.declared.node.Node.TheVariants.{Source}
-use Rattle.xr_values.proofs.Rooms.{node_added}
+use Rattle.xr_parts.proofs.Rooms.{node_added}
 use Rattle.xr_parts.proofs.picks.numbers_as_array.Goals as goal
 
 pub push-requires : goal.push-requires
