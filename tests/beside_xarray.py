@@ -229,7 +229,7 @@ def round_of(seed, program, folder):
     write_by_xarray(x, peer)
     wrong = [f"w = v{r.wrong(x)}"] if r.r.random() < 1 / 6 else []
     is_refused = not os.path.exists(peer) or is_refused_by_xarray(lines + wrong, folder)
-    text = "\n".join([*lines, 'v.to_netcdf("own.nc")', *wrong])
+    text = "\n".join([*lines, 'v.to_netcdf("own.nc", format="NETCDF3_CLASSIC")', *wrong])
     with open(os.path.join(folder, "s.xrs"), "w") as f:
         f.write(text + "\n")
     ran = subprocess.run([program, "s.xrs"], cwd=folder, capture_output=True, text=True, timeout=60)

@@ -1,4 +1,4 @@
-"""Reads classic netCDF files, versions 1 and 2, by the letter of the format's text: the plain reader with which the
+"""Reads classic netCDF files, versions 1, 2 and 5, by the letter of the format's text: the plain reader with which the
 tests compare the program. It takes nothing from the program; it is slow, and takes memory as it pleases.
 
 Source: Unidata, "The NetCDF Classic Format Specification". The walk is from the front, and the first fault ends it.
@@ -7,9 +7,11 @@ Its offset is that of the first byte of the field that is wrong, and of a file t
 from dataclasses import dataclass, field
 
 MOST_BYTES = 268_435_456
-STREAMED = 0xFFFFFFFF
-WIDTHS = {1: 1, 2: 1, 3: 2, 4: 4, 5: 4, 6: 8}
-TYPE_NAMES = {1: "byte", 2: "char", 3: "short", 4: "int", 5: "float", 6: "double"}
+OLD_TYPES = range(1, 7)
+WIDTHS = {1: 1, 2: 1, 3: 2, 4: 4, 5: 4, 6: 8, 7: 1, 8: 2, 9: 4, 10: 8, 11: 8}
+TYPE_NAMES = {1: "byte", 2: "char", 3: "short", 4: "int", 5: "float", 6: "double",
+              7: "ubyte", 8: "ushort", 9: "uint", 10: "int64", 11: "uint64"}
+UNSIGNED = (2, 7, 8, 9, 11)
 WHOLE_BYTE, SHORT, INT = 1, 3, 4
 
 
@@ -52,7 +54,8 @@ class File:
     def values(self, var):
         """The whole numbers of a variable in row order."""
         width = WIDTHS[var.type]
-        return [int.from_bytes(var.raw[i:i + width], "big", signed=True) for i in range(0, len(var.raw), width)]
+        signed = var.type not in UNSIGNED
+        return [int.from_bytes(var.raw[i:i + width], "big", signed=signed) for i in range(0, len(var.raw), width)]
 
 
 def padding(n):
@@ -60,10 +63,11 @@ def padding(n):
 
 
 class Walk:
-    """The header's fields from the left."""
+    """The header's fields from the left. Counts, lengths, numbers of dimensions and sizes take eight bytes in version 5."""
 
-    def __init__(self, data):
-        self.data, self.at = data, 4
+    def __init__(self, data, version):
+        self.data, self.at, self.version = data, 4, version
+        self.counted = 8 if version == 5 else 4
 
     def take(self, n):
         if self.at + n > len(self.data):
@@ -75,9 +79,12 @@ class Walk:
     def number(self, width=4):
         return int.from_bytes(self.take(width), "big")
 
+    def count(self):
+        return self.number(self.counted)
+
     def name(self, earlier):
         start = self.at
-        n = self.number()
+        n = self.count()
         text = self.take(n)
         self.take(padding(n))
         try:
@@ -94,7 +101,7 @@ class Walk:
     def type(self):
         start = self.at
         number = self.number()
-        if number not in WIDTHS:
+        if number not in WIDTHS or (self.version != 5 and number not in OLD_TYPES):
             raise Bad("BadType", start)
         return number
 
@@ -105,7 +112,7 @@ class Walk:
         if tag not in (0, own):
             raise Bad("BadTag", start)
         start = self.at
-        count = self.number()
+        count = self.count()
         if tag == 0 and count:
             raise Bad("BadTag", start)
         return count
@@ -115,7 +122,7 @@ class Walk:
         for _ in range(self.entries(10)):
             name = self.name(earlier)
             start = self.at
-            length = self.number()
+            length = self.count()
             if length == 0 and any(n == 0 for _, n in dims):
                 raise Bad("BadDimension", start)
             dims.append((name, length))
@@ -126,7 +133,7 @@ class Walk:
         for _ in range(self.entries(12)):
             name = self.name(earlier)
             kind = self.type()
-            size = self.number() * WIDTHS[kind]
+            size = self.count() * WIDTHS[kind]
             raw = self.take(size)
             self.take(padding(size))
             attrs.append(Attribute(name, kind, raw))
@@ -134,23 +141,23 @@ class Walk:
 
     def numbers_of_dims(self, dims):
         numbers = []
-        for place in range(self.number()):
+        for place in range(self.count()):
             start = self.at
-            number = self.number()
+            number = self.count()
             if number >= len(dims) or (place > 0 and dims[number][1] == 0):
                 raise Bad("BadDimension", start)
             numbers.append(number)
         return numbers
 
-    def vars(self, version, dims):
+    def vars(self, dims):
         found, earlier = [], set()
         for _ in range(self.entries(11)):
             name = self.name(earlier)
             numbers = self.numbers_of_dims(dims)
             attrs = self.attrs()
             kind = self.type()
-            self.number()
-            begin = self.number(4 if version == 1 else 8)
+            self.count()
+            begin = self.number(4 if self.version == 1 else 8)
             found.append(Variable(name, numbers, attrs, kind, begin))
         return found
 
@@ -167,16 +174,16 @@ def read(data):
     """The file that the bytes spell. Raises the first fault."""
     if len(data) > MOST_BYTES:
         raise Bad("TooLarge", 0)
-    if data[:4] not in (b"CDF\x01", b"CDF\x02"):
+    if data[:4] not in (b"CDF\x01", b"CDF\x02", b"CDF\x05"):
         raise Bad("BadMagic", 0)
-    walk = Walk(data)
-    file = File(data[3], walk.number())
+    walk = Walk(data, data[3])
+    file = File(data[3], walk.count())
     file.dims, file.attrs = walk.dims(), walk.attrs()
-    file.vars = walk.vars(file.version, file.dims)
+    file.vars = walk.vars(file.dims)
     records = [v for v in file.vars if v.dims and file.dims[v.dims[0]][1] == 0]
     sizes = [size_of(file.dims, v) for v in records]
     distance = sizes[0] if len(sizes) == 1 else sum(n + padding(n) for n in sizes)
-    if file.numrecs == STREAMED:
+    if file.numrecs == 256 ** walk.counted - 1:
         fitting = [max(0, (len(data) - v.begin - n) // distance + 1) for v, n in zip(records, sizes)]
         file.numrecs = min(fitting, default=0)
     for var in file.vars:

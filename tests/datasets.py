@@ -5,8 +5,9 @@ from dataclasses import dataclass, field
 
 import classic
 
-BYTE, CHAR, SHORT, INT, FLOAT, DOUBLE = range(1, 7)
-WHOLE = {BYTE: "int8", SHORT: "int16", INT: "int32"}
+BYTE, CHAR, SHORT, INT, FLOAT, DOUBLE, UBYTE, USHORT, UINT, INT64, UINT64 = range(1, 12)
+WHOLE = {BYTE: "int8", SHORT: "int16", INT: "int32", UBYTE: "uint8", USHORT: "uint16", UINT: "uint32",
+         INT64: "int64", UINT64: "uint64"}
 KINDS = {**WHOLE, CHAR: "char"}
 MOST_CELLS, MOST_DIMENSIONS, MOST_VARIABLES = 1 << 25, 16, 1024
 
@@ -52,7 +53,7 @@ def without(attrs, name):
 
 
 def numbers(kind, raw):
-    width, signed = classic.WIDTHS[kind], kind != CHAR
+    width, signed = classic.WIDTHS[kind], kind not in classic.UNSIGNED
     return [int.from_bytes(raw[i:i + width], "big", signed=signed) for i in range(0, len(raw), width)]
 
 

@@ -18,15 +18,17 @@ EXAMPLES = os.path.join(os.path.dirname(os.path.abspath(__file__)), "..", "examp
 PYTHON = "/usr/bin/python3" if os.path.exists("/usr/bin/python3") else sys.executable
 
 SCRIPT = """o = open_dataset("a.nc")["v"]
-o.to_netcdf("whole.nc")
-o.isel(x=slice(1, 3)).to_netcdf("part.nc")
-o.sum().to_netcdf("sum.nc")
+o.to_netcdf("whole.nc", format="NETCDF3_CLASSIC")
+o.isel(x=slice(1, 3)).to_netcdf("part.nc", format="NETCDF3_CLASSIC")
+o.sum().to_netcdf("sum.nc", format="NETCDF3_CLASSIC")
 p = open_dataset("labels.nc")["v"]
-p.isel(x=slice(None, None, -2)).to_netcdf("turned.nc")
+p.isel(x=slice(None, None, -2)).to_netcdf("turned.nc", format="NETCDF3_CLASSIC")
 open_dataset("labels.nc").isel(x=[2, 0]).to_netcdf("set.nc", format="NETCDF3_64BIT")
 r = DataArray([[1, 2], [3, 4]], dims=["t", "x"], name="v", dtype="int16").assign_attrs(units="m", level=2)
-r.to_netcdf("records.nc", unlimited_dims="t")
-DataArray([True, False], dims=["x"], name="b").to_netcdf("truths.nc")
+r.to_netcdf("records.nc", format="NETCDF3_CLASSIC", unlimited_dims="t")
+DataArray([True, False], dims=["x"], name="b").to_netcdf("truths.nc", format="NETCDF3_CLASSIC")
+DataArray([4000000000, -1], dims=["x"], name="v").to_netcdf("wide.nc")
+DataArray([65535, 0], dims=["x"], name="v", dtype="uint16").to_netcdf("unsigned.nc")
 """
 
 # The numbers of each variable of each file.
@@ -39,6 +41,12 @@ WRITTEN = {
     "records.nc": {"v": [1, 2, 3, 4]},
     "truths.nc": {"b": [1, 0]},
 }
+# Those of version 5, which not all of the tools read.
+WRITTEN_IN_5 = {
+    "wide.nc": {"v": [4000000000, -1]},
+    "unsigned.nc": {"v": [65535, 0]},
+}
+READ_5 = {"ncdump", "ncvalidator", "netCDF4"}
 
 # How a library of Python gives a variable's numbers.
 LIBRARIES = {
@@ -87,7 +95,8 @@ def main():
                 print(f"skipped: {tool} isn't installed")
                 skipped += 1
                 continue
-            for name, values in WRITTEN.items():
+            files = WRITTEN | WRITTEN_IN_5 if tool in READ_5 else WRITTEN
+            for name, values in files.items():
                 if holds(os.path.join(folder, name), values):
                     passed += 1
                 else:

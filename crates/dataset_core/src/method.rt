@@ -6,7 +6,7 @@ ghost use Rattle.xr_types.specs.Names.{are_distinct};
 ghost use Rattle.xr_arrays.specs.Added.{AddsAtMost};
 ghost use Rattle.xr_defs.specs.Room.{portions, room};
 ghost use Rattle.xr_types.specs.Names.{among};
-ghost use Rattle.xr_runs.specs.Calls.{method_called, uncomputed_method as uncomputed, other_method as other_method_called, is_labelled_data as is_labelled, promoting};
+ghost use Rattle.xr_runs.specs.Calls.{method_called, uncomputed_method as uncomputed, other_method as other_method_called, is_grouped as is_in_groups, is_labelled_data as is_labelled, promoting};
 ghost use Rattle.plan_core.specs.Plans.{Grows};
 ghost use Rattle.xr_values.specs.Meaning.{meaning, given, IsValueIn, AreArgsIn};
 ghost use Rattle.xr_indexing.specs.Taken.{keywords};
@@ -46,13 +46,25 @@ pub(crate) fn is_labelled_data(value: &Value) -> bool
     }
 }
 
+// Whether a value is an array or a dataset in groups.
+#[tactic(auto, using(xr_arguments::proofs::Variants::is_grouped_array, xr_arguments::proofs::Variants::is_grouped_set, xr_values::proofs::Meaning::meaning_out))]
+fn is_grouped(value: &Value) -> bool
+    ensures { (nodes : List Node) → result ≡ is_in_groups (meaning nodes value.now) }
+{
+    match value {
+        Value::GroupedArray(_, _) => true,
+        Value::GroupedSet(_, _) => true,
+        _ => false,
+    }
+}
+
 // Why there is no other method of this name.
 #[tactic(auto, unfolding(xr_runs::specs::Calls::other_method))]
 fn other_method(alloc: Global, on: &Value, name: &TextBytes) -> CallFault
     ensures { (nodes : List Node) → RefusesValue result (other_method_called (meaning nodes on.now) name.now) }
 {
     if is_promoting(name) {
-        if is_labelled_data(on) {
+        if is_labelled_data(on) || is_grouped(on) {
             CallFault::Refused(Fault::WouldPromote)
         } else {
             CallFault::Refused(Fault::WrongKind)

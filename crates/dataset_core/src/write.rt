@@ -36,6 +36,8 @@ fn format_named(name: &TextBytes) -> Result<u8, CallFault>
         Ok(1)
     } else if name.as_str() == "NETCDF3_64BIT" {
         Ok(2)
+    } else if name.as_str() == "NETCDF3_64BIT_DATA" {
+        Ok(5)
     } else {
         Err(CallFault::Refused(Fault::BadArgument))
     }
@@ -47,7 +49,7 @@ fn format_given(value: Option<&Value>) -> Result<u8, CallFault>
     ensures known { IfOk result (λ v. is_version v ≡ true) }
 {
     match value {
-        None => Ok(1),
+        None => Ok(5),
         Some(value) => {
             let name = as_text(value)?;
             format_named(name)
