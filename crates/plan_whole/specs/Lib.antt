@@ -1,0 +1,4 @@
+pub mod Cellwise
+pub mod Gathers
+pub mod Folded
+pub mod Scans

@@ -69,6 +69,10 @@ fn arrange_cells<A: Arrangement>(
         Cells::Int16(v) => Cells::Int16(arrange_items(alloc, by, v, i16::wrap_from(hole))?),
         Cells::Int32(v) => Cells::Int32(arrange_items(alloc, by, v, i32::wrap_from(hole))?),
         Cells::Int64(v) => Cells::Int64(arrange_items(alloc, by, v, i64::wrap_from(hole))?),
+        Cells::UInt8(v) => Cells::UInt8(arrange_items(alloc, by, v, u8::wrap_from(hole))?),
+        Cells::UInt16(v) => Cells::UInt16(arrange_items(alloc, by, v, u16::wrap_from(hole))?),
+        Cells::UInt32(v) => Cells::UInt32(arrange_items(alloc, by, v, u32::wrap_from(hole))?),
+        Cells::UInt64(v) => Cells::UInt64(arrange_items(alloc, by, v, u64::wrap_from(hole))?),
     })
 }
 
@@ -82,6 +86,10 @@ fn count(cells: &Cells) -> usize
         Cells::Int16(v) => v.as_slice().len(),
         Cells::Int32(v) => v.as_slice().len(),
         Cells::Int64(v) => v.as_slice().len(),
+        Cells::UInt8(v) => v.as_slice().len(),
+        Cells::UInt16(v) => v.as_slice().len(),
+        Cells::UInt32(v) => v.as_slice().len(),
+        Cells::UInt64(v) => v.as_slice().len(),
     }
 }
 

@@ -161,6 +161,26 @@ fn one_after_the_other(
             let count = all.cells.as_slice().len();
             in_a_row(alloc, Cells::Int64(all.cells), count, all.mask)
         }
+        DType::UInt8 => {
+            let all = gather::<u8>(alloc, inputs, kind)?;
+            let count = all.cells.as_slice().len();
+            in_a_row(alloc, Cells::UInt8(all.cells), count, all.mask)
+        }
+        DType::UInt16 => {
+            let all = gather::<u16>(alloc, inputs, kind)?;
+            let count = all.cells.as_slice().len();
+            in_a_row(alloc, Cells::UInt16(all.cells), count, all.mask)
+        }
+        DType::UInt32 => {
+            let all = gather::<u32>(alloc, inputs, kind)?;
+            let count = all.cells.as_slice().len();
+            in_a_row(alloc, Cells::UInt32(all.cells), count, all.mask)
+        }
+        DType::UInt64 => {
+            let all = gather::<u64>(alloc, inputs, kind)?;
+            let count = all.cells.as_slice().len();
+            in_a_row(alloc, Cells::UInt64(all.cells), count, all.mask)
+        }
     }
 }
 

@@ -1,16 +1,18 @@
 //! The value of a node from those of its inputs.
 ghost use Rattle.std.specs.Prelude.{◌≡◌, ◌<◌, ◌≤◌, [], length, All, IfOk};
 ghost use Rattle.xr_types.specs.Points.{size};
-ghost use Rattle.xr_arrays.specs.Nodes.{value, AllFit, IsOrder, reordered, widened, most_node_cells};
+ghost use Rattle.xr_arrays.specs.Nodes.{value, node_of, AllFit, IsOrder, reordered, widened, most_node_cells};
 ghost use Rattle.plan_core.specs.Widens.{IsWidening};
-ghost use Rattle.plan_core.specs.Needs.{inputs_at, node_by, IsHeld, IsReady};
+ghost use Rattle.plan_core.specs.Needs.{inputs_at, IsHeld, IsReady};
 
 use crate::arrange::rearrange;
 use crate::axis_take::take;
+use crate::cellwise::{binary, choose, unary};
 use crate::concat::concat;
 use crate::fold::fold;
 use crate::inputs::{input, inputs};
 use crate::reorder::Moving;
+use crate::scan::scan;
 use crate::widen::Widening;
 use std::alloc::{AllocError, Global};
 use xr_arrays::{ArrayValue, Node};
@@ -54,7 +56,7 @@ fn value_of(
     node: &Node,
 ) -> Result<ArrayValue, AllocError>
     requires { IsReady nodes.now done.now node.now }
-    ensures { IfOk result (λ a. a ≡ node_by (value nodes.now) node.now) }
+    ensures { IfOk result (λ a. a ≡ node_of (value nodes.now) node.now) }
 {
     match node {
         Node::Source { cells } => cells.copy(alloc),
@@ -80,15 +82,39 @@ fn value_of(
             axis,
             size,
         } => widen(alloc, input(nodes, done, *id), *axis, *size),
+        Node::Unary {
+            op,
+            kind,
+            input: id,
+        } => unary(alloc, *op, *kind, input(nodes, done, *id)),
+        Node::Binary { op, a, b } => binary(
+            alloc,
+            *op,
+            input(nodes, done, *a),
+            input(nodes, done, *b),
+        ),
+        Node::Choose { cond, a, b } => choose(
+            alloc,
+            input(nodes, done, *cond),
+            input(nodes, done, *a),
+            input(nodes, done, *b),
+        ),
         Node::Fold {
             fold: kind,
             input: id,
             feeds,
         } => fold(alloc, *kind, input(nodes, done, *id), feeds.as_slice()),
+        // The fold is the sum: no other may be asked for.
+        Node::Scan {
+            input: id,
+            axis,
+            ..
+        } => scan(alloc, input(nodes, done, *id), *axis),
         Node::Concat { inputs: ids, axis } => {
             let arrays = inputs(alloc, nodes, done, ids.as_slice())?;
             concat(alloc, &arrays, *axis)
         }
+        Node::Chunk { input: id, .. } => input(nodes, done, *id).copy(alloc),
     }
 }
 

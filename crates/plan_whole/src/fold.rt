@@ -1,26 +1,34 @@
 //! Folds of axes.
-ghost use Rattle.std.specs.Prelude.{◌≡◌, ◌<◌, ◌≤◌, ◌*◌, ◌^◌, ℤ, List, length, map, zip, Option, Some, None, All, true, IfOk, IfSome, ◌+ℤ◌, [], ◌∷◌};
-ghost use Rattle.std.specs.Int.{int_wrap, w64};
-ghost use Rattle.xr_types.specs.declared.kind.DType.{DType};
-ghost use Rattle.xr_types.specs.declared.kind.DType.TheVariants.{Int64};
-ghost use Rattle.xr_types.specs.declared.operation.FoldKind.TheVariants.{Sum};
+ghost use Rattle.std.specs.Prelude.{◌≡◌, ◌≤◌, ◌++◌, List, length, Some, true, IfOk, OnOk, [], ◌∷◌};
+ghost use Rattle.xr_types.specs.Kinds.{wrap_to};
 ghost use Rattle.xr_types.specs.Points.{size};
-ghost use Rattle.xr_arrays.specs.Arrays.{cell, IsCell, made};
-ghost use Rattle.xr_arrays.specs.Folds.{folded_kind, sum_of};
-ghost use Rattle.xr_arrays.specs.Nodes.{kept, folded, most_node_cells};
-ghost use Rattle.plan_core.specs.Rows.{those, folded_rows};
-ghost use Rattle.plan_core.specs.Arrangements.{rearranged};
-ghost use Rattle.plan_core.specs.Strides.{sorted_sizes, sorted_point};
+ghost use Rattle.xr_types.specs.declared.operation.FoldKind.TheVariants.{Sum};
+ghost use Rattle.xr_arrays.specs.Arrays.{made, IsArray};
+ghost use Rattle.xr_arrays.specs.Folds.{folded_kind, fold_of, total_kind, sum_of};
+ghost use Rattle.xr_arrays.specs.Nodes.{kept, folded, gathered, AreFed, most_node_cells};
+ghost use Rattle.plan_core.specs.Rows.{those};
+ghost use Rattle.plan_whole.specs.Folded.{kept_one, folded_cells};
+ghost use Rattle.plan_whole.specs.Gathers.{point_at, read_from, IsRow};
 
-use crate::arrange::rearrange;
-use crate::fold_row::fold_row;
+use crate::gather::gather;
 use crate::numbers::{array_of, numbers_of};
 use crate::shapes::points;
-use crate::sort::{Sorting, folded_sizes, kept_sizes};
 use crate::total::total;
+use fold_kernel::Partial;
 use std::alloc::{AllocError, Global};
 use xr_arrays::{ArrayValue, Feed};
-use xr_types::{DType, FoldKind, Items};
+use xr_types::{DType, FoldKind, Items, is_unsigned, wrap};
+
+/// The kind of sums of numbers of a kind.
+pub fn total_kind(kind: DType) -> DType
+    ensures { result ≡ total_kind kind }
+{
+    if is_unsigned(kind) {
+        DType::UInt64
+    } else {
+        DType::Int64
+    }
+}
 
 fn folded_kind(fold: FoldKind, kind: DType) -> DType
     ensures { result ≡ folded_kind fold kind }
@@ -28,68 +36,80 @@ fn folded_kind(fold: FoldKind, kind: DType) -> DType
     match fold {
         FoldKind::Min | FoldKind::Max | FoldKind::First | FoldKind::Last => kind,
         FoldKind::Any | FoldKind::All => DType::Bool,
-        _ => DType::Int64,
+        FoldKind::Sum | FoldKind::Prod => total_kind(kind),
+        FoldKind::ArgMin | FoldKind::ArgMax | FoldKind::Count => DType::Int64,
     }
 }
 
-// The fold of each row.
-fn fold_rows(
-    alloc: Global,
+/// A sum that was wrapped at 64 bits, as the kind of sums of numbers of a kind wraps it.
+pub fn as_total(kind: DType, total: i64) -> i128
+    ensures { result ≡ wrap_to (total_kind kind) total }
+{
+    wrap(total_kind(kind), i128::from(total))
+}
+
+fn push_kept(sizes: &mut Vec<u64>, feed: &Feed, size: u64) -> Result<(), AllocError>
+    ensures { OnOk result (sizes.new.items ≡ sizes.old.items ++ kept_one feed.now size) }
+{
+    match feed {
+        Feed::Keep => sizes.push(size)?,
+        Feed::By(lists) => sizes.push(lists.len())?,
+        Feed::All => {}
+    }
+    Ok(())
+}
+
+// The sizes of the axes that stay.
+fn kept_sizes(alloc: Global, feeds: &[Feed], shape: &[u64]) -> Result<Vec<u64>, AllocError>
+    requires { length feeds.now ≡ length shape.now }
+    ensures { IfOk result (λ v. v.items ≡ kept feeds.now shape.now) }
+{
+    let mut sizes = Vec::new(alloc);
+    for i in 0..feeds.len() {
+        push_kept(&mut sizes, &feeds[i], shape[i])?;
+    }
+    Ok(sizes)
+}
+
+fn fold_row(
     fold: FoldKind,
-    rows: usize,
-    width: usize,
-    cells: &[Option<i128>],
-) -> Result<Vec<Option<i128>>, AllocError>
-    requires { length cells.now ≡ rows * width }
-    ensures { (t : DType) → IfOk result (λ v. v.items ≡ folded_rows fold t width rows cells.now) }
-{
-    let mut folds = Vec::new(alloc);
-    let mut rest = cells;
-    for _ in 0..rows {
-        let (row, behind) = rest.split_at(width);
-        folds.push(fold_row(fold, row))?;
-        rest = behind;
-    }
-    Ok(folds)
-}
-
-// The cells with the axes that are kept before those that are folded.
-fn sorted_cells(
-    alloc: Global,
-    a: &ArrayValue,
+    kind: DType,
     feeds: &[Feed],
-) -> Result<Vec<Option<i128>>, AllocError>
-    requires feeds { length feeds.now ≡ length a.now.shape }
-    requires few { size a.now.shape ≤ most_node_cells }
-    ensures cells { IfOk result (λ v. v.items ≡ (rearranged a.now (sorted_sizes feeds.now a.now.shape) (sorted_point feeds.now a.now.shape) None).cells) }
-    ensures range { IfOk result (λ v. All (IsCell a.now.kind) v.items) }
+    shape: &[u64],
+    sizes: &[u64],
+    row: u64,
+    cells: &[Option<i128>],
+) -> Option<i128>
+    requires { IsRow feeds.now shape.now sizes.now row 0 (length cells.now) }
+    ensures { result ≡ fold_of fold kind (gathered 0 feeds.now shape.now (point_at sizes.now row) (read_from cells.now 0 shape.now)) }
 {
-    let sorting = Sorting {
-        shape: a.shape(),
-        feeds,
-    };
-    let sorted = rearrange(alloc, a, &sorting, None)?;
-    numbers_of(alloc, &sorted)
+    let mut partial = Partial::empty(fold, kind);
+    gather(&mut partial, 0, feeds, shape, sizes, row, cells, 0);
+    partial.finish()
 }
 
-// The cells of the fold, where there are any.
 fn fold_cells(
     alloc: Global,
     fold: FoldKind,
-    a: &ArrayValue,
+    kind: DType,
     feeds: &[Feed],
-    rows: u64,
+    shape: &[u64],
+    sizes: &[u64],
+    cells: &[Option<i128>],
 ) -> Result<Vec<Option<i128>>, AllocError>
-    requires feeds { length feeds.now ≡ length a.now.shape }
-    requires few { size a.now.shape ≤ most_node_cells }
-    requires rows { rows ≡ size (kept feeds.now a.now.shape) }
-    requires some { 0 < rows }
-    ensures cells { IfOk result (λ v. v.items ≡ (folded fold feeds.now a.now).cells) }
-    ensures range { IfOk result (λ v. All (IsCell (folded_kind fold a.now.kind)) v.items) }
+    requires long { length feeds.now ≡ length shape.now }
+    requires fed { AreFed feeds.now shape.now }
+    requires sizes { sizes.now ≡ kept feeds.now shape.now }
+    requires few_rows { size sizes.now ≤ most_node_cells }
+    requires whole { length cells.now ≡ size shape.now }
+    requires few { size shape.now ≤ most_node_cells }
+    ensures { IfOk result (λ v. v.items ≡ folded_cells fold kind feeds.now shape.now cells.now) }
 {
-    let width = points(&folded_sizes(alloc, feeds, a.shape())?);
-    let cells = sorted_cells(alloc, a, feeds)?;
-    fold_rows(alloc, fold, rows as usize, width as usize, &cells)
+    let mut folds = Vec::new(alloc);
+    for row in 0..points(sizes) {
+        folds.push(fold_row(fold, kind, feeds, shape, sizes, row, cells))?;
+    }
+    Ok(folds)
 }
 
 // Whether a fold that keeps axes of these sizes is the sum of all cells.
@@ -105,14 +125,13 @@ fn sums_all(fold: FoldKind, sizes: &[u64]) -> bool
 
 // The sum of all cells.
 fn sum(alloc: Global, a: &ArrayValue) -> Result<ArrayValue, AllocError>
-    ensures whole { length a.now.cells ≡ size a.now.shape }
-    ensures sum { IfOk result (λ b. b ≡ made Int64 [] (λ p. Some (int_wrap w64 (sum_of (those a.now.cells))))) }
+    ensures { IfOk result (λ b. b ≡ made (total_kind a.now.kind) [] (λ p. Some (wrap_to (total_kind a.now.kind) (sum_of (those a.now.cells))))) }
 {
     array_of(
         alloc,
-        DType::Int64,
+        total_kind(a.kind()),
         Items::new(alloc),
-        &[Some(i128::from(total(a)))],
+        &[Some(as_total(a.kind(), total(a)))],
     )
 }
 
@@ -123,7 +142,9 @@ pub fn fold(
     a: &ArrayValue,
     feeds: &[Feed],
 ) -> Result<ArrayValue, AllocError>
+    requires array { IsArray a.now }
     requires feeds { length feeds.now ≡ length a.now.shape }
+    requires fed { AreFed feeds.now a.now.shape }
     requires few { size a.now.shape ≤ most_node_cells }
     requires small { size (kept feeds.now a.now.shape) ≤ most_node_cells }
     ensures { IfOk result (λ b. b ≡ folded fold feeds.now a.now) }
@@ -132,12 +153,7 @@ pub fn fold(
     if sums_all(fold, &sizes) {
         return sum(alloc, a);
     }
-    let kind = folded_kind(fold, a.kind());
-    let rows = points(&sizes);
-    let shape = Items::of(sizes);
-    if rows == 0 {
-        return array_of(alloc, kind, shape, &[]);
-    }
-    let cells = fold_cells(alloc, fold, a, feeds, rows)?;
-    array_of(alloc, kind, shape, &cells)
+    let cells = numbers_of(alloc, a)?;
+    let folds = fold_cells(alloc, fold, a.kind(), feeds, a.shape(), &sizes, &cells)?;
+    array_of(alloc, folded_kind(fold, a.kind()), Items::of(sizes), &folds)
 }

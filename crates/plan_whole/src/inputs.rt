@@ -24,8 +24,13 @@ pub fn inputs_of(alloc: Global, node: &Node) -> Result<Vec<NodeId>, AllocError>
         Node::Take { input, .. } => one(alloc, *input),
         Node::Reorder { input, .. } => one(alloc, *input),
         Node::Widen { input, .. } => one(alloc, *input),
+        Node::Unary { input, .. } => one(alloc, *input),
+        Node::Binary { a, b, .. } => Vec::from_slice(alloc, &[*a, *b]),
+        Node::Choose { cond, a, b } => Vec::from_slice(alloc, &[*cond, *a, *b]),
         Node::Fold { input, .. } => one(alloc, *input),
+        Node::Scan { input, .. } => one(alloc, *input),
         Node::Concat { inputs, .. } => Vec::from_slice(alloc, inputs.as_slice()),
+        Node::Chunk { input, .. } => one(alloc, *input),
     }
 }
 
@@ -40,6 +45,11 @@ pub fn source(node: &Node) -> Option<&ArrayValue>
         Node::Widen { .. } => None,
         Node::Fold { .. } => None,
         Node::Concat { .. } => None,
+        Node::Unary { .. } => None,
+        Node::Binary { .. } => None,
+        Node::Choose { .. } => None,
+        Node::Scan { .. } => None,
+        Node::Chunk { .. } => None,
     }
 }
 

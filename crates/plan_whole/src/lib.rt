@@ -3,17 +3,18 @@
 
 mod arrange;
 mod axis_take;
+mod cellwise;
 mod concat;
 mod eval;
 mod fold;
-mod fold_row;
+mod gather;
 mod inputs;
 mod join;
 mod mark;
 mod numbers;
 mod reorder;
+mod scan;
 mod shapes;
-mod sort;
 mod stride;
 mod take;
 mod total;

@@ -81,6 +81,10 @@ fn typed_numbers(alloc: Global, typed: &Typed) -> Result<Vec<Option<i128>>, Allo
         Cells::Int16(v) => numbers_in(alloc, v.as_slice(), mask),
         Cells::Int32(v) => numbers_in(alloc, v.as_slice(), mask),
         Cells::Int64(v) => numbers_in(alloc, v.as_slice(), mask),
+        Cells::UInt8(v) => numbers_in(alloc, v.as_slice(), mask),
+        Cells::UInt16(v) => numbers_in(alloc, v.as_slice(), mask),
+        Cells::UInt32(v) => numbers_in(alloc, v.as_slice(), mask),
+        Cells::UInt64(v) => numbers_in(alloc, v.as_slice(), mask),
     }
 }
 
@@ -163,6 +167,10 @@ fn typed(alloc: Global, kind: DType, cells: &[Option<i128>]) -> Result<Cells, Al
         DType::Int16 => Ok(Cells::Int16(narrowed(alloc, cells)?)),
         DType::Int32 => Ok(Cells::Int32(narrowed(alloc, cells)?)),
         DType::Int64 => Ok(Cells::Int64(narrowed(alloc, cells)?)),
+        DType::UInt8 => Ok(Cells::UInt8(narrowed(alloc, cells)?)),
+        DType::UInt16 => Ok(Cells::UInt16(narrowed(alloc, cells)?)),
+        DType::UInt32 => Ok(Cells::UInt32(narrowed(alloc, cells)?)),
+        DType::UInt64 => Ok(Cells::UInt64(narrowed(alloc, cells)?)),
     }
 }
 

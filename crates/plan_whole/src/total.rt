@@ -6,10 +6,17 @@ ghost use Rattle.xr_arrays.specs.Arrays.{cell, hidden, wide};
 ghost use Rattle.xr_arrays.specs.Folds.{sum_of};
 ghost use Rattle.plan_core.specs.Rows.{those};
 
-use crate::fold_row::added;
 use stored_cells::sum;
 use xr_arrays::{ArrayValue, Cells, Form, StoredArray, TypedArray};
 use xr_types::{Elem, Items};
+
+/// The sum, wrapped at 64 bits.
+#[tactic(auto, using(std::proofs::lemmas::Int::wraps))]
+pub fn added(a: i64, b: i64) -> i64
+    ensures { result ≡ int_wrap w64 (a +ℤ b) }
+{
+    a.wrapping_add(b)
+}
 
 // The sum with one more cell.
 fn more<T: Elem>(sum: i64, cell: T) -> i64
@@ -67,6 +74,10 @@ fn total_cells(cells: &Cells, mask: Option<&Items<u8>>) -> i64
         Cells::Int16(v) => total_in(v.as_slice(), mask),
         Cells::Int32(v) => total_in(v.as_slice(), mask),
         Cells::Int64(v) => total_in(v.as_slice(), mask),
+        Cells::UInt8(v) => total_in(v.as_slice(), mask),
+        Cells::UInt16(v) => total_in(v.as_slice(), mask),
+        Cells::UInt32(v) => total_in(v.as_slice(), mask),
+        Cells::UInt64(v) => total_in(v.as_slice(), mask),
     }
 }
 

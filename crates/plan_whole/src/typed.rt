@@ -2,7 +2,7 @@
 ghost use Rattle.std.specs.Prelude.{◌≡◌, map, All};
 ghost use Rattle.xr_types.specs.Kinds.{InRange};
 ghost use Rattle.xr_types.specs.declared.kind.DType.{DType};
-ghost use Rattle.xr_types.specs.declared.kind.DType.TheVariants.{Bool, Int8, Int16, Int32, Int64};
+ghost use Rattle.xr_types.specs.declared.kind.DType.TheVariants.{Bool, Int8, Int16, Int32, Int64, UInt16, UInt32, UInt64};
 ghost use Rattle.xr_arrays.specs.Arrays.{kind_of, wide, InKind};
 ghost use Rattle.plan_core.specs.Concats.{IsBytes};
 
@@ -29,6 +29,7 @@ impl Typed for u8 {
         match cells {
             Cells::Bool(v) => v.as_slice(),
             Cells::Char(v) => v.as_slice(),
+            Cells::UInt8(v) => v.as_slice(),
             _ => unreachable!(),
         }
     }
@@ -73,6 +74,39 @@ impl Typed for i64 {
     fn slice(cells: &Cells) -> &[i64] {
         match cells {
             Cells::Int64(v) => v.as_slice(),
+            _ => unreachable!(),
+        }
+    }
+}
+
+impl Typed for u16 {
+    ghost Keeps = { λ t. t ≡ UInt16 };
+
+    fn slice(cells: &Cells) -> &[u16] {
+        match cells {
+            Cells::UInt16(v) => v.as_slice(),
+            _ => unreachable!(),
+        }
+    }
+}
+
+impl Typed for u32 {
+    ghost Keeps = { λ t. t ≡ UInt32 };
+
+    fn slice(cells: &Cells) -> &[u32] {
+        match cells {
+            Cells::UInt32(v) => v.as_slice(),
+            _ => unreachable!(),
+        }
+    }
+}
+
+impl Typed for u64 {
+    ghost Keeps = { λ t. t ≡ UInt64 };
+
+    fn slice(cells: &Cells) -> &[u64] {
+        match cells {
+            Cells::UInt64(v) => v.as_slice(),
             _ => unreachable!(),
         }
     }

@@ -1,29 +1,23 @@
-use Rattle.std.proofs.Common.{◌∙◌, ap, sym, subst}
-use Rattle.std.specs.List.{All}
-use Rattle.xr_arrays.specs.Arrays.{IsCell}
-use Rattle.xr_arrays.specs.Folds.{folded_kind}
-use Rattle.plan_core.specs.Strides.{spread}
-use Rattle.plan_core.proofs.Takes.{if_ok}
-use Rattle.plan_core.proofs.Folded.{fold_here}
+use Rattle.std.proofs.Common.{arith}
+use Rattle.plan_whole.proofs.FoldedCells.{rows_done, rows_more}
 use Rattle.plan_whole.proofs.fold.fold_cells.Goals as goal
 
-pub fold_rows-requires : goal.fold_rows-requires
-fold_rows-requires c =
-    let here = fold_here c.args.fold c.args.feeds.now c.args.a.now c.deref.result.now c.args.rows c.points-width.result c.deref-2.result.now c.requires.feeds c.requires.few c.requires.rows c.requires.some
-    (c.deref.ensures.value ∙ c.in_ok-folded_sizes.ensures ∙ ap (spread c.args.feeds.now) c.shape.ensures) c.points-width.ensures
-    (c.deref-2.ensures.value ∙ c.in_ok-cells.ensures.cells) (subst (All (IsCell c.args.a.now.kind)) (sym c.deref-2.ensures.value) c.in_ok-cells.ensures.range) in
-    here.whole
+pub fold_row-requires : goal.fold_row-requires
+fold_row-requires c =
+    let lt = c.loop-row-test.true in
+    let end = c.points-row-end.ensures in
+    let whole = c.requires.whole in
+    let few = c.requires.few in
+    record { long = c.requires.long; fed = c.requires.fed; sizes_are = c.requires.sizes; inside = omega (arith, lt, end); few_rows = c.requires.few_rows; whole = omega (arith, whole); few = omega (arith, whole, few) }
 
-pub returns-clause-cells : goal.returns-clause-cells
-returns-clause-cells c =
-    let here = fold_here c.args.fold c.args.feeds.now c.args.a.now c.deref.result.now c.args.rows c.points-width.result c.deref-2.result.now c.requires.feeds c.requires.few c.requires.rows c.requires.some
-    (c.deref.ensures.value ∙ c.in_ok-folded_sizes.ensures ∙ ap (spread c.args.feeds.now) c.shape.ensures) c.points-width.ensures
-    (c.deref-2.ensures.value ∙ c.in_ok-cells.ensures.cells) (subst (All (IsCell c.args.a.now.kind)) (sym c.deref-2.ensures.value) c.in_ok-cells.ensures.range) in
-    if_ok c.fold_rows.result _ _ (λ v is. is ∙ here.is) (c.fold_rows.ensures c.args.a.now.kind)
+pub loop-row-preserved : goal.loop-row-preserved
+loop-row-preserved c =
+    let lt = c.loop-row-test.true in
+    record {
+      inside = omega (arith, lt);
+      so_far = rows_more c.args.fold c.args.kind c.args.feeds.now c.args.shape.now c.args.sizes.now c.args.cells.now c.loop-row.folds.items c.push.new.self.items c.loop-row.row c.fold_row.result c.in_ok-push.ensures.items c.fold_row.ensures c.loop-row.invariant.so_far;
+    }
 
-pub returns-clause-range : goal.returns-clause-range
-returns-clause-range c =
-    let here = fold_here c.args.fold c.args.feeds.now c.args.a.now c.deref.result.now c.args.rows c.points-width.result c.deref-2.result.now c.requires.feeds c.requires.few c.requires.rows c.requires.some
-    (c.deref.ensures.value ∙ c.in_ok-folded_sizes.ensures ∙ ap (spread c.args.feeds.now) c.shape.ensures) c.points-width.ensures
-    (c.deref-2.ensures.value ∙ c.in_ok-cells.ensures.cells) (subst (All (IsCell c.args.a.now.kind)) (sym c.deref-2.ensures.value) c.in_ok-cells.ensures.range) in
-    if_ok c.fold_rows.result _ _ (λ v is. subst (All (IsCell (folded_kind c.args.fold c.args.a.now.kind))) (sym is) here.range) (c.fold_rows.ensures c.args.a.now.kind)
+pub returns : goal.returns
+returns c =
+    rows_done c.args.fold c.args.kind c.args.feeds.now c.args.shape.now c.args.sizes.now c.args.cells.now c.loop-row.folds.items c.loop-row.row c.points-row-end.result c.requires.sizes c.requires.few_rows c.points-row-end.ensures c.loop-row-test.false c.loop-row.invariant.inside c.loop-row.invariant.so_far
