@@ -1,7 +1,7 @@
 -- The array of a variable: its kind, its shape and its cells.
 use Rattle.std.proofs.Common.{◌≡◌, ◌*◌, ℕ, ℤ, Bool, true, false, cond, ◌&&◌, List, length, map, Option, option_map, refl, sym, ap, ◌∙◌}
 use Rattle.xr_types.specs.declared.attr.NcType.{NcType}
-use Rattle.xr_types.specs.declared.attr.NcType.TheVariants.{Byte, Char, Short, Int, Float, Double}
+use Rattle.xr_types.specs.declared.attr.NcType.TheVariants.{Byte, Char, Short, Int, Float, Double, UByte, UShort, UInt, Int64, UInt64}
 use Rattle.xr_types.specs.declared.kind.DType.{DType}
 use Rattle.xr_types.specs.declared.kind.DType.TheVariants as kinds
 use Rattle.xr_files.specs.declared.file.CdfVar.{CdfVar}
@@ -27,6 +27,11 @@ byte_by Short b e = absurd cc
 byte_by Int b e = absurd cc
 byte_by Float b e = absurd cc
 byte_by Double b e = absurd cc
+byte_by UByte b e = absurd cc
+byte_by UShort b e = absurd cc
+byte_by UInt b e = absurd cc
+byte_by Int64 b e = absurd cc
+byte_by UInt64 b e = absurd cc
 
 pub truths_are_bytes : (v : CdfVar) → is_bool v ≡ true → (is_whole v.kind ≡ true) × (cells_kind v.kind ≡ kinds.Int8)
 truths_are_bytes v e = byte_by v.kind _ e

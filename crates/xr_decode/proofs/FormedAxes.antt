@@ -6,7 +6,7 @@ use Rattle.std.specs.List.{range_with_len}
 use Rattle.std.proofs.lemmas.Bool.{and_parts, eqb-true}
 use Rattle.std.proofs.lemmas.List.FromFn.{length-map-range_with_len}
 use Rattle.xr_types.specs.declared.attr.NcType.{NcType}
-use Rattle.xr_types.specs.declared.attr.NcType.TheVariants.{Byte, Char, Short, Int, Float, Double}
+use Rattle.xr_types.specs.declared.attr.NcType.TheVariants.{Byte, Char, Short, Int, Float, Double, UByte, UShort, UInt, Int64, UInt64}
 use Rattle.xr_types.specs.declared.axis.LabelList.{LabelList}
 use Rattle.xr_types.specs.declared.axis.LabelList.TheVariants.{Numbers, Texts}
 use Rattle.xr_files.specs.declared.file.CdfVar.{CdfVar}
@@ -51,6 +51,11 @@ integer_kind Short e = (refl, refl)
 integer_kind Int e = (refl, refl)
 integer_kind Float e = absurd cc
 integer_kind Double e = absurd cc
+integer_kind UByte e = (refl, refl)
+integer_kind UShort e = (refl, refl)
+integer_kind UInt e = (refl, refl)
+integer_kind Int64 e = (refl, refl)
+integer_kind UInt64 e = (refl, refl)
 
 -- labels of a variable, over a dimension of so many positions
 pub record AreLabelsOf (f : CdfFile) (v : CdfVar) (l : LabelList) : Type 0 where

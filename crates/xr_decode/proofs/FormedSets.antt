@@ -30,7 +30,7 @@ use Rattle.xr_decode.proofs.DimensionNames.{distinct_at, names_of_axes, names_at
 use Rattle.xr_decode.proofs.FormedAxes.{AreLabelsOf, labels_formed, index_formed}
 use Rattle.xr_decode.proofs.FormedCells.{without_formed, variable_attrs, cells_formed}
 use Rattle.xr_decode.proofs.Loaded.{loaded}
-use Rattle.xr_decode.proofs.Members.{Has, has_map, has_mapped, has_filter, has_filtered, has_at, has_any, any_has, every, at_member, found_has, has_either, among_has, has_among, absent, same_named, distinct_both, called_one, bytes_same}
+use Rattle.xr_decode.proofs.Members.{Has, has_map, has_mapped, has_filter, has_filtered, has_at, has_any, any_has, every, filter_passes, at_member, found_has, has_either, among_has, has_among, absent, same_named, distinct_both, called_one, bytes_same}
 use Rattle.xr_decode.proofs.OneByOne.{distinct_filter, variable_name, variable_dims}
 
 -- ---- the parts
@@ -403,6 +403,7 @@ set_formed f m r bytes few =
       vars = variables_formed f m r bytes;
       coords_distinct = coords_distinct f m r;
       vars_distinct = vars_distinct f m r;
+      busy = filter_passes (is_kept (coords_of f m) (vars_of f m)) (all_axes f);
       attrs = without_formed _ f.attrs r.attrs;
       few = few;
     }

@@ -10,6 +10,7 @@ pub mod Lengths
 pub mod ListedNames
 pub mod Loaded
 pub mod Members
+pub mod NamedSpans
 pub mod OneByOne
 pub mod Products
 pub mod Readable

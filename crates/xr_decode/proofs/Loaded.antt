@@ -1,15 +1,22 @@
 -- What is loaded: whole numbers over different dimensions, not too many of them, nor of cells and positions.
-use Rattle.std.proofs.Common.{◌≡◌, ◌≤◌, ℕ, ℤ, Bool, true, false, cond, List, length, Option, not, nat_lt, refl, sym, subst, arith}
+use Rattle.std.proofs.Common.{◌≡◌, ◌≤◌, ℕ, ℤ, Bool, true, false, cond, List, length, Option, not, nat_lt, refl, sym, ap, subst, arith}
 use Rattle.std.specs.List.{list_any}
+use Rattle.std.proofs.lemmas.List.{length-map}
 use Rattle.std.proofs.lemmas.Bool.{or_parts, not-false, ltb-false}
 use Rattle.xr_types.specs.declared.attr.Attr.{Attr}
 use Rattle.xr_types.specs.declared.kind.DType.{DType}
 use Rattle.xr_files.specs.declared.file.CdfVar.{CdfVar}
 use Rattle.xr_files.specs.declared.file.CdfFile.{CdfFile}
+use Rattle.xr_arrays.specs.declared.node.Node.{Node}
 use Rattle.xr_arrays.specs.declared.node.Node.TheVariants.{Source}
+use Rattle.xr_files.specs.Classic.{dim_at}
+use Rattle.xr_files.specs.Files.{positions}
 use Rattle.xr_types.specs.Points.{size}
 use Rattle.xr_arrays.specs.Arrays.{Array, IsArray}
-use Rattle.xr_arrays.specs.Nodes.{IsNode, node_value, most_node_cells}
+use Rattle.xr_arrays.specs.Added.{AddsAtMost}
+use Rattle.xr_arrays.specs.Nodes.{IsNode, Pushes, node_value, value, most_axes, most_node_cells}
+use Rattle.plan_core.proofs.Added.{adds_one}
+use Rattle.plan_core.proofs.Fitting.{source_fits}
 use Rattle.xr_defs.specs.Limits.{are_different, most_cells, most_dimensions}
 use Rattle.xr_arrays.specs.Numbers.{is_whole}
 use Rattle.xr_defs.specs.Decoding.{is_skipped, var_shape, var_dims, variable_of, variable_as_stored, as_truths, is_bool, is_masked}
@@ -45,13 +52,14 @@ loaded f v e =
 -- ---- as a node
 
 pub fits_plan : (done : List Array) (f : CdfFile) (m : Bool) (v : CdfVar) (a : Array) → a ≡ array_in f m v → IsReadableVar f v → is_skipped f v ≡ false → AreBytes v.raw → IsNode done (Source a)
-unfolding node_value
 fits_plan done f m v a is r e bytes =
     let l = loaded f v e in
-    record {
-      fits = subst IsArray (sym is) (is_array f m v r l.whole bytes);
-      small = subst (λ (x : Array). size x.shape ≤ most_node_cells) (sym is) (let few = l.few in omega arith);
-    }
+    source_fits done a (subst IsArray (sym is) (is_array f m v r l.whole bytes)) (subst (λ (x : Array). size x.shape ≤ most_node_cells) (sym is) (let few = l.few in omega arith))
+    (subst (λ (x : Array). length x.shape ≤ most_axes) (sym is) (let rank = length-map v.dims (λ i. positions f.numrecs (dim_at f.dims i)) in let low = l.low_rank in omega arith))
+
+-- its cells are all that is added
+pub cells_added : (old new : List Node) (node : Node) (place : ℕ) (shape : List ℕ) → Pushes old new node place → (value new place).shape ≡ shape → AddsAtMost old new (size shape)
+cells_added old new node place shape pushes is = let cells : size (value new place).shape ≡ size shape = ap size is in adds_one old new node place (size shape) pushes (omega arith)
 
 pub source_means : (done : List Array) (a : Array) → node_value done (Source a) ≡ a
 unfolding node_value

@@ -1,7 +1,7 @@
 -- What stands in a list, and names by which it is found.
 use Rattle.std.proofs.Common.{◌≡◌, ◌+◌, ◌<◌, ◌⊎◌, inl, inr, ℕ, zero, suc, Bool, true, false, cond, not, List, [], ◌∷◌, ◌++◌, length, map, filter, find, get_or, Option, Some, None, option_map, refl, sym, ap, subst, ◌∙◌, arith, add-one}
 use Rattle.std.specs.Str.{bytes_eq}
-use Rattle.std.specs.List.{list_any, AllByRecursion}
+use Rattle.std.specs.List.{list_all, list_any, AllByRecursion}
 use Rattle.std.proofs.lemmas.Bool.{and_parts, and_from, or_cases, or_left, or_right, not-true, not_from_false, false_from_ne_true, true≢false}
 use Rattle.std.proofs.lemmas.Slice.Eq.{bytes_eq-Decides}
 use Rattle.xr_types.specs.declared.axis.Axis.{Axis}
@@ -59,6 +59,15 @@ has_at (x ∷ xs) (suc i) d lt = inr (has_at xs i d (omega arith))
 pub every : {X : Type 0} (P : X → Type 0) (xs : List X) → ((x : X) → Has xs x → P x) → AllByRecursion P xs
 every P [] h = tt
 every P (x ∷ xs) h = (h x (inl refl), every P xs (λ y m. h y (inr m)))
+
+-- what a filter keeps passes
+passes_by : {X : Type 0} (p : X → Bool) (b : Bool) (x : X) (xs : List X) → p x ≡ b → list_all p xs ≡ true → list_all p (cond b (x ∷ xs) xs) ≡ true
+passes_by p true x xs e rest = and_from (p x) (list_all p xs) e rest
+passes_by p false x xs e rest = rest
+
+pub filter_passes : {X : Type 0} (p : X → Bool) (xs : List X) → list_all p (filter p xs) ≡ true
+filter_passes p [] = refl
+filter_passes p (x ∷ xs) = passes_by p (p x) x (filter p xs) refl (filter_passes p xs)
 
 pub at_member : {X : Type 0} (P : X → Type 0) (xs : List X) (x : X) → AllByRecursion P xs → Has xs x → P x
 at_member P [] x all h = absurd h

@@ -1,8 +1,8 @@
 -- The cells of a variable are in the range of its kind.
-use Rattle.std.proofs.Common.{◌≡◌, ◌+◌, ◌*◌, ◌/◌, ◌<◌, ℕ, ℤ, pos, negsuc, suc, Bool, true, false, cond, List, [], ◌∷◌, length, map, get_or, Option, Some, None, option_map, refl, sym, ap, subst, ◌∙◌, arith}
+use Rattle.std.proofs.Common.{◌≡◌, ◌*◌, ◌/◌, ◌<◌, ℕ, ℤ, pos, negsuc, suc, Bool, true, false, cond, List, [], ◌∷◌, length, map, drop, get_or, Option, Some, None, option_map, refl, ap, ◌∙◌, arith}
 use Rattle.std.specs.Prelude.{All}
 use Rattle.std.specs.List.{range_with_len}
-use Rattle.std.specs.Int.{w8, w16, w32, cast_signed}
+use Rattle.std.specs.Int.{w8, w16, w32, w64, from_be_bytes, cast_signed}
 use Rattle.std.proofs.lemmas.Int.{ints}
 use Rattle.std.proofs.lemmas.List.{get_or_past}
 use Rattle.std.proofs.lemmas.List.Elements.{All-nil, All-cons, All-head, All-tail, All-get_or}
@@ -10,9 +10,10 @@ use Rattle.std.proofs.Common.{inl, inr}
 use Rattle.std.proofs.lemmas.Bool.{cases_lt}
 use Rattle.xr_types.specs.Kinds.{InRange}
 use Rattle.xr_types.specs.declared.attr.NcType.{NcType}
-use Rattle.xr_types.specs.declared.attr.NcType.TheVariants.{Byte, Char, Short, Int, Float, Double}
+use Rattle.xr_types.specs.declared.attr.NcType.TheVariants.{Byte, Char, Short, Int, Float, Double, UByte, UShort, UInt, Int64, UInt64}
 use Rattle.xr_types.specs.declared.kind.DType.{DType}
 use Rattle.xr_types.specs.declared.kind.DType.TheVariants as kinds
+use Rattle.xr_files.proofs.FormatLaws.{IsBytes, IsBytes-take, IsBytes-drop}
 use Rattle.xr_files.specs.declared.file.CdfVar.{CdfVar}
 use Rattle.xr_files.specs.declared.file.CdfFile.{CdfFile}
 use Rattle.xr_arrays.specs.Arrays.{IsArray, IsCell}
@@ -22,7 +23,6 @@ use Rattle.xr_defs.specs.Decoding.{var_shape, variable_of, variable_as_stored, a
 use Rattle.xr_arrays.specs.Numbers.{is_whole, cells_kind, number_in, value_at, numbers_of}
 use Rattle.xr_arrays.specs.Stored.{is_fill, unless_fill}
 use Rattle.stored_cells.proofs.Lengths.{numbers-length}
-use Rattle.stored_cells.proofs.NumbersInBytes.{one_byte, two_bytes, four_bytes}
 use Rattle.xr_decode.specs.Cells.{array_in, fills_used}
 use Rattle.xr_decode.specs.Readable.{IsReadableVar}
 use Rattle.xr_decode.specs.Stored.{AreBytes}
@@ -31,6 +31,22 @@ use Rattle.xr_decode.specs.Stored.{AreBytes}
 
 pub byte_at : (raw : List ℕ) (i : ℕ) → AreBytes raw → get_or raw i 0 < 256
 byte_at raw i all = elim (cases_lt i (length raw)) [ inl lt ↦ All-get_or (λ b. b < 256) raw i 0 lt all | inr le ↦ let none = get_or_past raw i 0 le in omega arith ]
+
+-- the bytes of a value
+value_bytes : (kind : NcType) (raw : List ℕ) (i : ℕ) → AreBytes raw → IsBytes (value_at kind raw i)
+value_bytes kind raw i all = IsBytes-take (width kind) (drop (i * width kind) raw) (IsBytes-drop (i * width kind) raw (λ j. byte_at raw j all))
+
+below_8 : (bytes : List ℕ) → IsBytes bytes → from_be_bytes w8 bytes < 256
+below_8 bytes h = omega (arith, h 0)
+
+below_16 : (bytes : List ℕ) → IsBytes bytes → from_be_bytes w16 bytes < 65536
+below_16 bytes h = omega (arith, h 0, h 1)
+
+below_32 : (bytes : List ℕ) → IsBytes bytes → from_be_bytes w32 bytes < 4294967296
+below_32 bytes h = omega (arith, h 0, h 1, h 2, h 3)
+
+below_64 : (bytes : List ℕ) → IsBytes bytes → from_be_bytes w64 bytes < 18446744073709551616
+below_64 bytes h = omega (arith, h 0, h 1, h 2, h 3, h 4, h 5, h 6, h 7)
 
 signed_8 : (n : ℕ) → n < 256 → InRange kinds.Int8 (cast_signed w8 n)
 signed_8 n lt = (omega (arith, ints), omega (arith, ints))
@@ -41,25 +57,33 @@ signed_16 n lt = (omega (arith, ints), omega (arith, ints))
 signed_32 : (n : ℕ) → n < 4294967296 → InRange kinds.Int32 (cast_signed w32 n)
 signed_32 n lt = (omega (arith, ints), omega (arith, ints))
 
-natural_8 : (n : ℕ) → n < 256 → InRange kinds.Char (pos n)
-natural_8 n lt = (omega (arith, ints), omega (arith, ints))
+signed_64 : (n : ℕ) → n < 18446744073709551616 → InRange kinds.Int64 (cast_signed w64 n)
+signed_64 n lt = (omega (arith, ints), omega (arith, ints))
 
-number_fits : (kind : NcType) (raw : List ℕ) (i : ℕ) → is_whole kind ≡ true → AreBytes raw → InRange (cells_kind kind) (number_in kind (value_at kind raw i))
-number_fits Byte raw i e all = subst (λ n. InRange kinds.Int8 (cast_signed w8 n)) (sym (one_byte raw i)) (signed_8 (get_or raw i 0) (byte_at raw i all))
-number_fits Char raw i e all = subst (λ n. InRange kinds.Char (pos n)) (sym (one_byte raw i)) (natural_8 (get_or raw i 0) (byte_at raw i all))
-number_fits Short raw i e all =
-    let a = byte_at raw (i * 2) all in
-    let b = byte_at raw (i * 2 + 1) all in
-    subst (λ n. InRange kinds.Int16 (cast_signed w16 n)) (sym (two_bytes raw (i * 2))) (signed_16 (get_or raw (i * 2) 0 * 256 + get_or raw (i * 2 + 1) 0) (omega arith))
-number_fits Int raw i e all =
-    let a = byte_at raw (i * 4) all in
-    let b = byte_at raw (i * 4 + 1) all in
-    let c = byte_at raw (i * 4 + 2) all in
-    let d = byte_at raw (i * 4 + 3) all in
-    subst (λ n. InRange kinds.Int32 (cast_signed w32 n)) (sym (four_bytes raw (i * 4)))
-    (signed_32 (get_or raw (i * 4) 0 * 16777216 + get_or raw (i * 4 + 1) 0 * 65536 + get_or raw (i * 4 + 2) 0 * 256 + get_or raw (i * 4 + 3) 0) (omega arith))
-number_fits Float raw i e all = absurd cc
-number_fits Double raw i e all = absurd cc
+unsigned_8 : (n : ℕ) → n < 256 → InRange kinds.UInt8 (pos n)
+unsigned_8 n lt = (omega (arith, ints), omega (arith, ints))
+
+unsigned_16 : (n : ℕ) → n < 65536 → InRange kinds.UInt16 (pos n)
+unsigned_16 n lt = (omega (arith, ints), omega (arith, ints))
+
+unsigned_32 : (n : ℕ) → n < 4294967296 → InRange kinds.UInt32 (pos n)
+unsigned_32 n lt = (omega (arith, ints), omega (arith, ints))
+
+unsigned_64 : (n : ℕ) → n < 18446744073709551616 → InRange kinds.UInt64 (pos n)
+unsigned_64 n lt = (omega (arith, ints), omega (arith, ints))
+
+number_fits : (kind : NcType) (bytes : List ℕ) → is_whole kind ≡ true → IsBytes bytes → InRange (cells_kind kind) (number_in kind bytes)
+number_fits Byte bytes e h = signed_8 (from_be_bytes w8 bytes) (below_8 bytes h)
+number_fits Char bytes e h = unsigned_8 (from_be_bytes w8 bytes) (below_8 bytes h)
+number_fits Short bytes e h = signed_16 (from_be_bytes w16 bytes) (below_16 bytes h)
+number_fits Int bytes e h = signed_32 (from_be_bytes w32 bytes) (below_32 bytes h)
+number_fits Float bytes e h = absurd cc
+number_fits Double bytes e h = absurd cc
+number_fits UByte bytes e h = unsigned_8 (from_be_bytes w8 bytes) (below_8 bytes h)
+number_fits UShort bytes e h = unsigned_16 (from_be_bytes w16 bytes) (below_16 bytes h)
+number_fits UInt bytes e h = unsigned_32 (from_be_bytes w32 bytes) (below_32 bytes h)
+number_fits Int64 bytes e h = signed_64 (from_be_bytes w64 bytes) (below_64 bytes h)
+number_fits UInt64 bytes e h = unsigned_64 (from_be_bytes w64 bytes) (below_64 bytes h)
 
 -- ---- all numbers
 
@@ -68,7 +92,7 @@ each_fits P f [] h = All-nil P
 each_fits P f (i ∷ is) h = All-cons P (f i) (map f is) (h i) (each_fits P f is h)
 
 pub numbers_fit : (kind : NcType) (raw : List ℕ) → is_whole kind ≡ true → AreBytes raw → All (InRange (cells_kind kind)) (numbers_of kind raw)
-numbers_fit kind raw e all = each_fits (InRange (cells_kind kind)) (λ i. number_in kind (value_at kind raw i)) (range_with_len 0 (length raw / width kind)) (λ i. number_fits kind raw i e all)
+numbers_fit kind raw e all = each_fits (InRange (cells_kind kind)) (λ i. number_in kind (value_at kind raw i)) (range_with_len 0 (length raw / width kind)) (λ i. number_fits kind (value_at kind raw i) e (value_bytes kind raw i all))
 
 -- ---- cells
 

@@ -4,7 +4,7 @@ use Rattle.std.specs.Prelude.{All}
 use Rattle.std.specs.List.{Contains}
 use Rattle.std.proofs.lemmas.List.Elements.{All-contains}
 use Rattle.xr_types.specs.declared.attr.NcType.{NcType}
-use Rattle.xr_types.specs.declared.attr.NcType.TheVariants.{Byte, Char, Short, Int, Float, Double}
+use Rattle.xr_types.specs.declared.attr.NcType.TheVariants.{Byte, Char, Short, Int, Float, Double, UByte, UShort, UInt, Int64, UInt64}
 use Rattle.xr_files.specs.declared.file.CdfVar.{CdfVar}
 use Rattle.xr_files.specs.declared.file.CdfFile.{CdfFile}
 use Rattle.xr_types.specs.Points.{size}
@@ -21,6 +21,11 @@ integer_is_whole Short e = refl
 integer_is_whole Int e = refl
 integer_is_whole Float e = absurd cc
 integer_is_whole Double e = absurd cc
+integer_is_whole UByte e = refl
+integer_is_whole UShort e = refl
+integer_is_whole UInt e = refl
+integer_is_whole Int64 e = refl
+integer_is_whole UInt64 e = refl
 
 one_byte : (kind : NcType) → is_char kind ≡ true → (is_whole kind ≡ true) × (width kind ≡ 1)
 one_byte Byte e = absurd cc
@@ -29,6 +34,11 @@ one_byte Short e = absurd cc
 one_byte Int e = absurd cc
 one_byte Float e = absurd cc
 one_byte Double e = absurd cc
+one_byte UByte e = absurd cc
+one_byte UShort e = absurd cc
+one_byte UInt e = absurd cc
+one_byte Int64 e = absurd cc
+one_byte UInt64 e = absurd cc
 
 -- a text has a byte for each cell
 pub char_values : (f : CdfFile) (v : CdfVar) → IsReadableVar f v → is_char v.kind ≡ true → length v.raw ≡ size (var_shape f v)

@@ -17,10 +17,10 @@ use Rattle.xr_values.specs.declared.variable.Variable.{Variable}
 use Rattle.xr_values.specs.declared.dataset.Dataset.{Dataset}
 use Rattle.xr_values.specs.Stands.{dataset_in, shape_named, variable_in, IsDatasetIn, IsNodeOf}
 use Rattle.xr_defs.specs.WellFormed.{IsVariable}
-use Rattle.xr_values.proofs.Rooms.{named_within}
 use Rattle.xr_decode.specs.declared.role.Role.TheVariants.{Data}
 use Rattle.xr_decode.specs.Held.{data_cells, data_in, AreHeld}
 use Rattle.xr_decode.specs.Roles.{IsRole}
+use Rattle.xr_decode.proofs.NamedSpans.{named_within}
 use Rattle.xr_decode.proofs.OneByOne.{data_more, data_one}
 
 pub cells_one : (f : CdfFile) (v : CdfVar) → IsRole f v Data → data_cells f (v ∷ []) ≡ size (var_shape f v)

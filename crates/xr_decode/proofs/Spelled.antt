@@ -11,7 +11,7 @@ use Rattle.std.proofs.lemmas.Slice.Eq.{bytes_eq-Decides}
 use Rattle.std.proofs.lemmas.Bool.Decides.{same_from_decides}
 use Rattle.xr_types.specs.declared.attr.Attr.{Attr}
 use Rattle.xr_types.specs.declared.attr.NcType.{NcType}
-use Rattle.xr_types.specs.declared.attr.NcType.TheVariants.{Byte, Char, Short, Int, Float, Double}
+use Rattle.xr_types.specs.declared.attr.NcType.TheVariants.{Byte, Char, Short, Int, Float, Double, UByte, UShort, UInt, Int64, UInt64}
 use Rattle.xr_files.specs.declared.file.CdfDim.{CdfDim}
 use Rattle.xr_files.specs.declared.file.CdfFile.{CdfFile}
 use Rattle.xr_files.specs.declared.file.VarHead.{VarHead}
@@ -38,17 +38,17 @@ unfolding each
 each_keeps P f step zero seen xs t so s = subst P (sym s.0) so
 each_keeps P f step (suc n) seen xs t so s = each_keeps P f step n (seen ++ s.0 ∷ []) xs s.2 (step seen s.0 s.1 so s.4) s.5
 
-list_keeps : {A : Type 0} (P : List A → Type 0) (tag : ℕ) (f : List A → Format A) → ((seen : List A) (a : A) (t : List ℕ) → P seen → (f seen).spells a t → P (seen ++ a ∷ [])) → (xs : List A) (t : List ℕ) → P [] → (list tag f).spells xs t → P xs
+list_keeps : {A : Type 0} (P : List A → Type 0) (version tag : ℕ) (f : List A → Format A) → ((seen : List A) (a : A) (t : List ℕ) → P seen → (f seen).spells a t → P (seen ++ a ∷ [])) → (xs : List A) (t : List ℕ) → P [] → (list version tag f).spells xs t → P xs
 unfolding list
-list_keeps P tag f step xs t so s =
+list_keeps P version tag f step xs t so s =
     let inner = s.5 in
     each_keeps P f step inner.0 [] xs inner.2 so inner.5
 
 -- ---- names
 
-new_is_name : (names : List (List ℕ)) (text t : List ℕ) → (new_name names).spells text t → (is_name text ≡ true) × (among names text ≡ false)
+new_is_name : (version : ℕ) (names : List (List ℕ)) (text t : List ℕ) → (new_name version names).spells text t → (is_name text ≡ true) × (among names text ≡ false)
 unfolding new_name name
-new_is_name names text t s = (s.0.1, not-true (among names text) s.1)
+new_is_name version names text t s = (s.0.1, not-true (among names text) s.1)
 
 swap : (a b : List ℕ) → bytes_eq a b ≡ bytes_eq b a
 swap a b = same_from_decides (bytes_eq a b) (bytes_eq b a) (bytes_eq-Decides a b) ((λ e. sym ((bytes_eq-Decides b a).0 e)), (λ e. (bytes_eq-Decides b a).1 (sym e)))
@@ -77,11 +77,11 @@ record AreDims (dims : List CdfDim) : Type 0 where
   pub named : All (λ (d : CdfDim). is_name d.name ≡ true) dims
   pub distinct : are_distinct (dim_names dims) ≡ true
 
-dims_more : (seen : List CdfDim) (d : CdfDim) (t : List ℕ) → AreDims seen → (dimension seen).spells d t → AreDims (seen ++ d ∷ [])
+dims_more : (version : ℕ) (seen : List CdfDim) (d : CdfDim) (t : List ℕ) → AreDims seen → (dimension version seen).spells d t → AreDims (seen ++ d ∷ [])
 unfolding dimension
-dims_more seen d t so s =
+dims_more version seen d t so s =
     let text : List ℕ = s.0 in
-    let n = new_is_name (dim_names seen) text s.1 s.4 in
+    let n = new_is_name version (dim_names seen) text s.1 s.4 in
     let same : text ≡ d.name = ap (λ (e : CdfDim). e.name) s.5.1 in
     record {
       named = All-push (λ (e : CdfDim). is_name e.name ≡ true) seen d so.named (subst (λ u. is_name u ≡ true) same n.0);
@@ -97,14 +97,19 @@ whole_by Short k n e = omega arith
 whole_by Int k n e = omega arith
 whole_by Float k n e = omega arith
 whole_by Double k n e = omega arith
+whole_by UByte k n e = omega arith
+whole_by UShort k n e = omega arith
+whole_by UInt k n e = omega arith
+whole_by Int64 k n e = omega arith
+whole_by UInt64 k n e = omega arith
 
 record AreAttrs (attrs : List Attr) : Type 0 where
   pub each_of : All IsAttribute attrs
   pub distinct : are_distinct (attr_names attrs) ≡ true
 
-attribute_is : (text : List ℕ) (a : Attr) (t : List ℕ) → is_name text ≡ true → (values text).spells a t → IsAttribute a × (text ≡ a.name)
+attribute_is : (version : ℕ) (text : List ℕ) (a : Attr) (t : List ℕ) → is_name text ≡ true → (values version text).spells a t → IsAttribute a × (text ≡ a.name)
 unfolding values
-attribute_is text a t named s =
+attribute_is version text a t named s =
     let kind : NcType = s.0 in
     let counted = s.5 in
     let n : ℕ = counted.0 in
@@ -114,20 +119,20 @@ attribute_is text a t named s =
     let is : record { name = text; kind = kind; raw = raw } ≡ a = with_raw.5.1 in
     (subst IsAttribute is (record { name = named; whole = whole_by kind (length raw) n long }), ap (λ (b : Attr). b.name) is)
 
-attrs_more : (seen : List Attr) (a : Attr) (t : List ℕ) → AreAttrs seen → (attribute seen).spells a t → AreAttrs (seen ++ a ∷ [])
+attrs_more : (version : ℕ) (seen : List Attr) (a : Attr) (t : List ℕ) → AreAttrs seen → (attribute version seen).spells a t → AreAttrs (seen ++ a ∷ [])
 unfolding attribute
-attrs_more seen a t so s =
+attrs_more version seen a t so s =
     let text : List ℕ = s.0 in
-    let n = new_is_name (attr_names seen) text s.1 s.4 in
-    let is = attribute_is text a s.2 n.0 s.5 in
+    let n = new_is_name version (attr_names seen) text s.1 s.4 in
+    let is = attribute_is version text a s.2 n.0 s.5 in
     record {
       each_of = All-push IsAttribute seen a so.each_of is.0;
       distinct = named_more (λ (b : Attr). b.name) seen a so.distinct (subst (λ u. among (attr_names seen) u ≡ false) is.1 n.1);
     }
 
-attributes_are : (attrs : List Attr) (t : List ℕ) → (list 12 attribute).spells attrs t → AreAttributes attrs
-attributes_are attrs t s =
-    let are = list_keeps AreAttrs 12 attribute attrs_more attrs t (record { each_of = All-nil IsAttribute; distinct = refl }) s in
+attributes_are : (version : ℕ) (attrs : List Attr) (t : List ℕ) → (list version 12 (attribute version)).spells attrs t → AreAttributes attrs
+attributes_are version attrs t s =
+    let are = list_keeps AreAttrs version 12 (attribute version) (attrs_more version) attrs t (record { each_of = All-nil IsAttribute; distinct = refl }) s in
     record { each = recursion_from_All IsAttribute attrs are.each_of; distinct = are.distinct }
 
 -- ---- the dimensions of a variable
@@ -139,9 +144,9 @@ behind dims (j ∷ seen) i so e =
     let f : (false || not (is_record_dim (dim_at dims i))) ≡ true = rw z at e in
     All-push (λ j. is_record_dim (dim_at dims j) ≡ false) seen i so (not-true (is_record_dim (dim_at dims i)) f)
 
-ids_more : (dims : List CdfDim) (seen : List ℕ) (i : ℕ) (t : List ℕ) → AreIds dims seen → (dim_number dims seen).spells i t → AreIds dims (seen ++ i ∷ [])
+ids_more : (version : ℕ) (dims : List CdfDim) (seen : List ℕ) (i : ℕ) (t : List ℕ) → AreIds dims seen → (dim_number version dims seen).spells i t → AreIds dims (seen ++ i ∷ [])
 unfolding dim_number
-ids_more dims seen i t so s =
+ids_more version dims seen i t so s =
     let parts = and_parts (nat_lt i (length dims)) _ s.1 in
     record {
       below = All-push (λ j. j < length dims) seen i so.below (ltb-true i (length dims) parts.0);
@@ -167,9 +172,9 @@ unfolding var_head
 head_is version dims text v t named s =
     let ranked = s.5 in
     let ids : List ℕ = ranked.0 in
-    let are : AreIds dims ids = each_keeps (AreIds dims) (dim_number dims) (ids_more dims) s.0 [] ids ranked.1 (no_ids dims) ranked.4 in
+    let are : AreIds dims ids = each_keeps (AreIds dims) (dim_number version dims) (ids_more version dims) s.0 [] ids ranked.1 (no_ids dims) ranked.4 in
     let with_attrs = ranked.5 in
-    let attrs : AreAttributes with_attrs.0 = attributes_are with_attrs.0 with_attrs.1 with_attrs.4 in
+    let attrs : AreAttributes with_attrs.0 = attributes_are version with_attrs.0 with_attrs.1 with_attrs.4 in
     let with_kind = with_attrs.5 in
     let with_size = with_kind.5 in
     let placed = with_size.5 in
@@ -179,7 +184,7 @@ head_is version dims text v t named s =
 vars_more : (version : ℕ) (dims : List CdfDim) (seen : List VarHead) (v : VarHead) (t : List ℕ) → AreHeads dims seen → (variable version dims seen).spells v t → AreHeads dims (seen ++ v ∷ [])
 unfolding variable
 vars_more version dims seen v t so s =
-    let n = new_is_name (var_names seen) s.0 s.1 s.4 in
+    let n = new_is_name version (var_names seen) s.0 s.1 s.4 in
     let is = head_is version dims s.0 v s.2 n.0 s.5 in
     record {
       each_of = All-push (IsHead dims) seen v so.each_of is.0;
@@ -198,12 +203,12 @@ unfolding header
 spelled_is_sound version h t s =
     let with_dims = s.5 in
     let dims : List CdfDim = with_dims.0 in
-    let are : AreDims dims = list_keeps AreDims 10 dimension dims_more dims with_dims.1 (record { named = All-nil (λ (d : CdfDim). is_name d.name ≡ true); distinct = refl }) with_dims.4 in
+    let are : AreDims dims = list_keeps AreDims version 10 (dimension version) (dims_more version) dims with_dims.1 (record { named = All-nil (λ (d : CdfDim). is_name d.name ≡ true); distinct = refl }) with_dims.4 in
     let with_attrs = with_dims.5 in
-    let attrs : AreAttributes with_attrs.0 = attributes_are with_attrs.0 with_attrs.1 with_attrs.4 in
+    let attrs : AreAttributes with_attrs.0 = attributes_are version with_attrs.0 with_attrs.1 with_attrs.4 in
     let last = with_attrs.5 in
     let vars : List VarHead = last.0 in
-    let heads : AreHeads dims vars = list_keeps (AreHeads dims) 11 (variable version dims) (vars_more version dims) vars with_attrs.2 (record { each_of = All-nil (IsHead dims); distinct = refl }) last.2 in
+    let heads : AreHeads dims vars = list_keeps (AreHeads dims) version 11 (variable version dims) (vars_more version dims) vars with_attrs.2 (record { each_of = All-nil (IsHead dims); distinct = refl }) last.2 in
     let is : record { numrecs = s.0; dims = dims; attrs = with_attrs.0; vars = vars } ≡ h = last.1 in
     subst IsSound is (record { dims = are; attrs = attrs; vars = heads })
 
@@ -247,10 +252,10 @@ spelled_is_readable bytes f fits e = spelled_readable bytes f (given_is_spelled 
 
 -- ---- a file whose parts fit together
 
-attrs_fit : (attrs : List Attr) → canonical.AreAttrs attrs → AreAttributes attrs
-attrs_fit attrs a = record { each = by attrs a.each; distinct = a.distinct }
+attrs_fit : (version : ℕ) (attrs : List Attr) → canonical.AreAttrs version attrs → AreAttributes attrs
+attrs_fit version attrs a = record { each = by attrs a.each; distinct = a.distinct }
   where
-    by : (xs : List Attr) → AllByRecursion canonical.IsAttr xs → AllByRecursion IsAttribute xs
+    by : (xs : List Attr) → AllByRecursion (canonical.IsAttr version) xs → AllByRecursion IsAttribute xs
     by [] h = tt
     by (x ∷ xs) h = (record { name = h.0.name.name; whole = h.0.whole }, by xs h.1)
 
@@ -261,13 +266,13 @@ all_of P Q (x ∷ xs) g h = All-cons Q x xs (g x h.0) (all_of P Q xs g h.1)
 pub file_readable : (f : CdfFile) → canonical.IsFile f → IsReadable f
 file_readable f is =
     record {
-      dims = all_of canonical.IsDim (λ (d : CdfDim). is_name d.name ≡ true) f.dims (λ d h. h.name.name) is.dims;
+      dims = all_of (canonical.IsDim f.version) (λ (d : CdfDim). is_name d.name ≡ true) f.dims (λ d h. h.name.name) is.dims;
       dims_distinct = is.dims_distinct;
-      attrs = attrs_fit f.attrs is.attrs;
+      attrs = attrs_fit f.version f.attrs is.attrs;
       vars = all_of (canonical.IsVar f) (IsReadableVar f) f.vars (λ v h. record {
         name = h.name.name;
         below = all_of (λ i. i < length f.dims) (λ i. i < length f.dims) v.dims (λ i h. h) h.dims;
-        attrs = attrs_fit v.attrs h.attrs;
+        attrs = attrs_fit f.version v.attrs h.attrs;
         whole = λ e. h.raw;
       }) is.vars;
       vars_distinct = is.vars_distinct;

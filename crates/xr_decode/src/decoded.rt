@@ -32,7 +32,7 @@ fn is_bool(var: &StoredVar<'_>) -> bool
 }
 
 // The numbers that stand for missing cells, where missing cells are asked for.
-fn fills_used(alloc: Global, var: &StoredVar<'_>, mask: bool) -> Result<Items<i64>, NoMemory>
+fn fills_used(alloc: Global, var: &StoredVar<'_>, mask: bool) -> Result<Items<i128>, NoMemory>
     ensures fills { IfOk result (λ ns. ns ≡ fills_used mask var.now) }
     ensures masked { IfOk result (λ ns. is_masked mask var.now ≡ not (length ns == 0)) }
 {
@@ -47,7 +47,7 @@ fn truths_in(
     alloc: Global,
     source: &Source<'_>,
     var: &StoredVar<'_>,
-    fills: &[i64],
+    fills: &[i128],
 ) -> Result<ArrayValue, NoMemory>
     requires readable { IsReadableVar source.now var.now }
     requires truths { is_bool var.now ≡ true }
@@ -66,7 +66,7 @@ fn numbers_in(
     alloc: Global,
     source: &Source<'_>,
     var: &StoredVar<'_>,
-    fills: Items<i64>,
+    fills: Items<i128>,
 ) -> Result<ArrayValue, NoMemory>
     requires readable { IsReadableVar source.now var.now }
     requires whole { is_whole var.now.kind ≡ true }
@@ -84,7 +84,7 @@ fn array_in(
     alloc: Global,
     source: &Source<'_>,
     var: &StoredVar<'_>,
-    fills: Items<i64>,
+    fills: Items<i128>,
 ) -> Result<ArrayValue, NoMemory>
     requires readable { IsReadableVar source.now var.now }
     requires whole { is_whole var.now.kind ≡ true }

@@ -8,7 +8,11 @@ use xr_types::{DType, NcType};
 pub(crate) fn is_whole(kind: NcType) -> bool
     ensures { result ≡ is_whole kind }
 {
-    !matches!(kind, NcType::Float | NcType::Double)
+    match kind {
+        NcType::Float | NcType::Double => false,
+        NcType::Byte | NcType::Char | NcType::Short | NcType::Int | NcType::Int64 => true,
+        NcType::UByte | NcType::UShort | NcType::UInt | NcType::UInt64 => true,
+    }
 }
 
 pub(crate) fn is_char(kind: NcType) -> bool
@@ -27,7 +31,11 @@ pub(crate) fn is_byte(kind: NcType) -> bool
 pub(crate) fn is_integer(kind: NcType) -> bool
     ensures { result ≡ is_integer kind }
 {
-    matches!(kind, NcType::Byte | NcType::Short | NcType::Int)
+    match kind {
+        NcType::Byte | NcType::Short | NcType::Int | NcType::Int64 => true,
+        NcType::UByte | NcType::UShort | NcType::UInt | NcType::UInt64 => true,
+        NcType::Char | NcType::Float | NcType::Double => false,
+    }
 }
 
 /// The kind of the cells that hold a type's numbers.
@@ -39,5 +47,10 @@ pub(crate) fn cells_kind(kind: NcType) -> DType
         NcType::Char => DType::Char,
         NcType::Short => DType::Int16,
         NcType::Int | NcType::Float | NcType::Double => DType::Int32,
+        NcType::UByte => DType::UInt8,
+        NcType::UShort => DType::UInt16,
+        NcType::UInt => DType::UInt32,
+        NcType::Int64 => DType::Int64,
+        NcType::UInt64 => DType::UInt64,
     }
 }

@@ -8,14 +8,14 @@ ghost use Rattle.xr_decode.specs.Readable.{IsReadableVar};
 
 use crate::attributes::copy_without;
 use crate::dims::var_shape;
-use crate::fills::push_numbers;
 use crate::kinds::{cells_kind, is_char, is_integer};
 use crate::shapes::dim_name;
 use crate::stored::{Source, StoredVar};
 use crate::text::{are_texts, texts_in};
 use std::alloc::{AllocError, Global};
 use stored_cells::decoded_cells;
-use xr_types::{Items, LabelList, Labels, NoMemory, TextBytes};
+use xr_types::{Items, LabelList, Labels, NoMemory, Shared, TextBytes};
+use xr_values::integers_of;
 
 fn is_named_as_first(source: &Source<'_>, var: &StoredVar<'_>) -> bool
     ensures { result ≡ is_named_as_first source.now var.now }
@@ -40,8 +40,7 @@ fn numbers_as_labels(alloc: Global, var: &StoredVar<'_>) -> Result<LabelList, No
 {
     let raw = var.raw(alloc)?;
     let cells = decoded_cells(alloc, var.kind(), raw.as_slice())?;
-    let mut numbers = Items::new(alloc);
-    push_numbers(&mut numbers, &cells)?;
+    let numbers = integers_of(alloc, &cells)?;
     Ok(LabelList::Numbers(cells_kind(var.kind()), numbers))
 }
 
@@ -83,7 +82,7 @@ fn text_labels(
     let shape = var_shape(alloc, source, var)?;
     let raw = var.raw(alloc)?;
     match rows_in(alloc, shape.as_slice(), raw.as_slice())? {
-        Some(texts) => Ok(Some(LabelList::Texts(texts))),
+        Some(texts) => Ok(Some(LabelList::Texts(Shared::of(alloc, texts)?))),
         None => Ok(None),
     }
 }

@@ -3,8 +3,7 @@ use Rattle.xr_arrays.specs.Arrays.{Array}
 use Rattle.xr_defs.specs.Decoding.{var_shape}
 use Rattle.xr_arrays.specs.Nodes.{values, value}
 use Rattle.xr_values.proofs.Grown.{pushed_value, pushed_node}
-use Rattle.xr_values.proofs.Rooms.{node_cells}
-use Rattle.xr_decode.proofs.Loaded.{loaded, fits_plan, source_means, variable_same}
+use Rattle.xr_decode.proofs.Loaded.{cells_added, fits_plan, loaded, source_means, variable_same}
 use Rattle.xr_decode.proofs.variable.variable_of.Goals as goal
 
 pub decode_var-requires-clause-whole : goal.decode_var-requires-clause-whole
@@ -35,4 +34,4 @@ returns-clause-node c =
     }
 
 pub returns-clause-cells : goal.returns-clause-cells
-returns-clause-cells c = node_cells c.args.plan.now c.push.new.self _ c.in_ok-node.node (var_shape c.args.source.now c.args.var.now) c.kind-kind.result c.in_ok-node.ensures.ok (returns-clause-node c)
+returns-clause-cells c = cells_added c.args.plan.now c.push.new.self _ c.in_ok-node.node (var_shape c.args.source.now c.args.var.now) c.in_ok-node.ensures.ok (returns-clause-node c).has_shape
