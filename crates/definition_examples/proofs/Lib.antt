@@ -10,3 +10,4 @@ mod EncodingExamples
 mod DatasetExamples
 mod CallExamples
 mod CarryExamples
+mod OperatorRows

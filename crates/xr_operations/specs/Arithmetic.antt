@@ -16,15 +16,18 @@ use Rattle.xr_types.specs.declared.operation.How.TheVariants as how
 use Rattle.xr_types.specs.declared.operation.OpKind.{OpKind}
 use Rattle.xr_types.specs.declared.operation.OpKind.TheVariants as ops
 use Rattle.xr_arrays.specs.Arrays.{Array, at}
-use Rattle.xr_arrays.specs.Elements.{elem, unary_of}
+use Rattle.xr_arrays.specs.Elements.{elem, is_comparison, result_kind, unary_of}
 use Rattle.xr_defs.specs.Arguments.{wrong}
 use Rattle.xr_defs.specs.Building.{is_chars, is_integer_kind, truth_number}
 use Rattle.xr_defs.specs.Carrying.{attr_rule, coord_rule, name_rule}
+use Rattle.xr_defs.specs.declared.carrying.Carry.{Carry}
 use Rattle.xr_defs.specs.declared.carrying.Carry.TheVariants as carry
 use Rattle.xr_defs.specs.Meanings as of
 use Rattle.xr_defs.specs.Meanings.{Value}
 use Rattle.xr_defs.specs.Selecting.{check_array}
 use Rattle.xr_defs.specs.Values.{DataArray, array_of}
+use Rattle.xr_operations.specs.declared.side.Side.{Side}
+use Rattle.xr_operations.specs.declared.side.Side.TheVariants.{Left, Right}
 use Rattle.xr_operations.specs.Alignment.{aligned, fitted}
 
 -- ---- operators by what they take
@@ -65,13 +68,6 @@ sort_of ops.NotNull = Division
 sort_of ops.FillNa = Division
 sort_of ops.Cast = Division
 
-abbrev pub compares : Sort → Bool
-compares Equality = true
-compares Order = true
-compares Arithmetic = false
-compares Bitwise = false
-compares Division = false
-
 abbrev pub is_truths : DType → Bool
 is_truths t = not (is_integer_kind t || is_chars t)
 
@@ -88,9 +84,6 @@ check_kinds Division t u = unless (not (is_chars t || is_chars u)) WrongKind >>=
 -- the kind that both operands become
 unfoldable pub common_kind : OpKind → DType → DType → Result DType Fault
 common_kind op t u = check_kinds (sort_of op) t u >>= λ v. elim (promoted t u) [ None ↦ Err WouldPromote | Some k ↦ Ok k ]
-
-abbrev pub result_kind : OpKind → DType → DType
-result_kind op t = if compares (sort_of op) then kinds.Bool else t
 
 -- ---- broadcasting by dimension names
 
@@ -133,33 +126,31 @@ of_two_arrays op a b =
 
 -- ---- an array and a literal
 
-pub data Side : Type 0 where
-  OnTheLeft : Side
-  OnTheRight : Side
-
 -- the cell with the literal on its side
 abbrev pub beside : Side → OpKind → DType → Option ℤ → ℤ → Option ℤ
-beside OnTheLeft op t x n = elem op t (Some n) x
-beside OnTheRight op t x n = elem op t x (Some n)
+beside Left op t x n = elem op t (Some n) x
+beside Right op t x n = elem op t x (Some n)
 
 -- the array keeps its name, coordinates and attributes, but for those that name fill numbers
 unfoldable pub with_literal : Side → OpKind → DType → ℤ → DataArray → DataArray
 with_literal side op t n a =
     record {
-      name = name_rule carry.Method (a ∷ []);
+      name = a.name;
       axes = a.axes;
       kind = result_kind op t;
       masked = a.masked;
       attrs = attr_rule carry.Method (a ∷ []);
-      coords = coord_rule (a ∷ []) a.axes;
-      cells = map (λ x. beside side op t x n) (unary_of ops.Cast t (array_of a)).cells;
+      coords = a.coords;
+      cells = tab (shape_over a.axes) (λ p. beside side op t (at (unary_of ops.Cast t (array_of a)) p) n);
     }
+
+abbrev pub number_kind : DType → DType
+number_kind t = if is_truths t then kinds.Int64 else t
 
 -- a whole number has the array's kind, and int64 with truth values; in a comparison it is compared as it is
 unfoldable pub of_number : Side → OpKind → DataArray → ℤ → Result DataArray Fault
 of_number side op a n =
-    common_kind op a.kind (if is_truths a.kind then kinds.Int64 else a.kind) >>= λ t.
-    unless (compares (sort_of op) || in_range t n) DoesNotFit >>= λ u. Ok (with_literal side op t n a)
+    common_kind op a.kind (number_kind a.kind) >>= λ t. unless (is_comparison op || in_range t n) DoesNotFit >>= λ u. Ok (with_literal side op t n a)
 
 abbrev pub takes_truths : Sort → Bool
 takes_truths Bitwise = true
@@ -169,28 +160,36 @@ takes_truths Order = false
 takes_truths Division = false
 
 -- a truth value goes with truth values alone
+abbrev pub check_truths : OpKind → DType → Result (Unit {0}) Fault
+check_truths op t = unless (is_truths t && takes_truths (sort_of op)) WrongKind
+
 unfoldable pub of_truth : Side → OpKind → DataArray → Bool → Result DataArray Fault
-of_truth side op a b = unless (is_truths a.kind && takes_truths (sort_of op)) WrongKind >>= λ u. Ok (with_literal side op kinds.Bool (truth_number b) a)
+of_truth side op a b = check_truths op a.kind >>= λ u. Ok (with_literal side op kinds.Bool (truth_number b) a)
 
 -- ---- expressions
 
 unfoldable pub binary_called : OpKind → Value → Value → Result Value Fault
 binary_called op (of.Array a) (of.Array b) = of_two_arrays op a b >>= λ c. Ok (of.Array c)
-binary_called op (of.Array a) (of.Number n) = of_number OnTheRight op a n >>= λ c. Ok (of.Array c)
-binary_called op (of.Number n) (of.Array a) = of_number OnTheLeft op a n >>= λ c. Ok (of.Array c)
-binary_called op (of.Array a) (of.Truth b) = of_truth OnTheRight op a b >>= λ c. Ok (of.Array c)
-binary_called op (of.Truth b) (of.Array a) = of_truth OnTheLeft op a b >>= λ c. Ok (of.Array c)
+binary_called op (of.Array a) (of.Number n) = of_number Right op a n >>= λ c. Ok (of.Array c)
+binary_called op (of.Number n) (of.Array a) = of_number Left op a n >>= λ c. Ok (of.Array c)
+binary_called op (of.Array a) (of.Truth b) = of_truth Right op a b >>= λ c. Ok (of.Array c)
+binary_called op (of.Truth b) (of.Array a) = of_truth Left op a b >>= λ c. Ok (of.Array c)
 binary_called op v w = wrong
 
--- unary minus of integers, `~` of integers and truth values
+-- ---- one array
+
+-- an operation on each of its cells
+abbrev pub mapped : OpKind → DType → Bool → Carry → DataArray → DataArray
+mapped op t masked by a = record a { kind = t; masked = masked; attrs = attr_rule by (a ∷ []); cells = (unary_of op t (array_of a)).cells }
+
+-- unary minus of integers, `~` of integers and truth values; no other operator stands before an expression
 unfoldable pub check_unary : OpKind → DType → Result (Unit {0}) Fault
 check_unary ops.Negate t = unless (is_integer_kind t) WrongKind
-check_unary op t = unless (not (is_chars t)) WrongKind
+check_unary ops.Invert t = unless (not (is_chars t)) WrongKind
+check_unary op t = wrong
 
 unfoldable pub of_one_array : OpKind → DataArray → Result DataArray Fault
-of_one_array op a =
-    check_unary op a.kind >>= λ u.
-    Ok (record a { attrs = attr_rule carry.Method (a ∷ []); coords = coord_rule (a ∷ []) a.axes; cells = (unary_of op a.kind (array_of a)).cells })
+of_one_array op a = check_unary op a.kind >>= λ u. Ok (mapped op a.kind a.masked carry.Method a)
 
 unfoldable pub unary_called : OpKind → Value → Result Value Fault
 unary_called op (of.Array a) = of_one_array op a >>= λ b. Ok (of.Array b)

@@ -13,7 +13,8 @@ use Rattle.xr_types.specs.declared.kind.DType.TheVariants as kinds
 use Rattle.xr_types.specs.declared.operation.How.TheVariants as how
 use Rattle.xr_types.specs.declared.operation.OpKind.{OpKind}
 use Rattle.xr_types.specs.declared.operation.OpKind.TheVariants as ops
-use Rattle.xr_arrays.specs.Elements.{choose, elem, unary_of}
+use Rattle.xr_arrays.specs.Arrays.{at}
+use Rattle.xr_arrays.specs.Elements.{choose, elem}
 use Rattle.xr_defs.specs.Arguments.{wrong, unfit, only, as_text, nothing_given}
 use Rattle.xr_defs.specs.Building.{argument, bound, is_chars, kind_named, kinds_named, option, required, truth_number}
 use Rattle.xr_defs.specs.Carrying.{attr_rule, coord_rule, name_rule}
@@ -24,14 +25,9 @@ use Rattle.xr_defs.specs.Meanings.{Given, Value}
 use Rattle.xr_defs.specs.Selecting.{check_array}
 use Rattle.xr_defs.specs.Values.{DataArray, array_of}
 use Rattle.xr_operations.specs.Alignment.{aligned, fitted}
-use Rattle.xr_operations.specs.Arithmetic.{cell_along, is_truths}
+use Rattle.xr_operations.specs.Arithmetic.{cell_along, is_truths, mapped}
 
 -- ---- astype(kind), isnull(), notnull()
-
--- an array with an operation on each of its cells
-abbrev pub mapped : OpKind → DType → Bool → Carry → DataArray → DataArray
-mapped op t masked by a =
-    record a { kind = t; masked = masked; attrs = attr_rule by (a ∷ []); cells = (unary_of op t (array_of a)).cells }
 
 unfoldable pub tested : OpKind → DataArray → Given → Result DataArray Fault
 tested op a g = nothing_given g >>= λ u. Ok (mapped op kinds.Bool false carry.Method a)
@@ -61,10 +57,15 @@ unfoldable pub one_of : List Value → List (List ℕ × Value) → Result Value
 one_of (v ∷ []) [] = Ok v
 one_of plain keyed = unfit
 
+abbrev pub the_one : Given → Result Value Fault
+the_one g = one_of g.plain g.keyed
+
+abbrev pub filled_with : ℤ → DataArray → DataArray
+filled_with n a =
+    record a { masked = false; attrs = attr_rule carry.Keep (a ∷ []); cells = tab (shape_over a.axes) (λ p. elem ops.FillNa a.kind (at (array_of a) p) (Some n)) }
+
 unfoldable pub fill_called : DataArray → Given → Result DataArray Fault
-fill_called a g =
-    one_of g.plain g.keyed >>= λ v. literal_for a.kind v >>= λ n. check_fits a.kind n >>= λ u.
-    Ok (record a { masked = false; attrs = attr_rule carry.Keep (a ∷ []); cells = map (λ x. elem ops.FillNa a.kind x (Some n)) a.cells })
+fill_called a g = the_one g >>= λ v. literal_for a.kind v >>= λ n. check_fits a.kind n >>= λ u. Ok (filled_with n a)
 
 -- ---- where(cond, x, y)
 

@@ -1,3 +1,4 @@
 pub mod Alignment
 pub mod Arithmetic
 pub mod CellMethods
+pub mod Methods

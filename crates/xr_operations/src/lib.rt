@@ -1,3 +1,7 @@
 //! The definitions of calls that compute over arrays: alignment by labels, arithmetic, and methods on cells. Each says in `specs/`
 //! what a call has to give, one cell at a time by its labels.
 #![tactic(auto)]
+
+mod side;
+
+pub use side::Side;
