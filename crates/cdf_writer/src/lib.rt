@@ -16,4 +16,6 @@ mod values;
 pub use answer::{Layout, WriteFault};
 pub use laws::reads_again;
 pub use measure::layout;
+pub use room::width;
+pub use size::{header_size, padded_size};
 pub use spell::{write, write_pieces};

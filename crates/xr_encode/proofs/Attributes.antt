@@ -4,14 +4,14 @@ use Rattle.std.specs.Prelude.{◌&&◌, ◌||◌, not, unwrap_or, is_none, is_so
 use Rattle.std.specs.List.{join_with_byte}
 use Rattle.std.proofs.lemmas.List.{at_drop_more}
 use Rattle.xr_types.specs.declared.attr.Attr.{Attr}
-use Rattle.xr_types.specs.declared.kind.DType.{DType}
+use Rattle.xr_types.specs.declared.attr.NcType.{NcType}
 use Rattle.xr_defs.specs.declared.write_options.WriteOptions.{WriteOptions}
 use Rattle.xr_types.specs.Results.{◌>>=◌, unless}
 use Rattle.xr_defs.specs.Decoding.{is_attr, own_fill, fill_numbers, attr_numbers, the_one}
-use Rattle.xr_defs.specs.Encoding.{Stored, type_of, holds, first_of, fill_for, own_attr, fill_added, check_fit, text_attr, dtype_added, coordinates_added, attrs_of}
+use Rattle.xr_defs.specs.Encoding.{Stored, type_of, written_type, holds, first_of, fill_for, own_attr, fill_added, check_fit, text_attr, dtype_added, coordinates_added, attrs_of}
 use Rattle.xr_encode.specs.declared.outline.Outline.{Outline}
 use Rattle.xr_encode.specs.Outlines.{without_cells}
-use Rattle.xr_encode.specs.Attributes.{fill_of_kind, fill_in_use, written_anew, option_in_use, fill_given}
+use Rattle.xr_encode.specs.Attributes.{fill_of_type, fill_in_use, written_anew, option_in_use, fill_given}
 
 -- a name more behind a blank
 pub join_more : (t name : List ℕ) (rest : List (List ℕ)) → join_with_byte 32 (((t ++ 32 ∷ []) ++ name) ∷ rest) ≡ join_with_byte 32 (t ∷ name ∷ rest)
@@ -26,7 +26,7 @@ passed true true e f is = (refl, refl)
 passed true false e f is = cc
 passed false b e f is = cc
 
-pub fits_type : (options : WriteOptions) (o : Stored) → check_fit options o ≡ Ok tt → (not o.masked || holds (type_of o.kind) (unwrap_or (fill_for options o) (pos 0))) ≡ true
+pub fits_type : (options : WriteOptions) (o : Stored) → check_fit options o ≡ Ok tt → (not o.masked || holds (type_of options.version o.kind) (unwrap_or (fill_for options o) (pos 0))) ≡ true
 unfolding check_fit
 fits_type options o ok = (passed _ _ _ _ ok).1
 
@@ -35,8 +35,8 @@ where_masked true holds e m = e
 where_masked false holds e m = cc
 
 -- a number that is in use is one of the type
-pub holds_in_use : (options : WriteOptions) (o : Stored) (n : ℤ) → check_fit options o ≡ Ok tt → o.masked ≡ true → fill_for options o ≡ Some n → holds (type_of o.kind) n ≡ true
-holds_in_use options o n ok masked is = ap (λ f. holds (type_of o.kind) (unwrap_or f (pos 0))) (sym is) ∙ where_masked o.masked (holds (type_of o.kind) (unwrap_or (fill_for options o) (pos 0))) (fits_type options o ok) masked
+pub holds_in_use : (options : WriteOptions) (o : Stored) (n : ℤ) → check_fit options o ≡ Ok tt → o.masked ≡ true → fill_for options o ≡ Some n → holds (type_of options.version o.kind) n ≡ true
+holds_in_use options o n ok masked is = ap (λ f. holds (type_of options.version o.kind) (unwrap_or f (pos 0))) (sym is) ∙ where_masked o.masked (holds (type_of options.version o.kind) (unwrap_or (fill_for options o) (pos 0))) (fits_type options o ok) masked
 
 -- ---- the attributes that it has
 
@@ -48,12 +48,12 @@ own_first (m ∷ k ∷ ns) ms n e = cc
 own_is_used : (options : WriteOptions) (o : Outline) (n : ℤ) → first_of (own_fill o.attrs) ≡ Some n → fill_for options (without_cells o) ≡ Some n
 own_is_used options o n e = ap (λ f. elim f [ Some m ↦ Some m | None ↦ options.fill ]) (own_first (attr_numbers (codes "_FillValue") o.attrs) (attr_numbers (codes "missing_value") o.attrs) n e)
 
-masked_use : (options : WriteOptions) (o : Outline) (masked : Bool) (f : Option ℤ) → check_fit options (without_cells o) ≡ Ok tt → o.masked ≡ masked → first_of (own_fill o.attrs) ≡ f → IfSome (cond masked f None) (λ n. holds (type_of o.kind) n ≡ true)
+masked_use : (options : WriteOptions) (o : Outline) (masked : Bool) (f : Option ℤ) → check_fit options (without_cells o) ≡ Ok tt → o.masked ≡ masked → first_of (own_fill o.attrs) ≡ f → IfSome (cond masked f None) (λ n. holds (type_of options.version o.kind) n ≡ true)
 masked_use options o false f ok m e = tt
 masked_use options o true None ok m e = tt
 masked_use options o true (Some n) ok m e = holds_in_use options (without_cells o) n ok m (own_is_used options o n e)
 
-pub own_holds : (options : WriteOptions) (o : Outline) → check_fit options (without_cells o) ≡ Ok tt → IfSome (fill_in_use o) (λ n. holds (type_of o.kind) n ≡ true)
+pub own_holds : (options : WriteOptions) (o : Outline) → check_fit options (without_cells o) ≡ Ok tt → IfSome (fill_in_use o) (λ n. holds (type_of options.version o.kind) n ≡ true)
 own_holds options o ok = masked_use options o o.masked (first_of (own_fill o.attrs)) ok refl refl
 
 never : {X : Type 0} (b : Bool) (x y : X) → cond (b && false) x y ≡ y
@@ -64,38 +64,39 @@ always : {X : Type 0} (b : Bool) (x y : X) → cond (b && true) x y ≡ cond b x
 always true x y = refl
 always false x y = refl
 
-anew : (kind : DType) (masked : Bool) (ns ms : List ℤ) (a : Attr) → cond (masked && is_attr (codes "_FillValue") a && not (length (the_one ns) == 0)) (fill_of_kind kind (unwrap_or (first_of (the_one ns ++ ms)) (pos 0))) a ≡ written_anew kind (cond masked (first_of (the_one ns)) None) a
-anew kind false ns ms a = refl
-anew kind true [] ms a = never (is_attr (codes "_FillValue") a) (fill_of_kind kind (unwrap_or (first_of ms) (pos 0))) a
-anew kind true (n ∷ []) ms a = always (is_attr (codes "_FillValue") a) (fill_of_kind kind n) a
-anew kind true (n ∷ m ∷ ns) ms a = never (is_attr (codes "_FillValue") a) (fill_of_kind kind (unwrap_or (first_of ms) (pos 0))) a
+anew : (t : NcType) (masked : Bool) (ns ms : List ℤ) (a : Attr) → cond (masked && is_attr (codes "_FillValue") a && not (length (the_one ns) == 0)) (fill_of_type t (unwrap_or (first_of (the_one ns ++ ms)) (pos 0))) a ≡ written_anew t (cond masked (first_of (the_one ns)) None) a
+anew t false ns ms a = refl
+anew t true [] ms a = never (is_attr (codes "_FillValue") a) (fill_of_type t (unwrap_or (first_of ms) (pos 0))) a
+anew t true (n ∷ []) ms a = always (is_attr (codes "_FillValue") a) (fill_of_type t n) a
+anew t true (n ∷ m ∷ ns) ms a = never (is_attr (codes "_FillValue") a) (fill_of_type t (unwrap_or (first_of ms) (pos 0))) a
 
-pub own_is : (o : Outline) (a : Attr) → own_attr (without_cells o) a ≡ written_anew o.kind (fill_in_use o) a
-own_is o a = anew o.kind o.masked (attr_numbers (codes "_FillValue") o.attrs) (attr_numbers (codes "missing_value") o.attrs) a
+pub own_is : (options : WriteOptions) (o : Outline) (a : Attr) → own_attr options (without_cells o) a ≡ written_anew (type_of options.version o.kind) (fill_in_use o) a
+own_is options o a = anew (type_of options.version o.kind) o.masked (attr_numbers (codes "_FillValue") o.attrs) (attr_numbers (codes "missing_value") o.attrs) a
 
-pub own_are : (o : Outline) (attrs : List Attr) → map (written_anew o.kind (fill_in_use o)) attrs ≡ map (own_attr (without_cells o)) attrs
-own_are o [] = refl
-own_are o (a ∷ attrs) = ap (λ b. b ∷ map (written_anew o.kind (fill_in_use o)) attrs) (sym (own_is o a)) ∙ ap (λ bs. own_attr (without_cells o) a ∷ bs) (own_are o attrs)
+pub own_are : (options : WriteOptions) (o : Outline) (attrs : List Attr) → map (written_anew (type_of options.version o.kind) (fill_in_use o)) attrs ≡ map (own_attr options (without_cells o)) attrs
+own_are options o [] = refl
+own_are options o (a ∷ attrs) =
+    ap (λ b. b ∷ map (written_anew (type_of options.version o.kind) (fill_in_use o)) attrs) (sym (own_is options o a)) ∙ ap (λ bs. own_attr options (without_cells o) a ∷ bs) (own_are options o attrs)
 
 -- ---- the option's number
 
-given : (kind : DType) (masked : Bool) (fills : List ℤ) (option : Option ℤ) → cond (masked && is_none (first_of fills) && is_some option) (fill_of_kind kind (unwrap_or option (pos 0)) ∷ []) [] ≡ fill_given kind (cond (masked && is_none (first_of fills) && is_some option) option None)
-given kind false fills option = refl
-given kind true (n ∷ fills) option = refl
-given kind true [] None = refl
-given kind true [] (Some n) = refl
+given : (t : NcType) (masked : Bool) (fills : List ℤ) (option : Option ℤ) → cond (masked && is_none (first_of fills) && is_some option) (fill_of_type t (unwrap_or option (pos 0)) ∷ []) [] ≡ fill_given t (cond (masked && is_none (first_of fills) && is_some option) option None)
+given t false fills option = refl
+given t true (n ∷ fills) option = refl
+given t true [] None = refl
+given t true [] (Some n) = refl
 
-pub option_is : (options : WriteOptions) (o : Outline) → fill_given o.kind (option_in_use options o) ≡ fill_added options (without_cells o)
-option_is options o = sym (given o.kind o.masked (fill_numbers o.attrs) options.fill)
+pub option_is : (options : WriteOptions) (o : Outline) → fill_given (type_of options.version o.kind) (option_in_use options o) ≡ fill_added options (without_cells o)
+option_is options o = sym (given (type_of options.version o.kind) o.masked (fill_numbers o.attrs) options.fill)
 
 used : (options : WriteOptions) (o : Outline) (masked : Bool) (fills : List ℤ) (option : Option ℤ) → check_fit options (without_cells o) ≡ Ok tt → o.masked ≡ masked → fill_numbers o.attrs ≡ fills → options.fill ≡ option
-    → IfSome (cond (masked && is_none (first_of fills) && is_some option) option None) (λ n. holds (type_of o.kind) n ≡ true)
+    → IfSome (cond (masked && is_none (first_of fills) && is_some option) option None) (λ n. holds (type_of options.version o.kind) n ≡ true)
 used options o false fills option ok m f e = tt
 used options o true (k ∷ fills) option ok m f e = tt
 used options o true [] None ok m f e = tt
 used options o true [] (Some n) ok m f e = holds_in_use options (without_cells o) n ok m (ap (λ ns. elim (first_of ns) [ Some k ↦ Some k | None ↦ options.fill ]) f ∙ e)
 
-pub option_holds : (options : WriteOptions) (o : Outline) → check_fit options (without_cells o) ≡ Ok tt → IfSome (option_in_use options o) (λ n. holds (type_of o.kind) n ≡ true)
+pub option_holds : (options : WriteOptions) (o : Outline) → check_fit options (without_cells o) ≡ Ok tt → IfSome (option_in_use options o) (λ n. holds (type_of options.version o.kind) n ≡ true)
 option_holds options o ok = used options o o.masked (fill_numbers o.attrs) options.fill ok refl refl refl
 
 -- ---- what is put one behind the other
@@ -109,11 +110,11 @@ pub listed : (names : List (List ℕ)) (first raw : List ℕ) (a : Attr) → 1 �
 listed [] first raw a some is text made = absurd (omega arith)
 listed (n ∷ names) first raw a some is text made = ap (λ b. b ∷ []) made ∙ ap (λ t. text_attr (codes "coordinates") t ∷ []) (text ∙ ap (λ m. join_with_byte 32 (m ∷ names)) is)
 
-pub attrs_made : (options : WriteOptions) (o : Outline) (own option : Option ℤ) (a b c d e : List Attr) → a ≡ [] → own ≡ fill_in_use o → option ≡ option_in_use options o → b ≡ a ++ map (written_anew o.kind own) o.attrs → c ≡ b ++ dtype_added o.kind → d ≡ c ++ fill_given o.kind option
-    → e ≡ d ++ coordinates_added o.lists → e ≡ attrs_of options (without_cells o)
-attrs_made options o own option a b c d e is_a is_own is_option is_b is_c is_d is_e =
-    let mine : List Attr = map (own_attr (without_cells o)) o.attrs in
-    let b_is : b ≡ mine = is_b ∙ ap (λ l. l ++ map (written_anew o.kind own) o.attrs) is_a ∙ ap (λ n. map (written_anew o.kind n) o.attrs) is_own ∙ own_are o o.attrs in
-    let given_is : fill_given o.kind option ≡ fill_added options (without_cells o) = ap (fill_given o.kind) is_option ∙ option_is options o in
+pub attrs_made : (options : WriteOptions) (o : Outline) (t : NcType) (own option : Option ℤ) (a b c d e : List Attr) → t ≡ type_of options.version o.kind → a ≡ [] → own ≡ fill_in_use o → option ≡ option_in_use options o → b ≡ a ++ map (written_anew t own) o.attrs → c ≡ b ++ dtype_added o.kind
+    → d ≡ c ++ fill_given t option → e ≡ d ++ coordinates_added o.lists → e ≡ attrs_of options (without_cells o)
+attrs_made options o t own option a b c d e is_t is_a is_own is_option is_b is_c is_d is_e =
+    let mine : List Attr = map (own_attr options (without_cells o)) o.attrs in
+    let b_is : b ≡ mine = is_b ∙ ap (λ l. l ++ map (written_anew t own) o.attrs) is_a ∙ ap (λ n. map (written_anew t n) o.attrs) is_own ∙ ap (λ u. map (written_anew u (fill_in_use o)) o.attrs) is_t ∙ own_are options o o.attrs in
+    let given_is : fill_given t option ≡ fill_added options (without_cells o) = ap (fill_given t) is_option ∙ ap (λ u. fill_given u (option_in_use options o)) is_t ∙ option_is options o in
     is_e ∙ ap (λ l. l ++ coordinates_added o.lists) (is_d ∙ ap (λ l. c ++ l) given_is ∙ ap (λ l. l ++ fill_added options (without_cells o)) (is_c ∙ ap (λ l. l ++ dtype_added o.kind) b_is))
     ∙ append_assoc (mine ++ dtype_added o.kind) (fill_added options (without_cells o)) (coordinates_added o.lists) ∙ append_assoc mine (dtype_added o.kind) (fill_added options (without_cells o) ++ coordinates_added o.lists)

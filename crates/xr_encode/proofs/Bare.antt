@@ -7,7 +7,7 @@ use Rattle.xr_files.specs.declared.file.CdfFile.{CdfFile}
 use Rattle.xr_arrays.specs.declared.node.Node.{Node}
 use Rattle.xr_defs.specs.declared.write_options.WriteOptions.{WriteOptions}
 use Rattle.xr_files.specs.Files.{magic, most_bytes, padded}
-use Rattle.xr_files.specs.Canonical.{number_text, list_text, dim_text, attr_text, var_text, header_size, is_record, fixed_vars, record_vars, room, slab, fixed_size, recsize, is_small}
+use Rattle.xr_files.specs.Canonical.{number_text, count_text, list_text, dim_text, attr_text, var_text, header_size, is_record, fixed_vars, record_vars, room, slab, fixed_size, recsize, is_small}
 use Rattle.xr_defs.specs.Encoding.{Stored, stored, encoded, var_of, dims_of, coordinates_added, listed_by_none}
 use Rattle.xr_values.specs.declared.dataset.Dataset.{Dataset}
 use Rattle.xr_values.specs.Stands.{dataset_in}
@@ -35,15 +35,15 @@ count_bare : (vs : List CdfVar) → length (placed_at_0 (map bare vs)) ≡ lengt
 count_bare [] = refl
 count_bare (v ∷ vs) = ap suc (count_bare vs)
 
-list_bare : (version : ℕ) (dims : List CdfDim) (vs : List CdfVar) → list_text 11 (var_text version dims) (placed_at_0 (map bare vs)) ≡ list_text 11 (var_text version dims) (placed_at_0 vs)
+list_bare : (version : ℕ) (dims : List CdfDim) (vs : List CdfVar) → list_text version 11 (var_text version dims) (placed_at_0 (map bare vs)) ≡ list_text version 11 (var_text version dims) (placed_at_0 vs)
 list_bare version dims [] = refl
 list_bare version dims (v ∷ vs) =
-    ap (λ n. number_text 11 ++ (number_text (suc n) ++ flat_map (var_text version dims) (placed_at_0 (map bare (v ∷ vs))))) (count_bare vs)
-    ∙ ap (λ l. number_text 11 ++ (number_text (suc (length (placed_at_0 vs))) ++ l)) (texts_bare version dims (v ∷ vs))
+    ap (λ n. number_text 11 ++ (count_text version (suc n) ++ flat_map (var_text version dims) (placed_at_0 (map bare (v ∷ vs))))) (count_bare vs)
+    ∙ ap (λ l. number_text 11 ++ (count_text version (suc (length (placed_at_0 vs))) ++ l)) (texts_bare version dims (v ∷ vs))
 
 header_bare : (f : CdfFile) → header_size (bare_file f) ≡ header_size f
 header_bare f =
-    ap (λ l. length (magic f.version ++ (number_text f.numrecs ++ (list_text 10 dim_text f.dims ++ (list_text 12 attr_text f.attrs ++ l))))) (list_bare f.version f.dims f.vars)
+    ap (λ l. length (magic f.version ++ (count_text f.version f.numrecs ++ (list_text f.version 10 (dim_text f.version) f.dims ++ (list_text f.version 12 (attr_text f.version) f.attrs ++ l))))) (list_bare f.version f.dims f.vars)
 
 -- ---- values
 

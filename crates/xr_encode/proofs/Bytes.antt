@@ -11,10 +11,11 @@ use Rattle.std.specs.List.{list_all}
 use Rattle.std.proofs.lemmas.List.{take_more}
 use Rattle.std.proofs.lemmas.List.Elements.{All-head, All-tail, All-cons, All-nil, All-append, All-replicate}
 use Rattle.xr_types.specs.declared.attr.NcType.TheVariants.{Char}
+use Rattle.xr_types.specs.declared.kind.DType.TheVariants as kinds
 use Rattle.xr_defs.specs.Encoding.{holds, holds_cell, value_bytes, filled_up, text_width, text_cells}
 use Rattle.xr_encode.specs.Texts.{AreBytes}
 use Rattle.xr_encode.specs.Rows.{cells_bytes}
-use Rattle.xr_encode.proofs.Ranges.{and_both, between}
+use Rattle.xr_encode.proofs.Ranges.{and_both, in_range_is}
 
 abbrev IsText : List ℕ → Type 0
 IsText text = All (λ b. b < 256) text
@@ -73,7 +74,7 @@ utf8_bytes text u = subst IsText u.1.1 (chars_bytes u.0 u.1.0)
 
 -- a byte is a number of type char
 byte_holds : (b : ℕ) → b < 256 → holds Char (pos b) ≡ true
-byte_holds b lt = between (pos 0) (pos 255) (pos b) (omega (arith, ints)) (omega (arith, ints))
+byte_holds b lt = in_range_is kinds.Char (pos b) (omega (arith, ints), omega (arith, ints))
 
 bytes_hold : (bs : List ℕ) → IsText bs → list_all (holds_cell Char) (map (λ b. Some (pos b)) bs) ≡ true
 bytes_hold [] all = refl

@@ -1,5 +1,5 @@
 -- Of a file that is small all counts and lengths fit their fields.
-use Rattle.std.proofs.Common.{◌≡◌, ◌<◌, ◌≤◌, ◌+◌, ◌*◌, ◌/◌, ◌^◌, ℕ, suc, Bool, true, false, cond, List, [], ◌∷◌, length, map, sum, refl, ap, arith, length-append}
+use Rattle.std.proofs.Common.{◌≡◌, ◌<◌, ◌≤◌, ◌+◌, ◌*◌, ◌/◌, ℕ, suc, Bool, true, false, cond, List, [], ◌∷◌, length, map, sum, refl, ap, arith, length-append}
 use Rattle.std.specs.Prelude.{not, ◌&&◌, ◌==◌, filter, flat_map, nat_le, if◌then◌else◌}
 use Rattle.std.specs.List.{AllByRecursion}
 use Rattle.std.proofs.lemmas.Bool.{and_parts}
@@ -7,7 +7,7 @@ use Rattle.std.proofs.lemmas.List.Sums.{sum_by-cons}
 use Rattle.std.proofs.lemmas.Bool.{leb-true}
 use Rattle.xr_types.specs.declared.attr.Attr.{Attr}
 use Rattle.xr_types.specs.declared.attr.NcType.{NcType}
-use Rattle.xr_types.specs.declared.attr.NcType.TheVariants.{Byte, Char, Short, Int, Float, Double}
+use Rattle.xr_types.specs.declared.attr.NcType.TheVariants.{Byte, Char, Short, Int, Float, Double, UByte, UShort, UInt, Int64, UInt64}
 use Rattle.xr_files.specs.declared.file.CdfDim.{CdfDim}
 use Rattle.xr_files.specs.declared.file.CdfVar.{CdfVar}
 use Rattle.xr_files.specs.declared.file.CdfFile.{CdfFile}
@@ -15,9 +15,12 @@ use Rattle.xr_types.specs.Widths.{width}
 use Rattle.xr_files.specs.Classic.{attr_names}
 use Rattle.xr_files.specs.Files.{most_bytes, padded}
 use Rattle.xr_types.specs.Names.{are_distinct}
-use Rattle.xr_files.specs.Canonical.{number_text, name_text, dim_text, attr_text, var_text, list_text, header_size, is_record, record_vars, room, slab, recsize, canonical_size, is_small, IsAttr, AreAttrs}
+use Rattle.xr_files.specs.Canonical.{count_text, name_text, dim_text, attr_text, var_text, list_text, header_size, is_record, record_vars, room, slab, recsize, canonical_size, is_small, Fits, IsAttr, AreAttrs}
 use Rattle.xr_defs.specs.WellFormed.{IsAttribute}
-use Rattle.cdf_writer.proofs.Lengths.{name_length, list_length, var_length}
+use Rattle.xr_files.proofs.Counts.{small_fits}
+use Rattle.cdf_writer.specs.Sizes.{count_bytes}
+use Rattle.cdf_writer.proofs.Lengths.{name_length, list_length, var_length, count_length}
+use Rattle.std.proofs.lemmas.Nat.{mul-le}
 use Rattle.xr_encode.proofs.Distinct.{weaken, all_with}
 
 -- no field counts more than this
@@ -40,23 +43,34 @@ count_fits entry some (x ∷ xs) =
     let rest = count_fits entry some xs in
     omega arith
 
-name_fits : (t : List ℕ) → length t ≤ length (name_text t)
-name_fits t = let long = name_length t in omega arith
+-- what is no more than the most fits each version
+fits : (version n : ℕ) → n ≤ most → Fits version n
+fits version n le = small_fits version n (omega arith)
 
-dim_length : (d : CdfDim) → length (dim_text d) ≡ length (name_text d.name) + 4
-dim_length d = length-append (name_text d.name) (number_text d.len)
+some_by : (b : Bool) → 4 ≤ (if b then 8 else 4)
+some_by true = omega arith
+some_by false = omega arith
 
-pub dim_some : (d : CdfDim) → 1 ≤ length (dim_text d)
-dim_some d = let long = dim_length d in omega arith
+some_count : (version : ℕ) → 4 ≤ count_bytes version
+some_count version = some_by (version == 5)
 
-pub dim_name : (d : CdfDim) → length (dim_text d) ≤ most → length d.name < 2 ^ 32
-dim_name d le = let long = dim_length d in let name = name_fits d.name in omega arith
+name_fits : (version : ℕ) (t : List ℕ) → length t ≤ length (name_text version t)
+name_fits version t = let long = name_length version t in omega arith
 
-attr_length : (a : Attr) → length (name_text a.name) + (8 + length a.raw) ≤ length (attr_text a)
-attr_length a = simp (length-append) (omega arith)
+dim_length : (version : ℕ) (d : CdfDim) → length (dim_text version d) ≡ length (name_text version d.name) + length (count_text version d.len)
+dim_length version d = length-append (name_text version d.name) (count_text version d.len)
 
-pub attr_some : (a : Attr) → 1 ≤ length (attr_text a)
-attr_some a = let long = attr_length a in omega arith
+pub dim_some : (version : ℕ) (d : CdfDim) → 1 ≤ length (dim_text version d)
+dim_some version d = let long = dim_length version d in let count = count_length version d.len in let some = some_count version in omega arith
+
+pub dim_name : (version : ℕ) (d : CdfDim) → length (dim_text version d) ≤ most → Fits version (length d.name)
+dim_name version d le = let long = dim_length version d in let name = name_fits version d.name in fits version (length d.name) (omega arith)
+
+attr_length : (version : ℕ) (a : Attr) → length (name_text version a.name) + (4 + length a.raw) ≤ length (attr_text version a)
+attr_length version a = simp (length-append) (omega arith)
+
+pub attr_some : (version : ℕ) (a : Attr) → 1 ≤ length (attr_text version a)
+attr_some version a = let long = attr_length version a in omega arith
 
 fewer : (kind : NcType) (n : ℕ) → n / width kind ≤ n
 fewer Byte n = omega arith
@@ -65,23 +79,28 @@ fewer Short n = omega arith
 fewer Int n = omega arith
 fewer Float n = omega arith
 fewer Double n = omega arith
+fewer UByte n = omega arith
+fewer UShort n = omega arith
+fewer UInt n = omega arith
+fewer Int64 n = omega arith
+fewer UInt64 n = omega arith
 
-pub attr_good : (a : Attr) → IsAttribute a → length (attr_text a) ≤ most → IsAttr a
-attr_good a is le =
-    let long = attr_length a in
-    let name = name_fits a.name in
+pub attr_good : (version : ℕ) (a : Attr) → IsAttribute a → length (attr_text version a) ≤ most → IsAttr version a
+attr_good version a is le =
+    let long = attr_length version a in
+    let name = name_fits version a.name in
     let few = fewer a.kind (length a.raw) in
-    record { name = record { name = is.name; fits = omega arith }; whole = is.whole; fits = omega arith }
+    record { name = record { name = is.name; fits = fits version (length a.name) (omega arith) }; whole = is.whole; fits = fits version (length a.raw / width a.kind) (omega arith) }
 
 -- attributes of which the list fits
-pub attrs_good : (attrs : List Attr) → AllByRecursion IsAttribute attrs → are_distinct (attr_names attrs) ≡ true → length (list_text 12 attr_text attrs) ≤ most → AreAttrs attrs
-attrs_good attrs each distinct le =
-    let long = list_length 12 attr_text attrs in
-    let count = count_fits attr_text attr_some attrs in
+pub attrs_good : (version : ℕ) (attrs : List Attr) → AllByRecursion IsAttribute attrs → are_distinct (attr_names attrs) ≡ true → length (list_text version 12 (attr_text version) attrs) ≤ most → AreAttrs version attrs
+attrs_good version attrs each distinct le =
+    let long = list_length version 12 (attr_text version) attrs in
+    let count = count_fits (attr_text version) (attr_some version) attrs in
     record {
-      each = all_with IsAttribute (λ a. length (attr_text a) ≤ most) IsAttr attr_good attrs each (entries_fit attr_text attrs (omega arith));
+      each = all_with IsAttribute (λ a. length (attr_text version a) ≤ most) (IsAttr version) (attr_good version) attrs each (entries_fit (attr_text version) attrs (omega arith));
       distinct = distinct;
-      fits = omega arith;
+      fits = fits version (length attrs) (omega arith);
     }
 
 -- ---- the header
@@ -90,27 +109,27 @@ pub small_header : (f : CdfFile) → is_small f ≡ true → header_size f ≤ m
 small_header f e = let le = leb-true (canonical_size f) most_bytes (and_parts (nat_le (canonical_size f) most_bytes) (nat_le (recsize f) most_bytes) e).0 in omega arith
 
 header_parts : (f : CdfFile)
-    → header_size f ≡ 8 + (length (list_text 10 dim_text f.dims) + (length (list_text 12 attr_text f.attrs) + length (list_text 11 (var_text f.version f.dims) (map (λ (v : CdfVar). (v, 0)) f.vars))))
+    → header_size f ≡ 4 + (length (count_text f.version f.numrecs) + (length (list_text f.version 10 (dim_text f.version) f.dims) + (length (list_text f.version 12 (attr_text f.version) f.attrs) + length (list_text f.version 11 (var_text f.version f.dims) (map (λ (v : CdfVar). (v, 0)) f.vars)))))
 header_parts f = simp (length-append) (omega arith)
 
-pub small_dims : (f : CdfFile) → is_small f ≡ true → length (list_text 10 dim_text f.dims) ≤ most
+pub small_dims : (f : CdfFile) → is_small f ≡ true → length (list_text f.version 10 (dim_text f.version) f.dims) ≤ most
 small_dims f e = let h = small_header f e in let p = header_parts f in omega arith
 
-pub small_attrs : (f : CdfFile) → is_small f ≡ true → length (list_text 12 attr_text f.attrs) ≤ most
+pub small_attrs : (f : CdfFile) → is_small f ≡ true → length (list_text f.version 12 (attr_text f.version) f.attrs) ≤ most
 small_attrs f e = let h = small_header f e in let p = header_parts f in omega arith
 
-pub small_vars : (f : CdfFile) → is_small f ≡ true → length (list_text 11 (var_text f.version f.dims) (map (λ (v : CdfVar). (v, 0)) f.vars)) ≤ most
+pub small_vars : (f : CdfFile) → is_small f ≡ true → length (list_text f.version 11 (var_text f.version f.dims) (map (λ (v : CdfVar). (v, 0)) f.vars)) ≤ most
 small_vars f e = let h = small_header f e in let p = header_parts f in omega arith
 
-pub dims_few : (f : CdfFile) → is_small f ≡ true → length f.dims < 2 ^ 32
+pub dims_few : (f : CdfFile) → is_small f ≡ true → Fits f.version (length f.dims)
 dims_few f e =
     let le = small_dims f e in
-    let long = list_length 10 dim_text f.dims in
-    let count = count_fits dim_text dim_some f.dims in
-    omega arith
+    let long = list_length f.version 10 (dim_text f.version) f.dims in
+    let count = count_fits (dim_text f.version) (dim_some f.version) f.dims in
+    fits f.version (length f.dims) (omega arith)
 
-pub dims_fit : (f : CdfFile) → is_small f ≡ true → AllByRecursion (λ d. length (dim_text d) ≤ most) f.dims
-dims_fit f e = let le = small_dims f e in let long = list_length 10 dim_text f.dims in entries_fit dim_text f.dims (omega arith)
+pub dims_fit : (f : CdfFile) → is_small f ≡ true → AllByRecursion (λ d. length (dim_text f.version d) ≤ most) f.dims
+dims_fit f e = let le = small_dims f e in let long = list_length f.version 10 (dim_text f.version) f.dims in entries_fit (dim_text f.version) f.dims (omega arith)
 
 unplaced : (version : ℕ) (dims : List CdfDim) (vs : List CdfVar) → AllByRecursion (λ (x : CdfVar × ℕ). length (var_text version dims x) ≤ most) (map (λ (v : CdfVar). (v, 0)) vs) → AllByRecursion (λ (v : CdfVar). length (var_text version dims (v, 0)) ≤ most) vs
 unplaced version dims [] all = tt
@@ -119,7 +138,7 @@ unplaced version dims (v ∷ vs) all = (all.0, unplaced version dims vs all.1)
 pub vars_fit : (f : CdfFile) → is_small f ≡ true → AllByRecursion (λ (v : CdfVar). length (var_text f.version f.dims (v, 0)) ≤ most) f.vars
 vars_fit f e =
     let le = small_vars f e in
-    let long = list_length 11 (var_text f.version f.dims) (map (λ (v : CdfVar). (v, 0)) f.vars) in
+    let long = list_length f.version 11 (var_text f.version f.dims) (map (λ (v : CdfVar). (v, 0)) f.vars) in
     unplaced f.version f.dims f.vars (entries_fit (var_text f.version f.dims) (map (λ (v : CdfVar). (v, 0)) f.vars) (omega arith))
 
 placed_count : (vs : List CdfVar) → length {A = CdfVar × ℕ} (map (λ (v : CdfVar). (v, 0)) vs) ≡ length vs
@@ -129,22 +148,26 @@ placed_count (v ∷ vs) = ap suc (placed_count vs)
 var_some : (version : ℕ) (dims : List CdfDim) (x : CdfVar × ℕ) → 1 ≤ length (var_text version dims x)
 var_some version dims x = let long = var_length version dims x.0 x.1 in omega arith
 
-pub vars_few : (f : CdfFile) → is_small f ≡ true → length f.vars < 2 ^ 32
+pub vars_few : (f : CdfFile) → is_small f ≡ true → Fits f.version (length f.vars)
 vars_few f e =
     let le = small_vars f e in
-    let long = list_length 11 (var_text f.version f.dims) (map (λ (v : CdfVar). (v, 0)) f.vars) in
+    let long = list_length f.version 11 (var_text f.version f.dims) (map (λ (v : CdfVar). (v, 0)) f.vars) in
     let count = count_fits (var_text f.version f.dims) (var_some f.version f.dims) (map (λ (v : CdfVar). (v, 0)) f.vars) in
     let same = placed_count f.vars in
-    omega arith
+    fits f.version (length f.vars) (omega arith)
 
 -- what the header holds of a variable
-pub var_name : (version : ℕ) (dims : List CdfDim) (v : CdfVar) → length (var_text version dims (v, 0)) ≤ most → length v.name < 2 ^ 32
-var_name version dims v le = let long = var_length version dims v 0 in let name = name_fits v.name in omega arith
+pub var_name : (version : ℕ) (dims : List CdfDim) (v : CdfVar) → length (var_text version dims (v, 0)) ≤ most → Fits version (length v.name)
+var_name version dims v le = let long = var_length version dims v 0 in let name = name_fits version v.name in fits version (length v.name) (omega arith)
 
-pub var_rank : (version : ℕ) (dims : List CdfDim) (v : CdfVar) → length (var_text version dims (v, 0)) ≤ most → length v.dims < 2 ^ 32
-var_rank version dims v le = let long = var_length version dims v 0 in omega arith
+pub var_rank : (version : ℕ) (dims : List CdfDim) (v : CdfVar) → length (var_text version dims (v, 0)) ≤ most → Fits version (length v.dims)
+var_rank version dims v le =
+    let long = var_length version dims v 0 in
+    let some = some_count version in
+    let each : length v.dims * 1 ≤ length v.dims * count_bytes version = mul-le (length v.dims) 1 (length v.dims) (count_bytes version) (omega arith) (omega arith) in
+    fits version (length v.dims) (omega arith)
 
-pub var_attrs : (version : ℕ) (dims : List CdfDim) (v : CdfVar) → length (var_text version dims (v, 0)) ≤ most → length (list_text 12 attr_text v.attrs) ≤ most
+pub var_attrs : (version : ℕ) (dims : List CdfDim) (v : CdfVar) → length (var_text version dims (v, 0)) ≤ most → length (list_text version 12 (attr_text version) v.attrs) ≤ most
 var_attrs version dims v le = let long = var_length version dims v 0 in omega arith
 
 -- ---- values

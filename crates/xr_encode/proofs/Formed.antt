@@ -13,6 +13,8 @@ use Rattle.std.proofs.lemmas.List.{map-append, length-map, length-replicate}
 use Rattle.std.proofs.lemmas.Str.{IsUtf8-append, IsUtf8-from_ascii, is_utf8-from_IsUtf8, IsUtf8-from_is_utf8}
 use Rattle.plan_core.proofs.Tabs.{suc_times}
 use Rattle.xr_types.specs.declared.attr.Attr.{Attr}
+use Rattle.xr_types.specs.declared.attr.NcType.{NcType}
+use Rattle.xr_types.specs.declared.attr.NcType.TheVariants.{Byte, Char, Short, Int}
 use Rattle.xr_types.specs.declared.axis.Axis.{Axis}
 use Rattle.xr_types.specs.declared.axis.Labels.{Labels}
 use Rattle.xr_types.specs.declared.axis.LabelList.{LabelList}
@@ -31,19 +33,22 @@ use Rattle.xr_types.specs.Results.{◌>>=◌, unless, all_of}
 use Rattle.xr_types.specs.Points.{size}
 use Rattle.xr_types.specs.Names.{among}
 use Rattle.xr_types.specs.Widths.{width}
-use Rattle.xr_files.specs.Classic.{attr_names, dim_names, is_name}
-use Rattle.xr_files.specs.Files.{is_version, positions, shape_of, streaming}
+use Rattle.xr_files.specs.Classic.{has_type, most_count, attr_names, dim_names, is_name}
+use Rattle.xr_files.specs.Files.{is_version, positions, shape_of}
 use Rattle.xr_types.specs.Names.{are_distinct}
-use Rattle.xr_files.specs.Canonical.{can_hold, in_place, count_record_dims, is_small, slab, dim_text, var_text, IsDim, IsVar, IsFile}
+use Rattle.xr_files.specs.Canonical.{can_hold, in_place, count_record_dims, is_small, slab, dim_text, var_text, has_types, can_hold_var, Fits, IsDim, IsVar, IsFile}
 use Rattle.xr_types.specs.Names.{axis_names, shape_over}
 use Rattle.xr_defs.specs.Values.{Dataset, Variable, label_count}
 use Rattle.xr_defs.specs.Selecting.{axis_called}
 use Rattle.xr_defs.specs.Printing.{by_name}
 use Rattle.xr_defs.specs.Decoding.{is_attr, is_blank, string_name}
-use Rattle.xr_defs.specs.Encoding.{Stored, type_of, value_bytes, text_width, filled_up, text_cells, stored, stored_index, stored_labels, stored_content, stored_coord, stored_variable, coord_names, index_width, labels_width, content_width, coord_width, each_once, text_widths, attrs_of, own_attr, fill_attr, attr_fill, is_fill_in_use, added, dtype_added, fill_added, uses_option, coordinates_added, text_attr, listed_by_none, empty_axes, record_dim, is_that, axis_named, dim_of_axis, string_dim, dims_of, number_of_dim, number_for, var_of, encoded, has_width, are_new, stands_first, check_unlimited, check_names, check_records, check_fill, check_fit}
+use Rattle.xr_defs.specs.Encoding.{Stored, classic_type, own_type, type_of, value_bytes, text_width, filled_up, text_cells, stored, stored_index, stored_labels, stored_content, stored_coord, stored_variable, coord_names, index_width, labels_width, content_width, coord_width, each_once, text_widths, attrs_of, records_of, own_attr, fill_attr, attr_fill, is_fill_in_use, added, dtype_added, fill_added, uses_option, coordinates_added, text_attr, listed_by_none, empty_axes, record_dim, is_that, axis_named, dim_of_axis, string_dim, dims_of, number_of_dim, number_for, var_of, encoded, has_width, are_new, stands_first, check_unlimited, check_names, check_records, check_fill, check_fit}
 use Rattle.xr_defs.specs.WellFormed.{IsAttribute, AreAttributes, IsIndex, IsDimension, IsContent, IsCoordinate, IsVariable, IsDataset, labelled, variable_names}
+use Rattle.xr_files.proofs.Counts.{small_fits}
 use Rattle.xr_encode.specs.Dimensions.{is_axisless}
 use Rattle.xr_encode.specs.Encoded.{check_outlines}
+use Rattle.std.proofs.lemmas.List.Folds.{list_all-append}
+use Rattle.xr_encode.proofs.Typed.{type_there, coordinates_there}
 use Rattle.xr_encode.proofs.Told.{sorted_kept}
 use Rattle.xr_encode.proofs.Nodes.{first_ok}
 use Rattle.xr_encode.proofs.Distinct.{weaken, all_with, all_join, all_parts, all_mapped, all_unmapped, all_filtered, distinct_join, distinct_any_order, both_true, both_false, neither, true_not, not_true, eq_same, eq_swap, AreApart}
@@ -52,44 +57,81 @@ use Rattle.xr_encode.proofs.Fits.{most, attrs_good, small_attrs, dims_few, dims_
 
 -- ---- attributes
 
-attr_name : (o : Stored) (a : Attr) (b : Bool) → is_fill_in_use o a ≡ b → (own_attr o a).name ≡ a.name
-attr_name o a false e = ap (λ c. (cond c (fill_attr o (unwrap_or (attr_fill o) (pos 0))) a).name) e
-attr_name o a true e =
+attr_name : (options : WriteOptions) (o : Stored) (a : Attr) (b : Bool) → is_fill_in_use o a ≡ b → (own_attr options o a).name ≡ a.name
+attr_name options o a false e = ap (λ c. (cond c (fill_attr options o (unwrap_or (attr_fill o) (pos 0))) a).name) e
+attr_name options o a true e =
     let first = and_parts (o.masked && is_attr (codes "_FillValue") a) _ e in
     let named = and_parts o.masked (is_attr (codes "_FillValue") a) first.0 in
-    ap (λ c. (cond c (fill_attr o (unwrap_or (attr_fill o) (pos 0))) a).name) e ∙ sym (eq_same a.name (codes "_FillValue") named.1)
+    ap (λ c. (cond c (fill_attr options o (unwrap_or (attr_fill o) (pos 0))) a).name) e ∙ sym (eq_same a.name (codes "_FillValue") named.1)
 
-own_names : (o : Stored) (attrs : List Attr) → attr_names (map (own_attr o) attrs) ≡ attr_names attrs
-own_names o [] = refl
-own_names o (a ∷ attrs) = ap (λ n. n ∷ attr_names (map (own_attr o) attrs)) (attr_name o a (is_fill_in_use o a) refl) ∙ ap (λ l. a.name ∷ l) (own_names o attrs)
+own_names : (options : WriteOptions) (o : Stored) (attrs : List Attr) → attr_names (map (own_attr options o) attrs) ≡ attr_names attrs
+own_names options o [] = refl
+own_names options o (a ∷ attrs) = ap (λ n. n ∷ attr_names (map (own_attr options o) attrs)) (attr_name options o a (is_fill_in_use o a) refl) ∙ ap (λ l. a.name ∷ l) (own_names options o attrs)
 
-value_length : (kind : DType) (n : ℤ) → length (value_bytes (type_of kind) n) ≡ width (type_of kind)
-value_length kinds.Bool n = refl
-value_length kinds.Char n = refl
-value_length kinds.Int8 n = refl
-value_length kinds.Int16 n = refl
-value_length kinds.Int32 n = refl
-value_length kinds.Int64 n = refl
+-- a type in which kinds are written has values of its width
+abbrev HasWidth : NcType → Type 0
+HasWidth t = ((n : ℤ) → length (value_bytes t n) ≡ width t) × ((k : ℕ) → k ≡ width t → k ≡ (k / width t) * width t)
 
-whole_value : (kind : DType) (k : ℕ) → k ≡ width (type_of kind) → k ≡ (k / width (type_of kind)) * width (type_of kind)
-whole_value kinds.Bool k e = rw e refl
-whole_value kinds.Char k e = rw e refl
-whole_value kinds.Int8 k e = rw e refl
-whole_value kinds.Int16 k e = rw e refl
-whole_value kinds.Int32 k e = rw e refl
-whole_value kinds.Int64 k e = rw e refl
+has_byte : HasWidth Byte
+has_byte = ((λ n. refl), λ k e. rw e refl)
 
-fill_formed : (o : Stored) (n : ℤ) → IsAttribute (fill_attr o n)
+has_char : HasWidth Char
+has_char = ((λ n. refl), λ k e. rw e refl)
+
+has_short : HasWidth Short
+has_short = ((λ n. refl), λ k e. rw e refl)
+
+has_int : HasWidth Int
+has_int = ((λ n. refl), λ k e. rw e refl)
+
+classic_width : (kind : DType) → HasWidth (classic_type kind)
+classic_width kinds.Bool = has_byte
+classic_width kinds.Char = has_char
+classic_width kinds.Int8 = has_byte
+classic_width kinds.Int16 = has_short
+classic_width kinds.Int32 = has_int
+classic_width kinds.Int64 = has_int
+classic_width kinds.UInt8 = has_byte
+classic_width kinds.UInt16 = has_short
+classic_width kinds.UInt32 = has_int
+classic_width kinds.UInt64 = has_int
+
+own_width : (kind : DType) → HasWidth (own_type kind)
+own_width kinds.Bool = has_byte
+own_width kinds.Char = has_char
+own_width kinds.Int8 = has_byte
+own_width kinds.Int16 = has_short
+own_width kinds.Int32 = has_int
+own_width kinds.Int64 = ((λ n. refl), λ k e. rw e refl)
+own_width kinds.UInt8 = ((λ n. refl), λ k e. rw e refl)
+own_width kinds.UInt16 = ((λ n. refl), λ k e. rw e refl)
+own_width kinds.UInt32 = ((λ n. refl), λ k e. rw e refl)
+own_width kinds.UInt64 = ((λ n. refl), λ k e. rw e refl)
+
+width_by : (kind : DType) (b : Bool) → HasWidth (cond b (own_type kind) (classic_type kind))
+width_by kind true = own_width kind
+width_by kind false = classic_width kind
+
+type_width : (version : ℕ) (kind : DType) → HasWidth (type_of version kind)
+type_width version kind = width_by kind (version == 5)
+
+value_length : (version : ℕ) (kind : DType) (n : ℤ) → length (value_bytes (type_of version kind) n) ≡ width (type_of version kind)
+value_length version kind n = (type_width version kind).0 n
+
+whole_value : (version : ℕ) (kind : DType) (k : ℕ) → k ≡ width (type_of version kind) → k ≡ (k / width (type_of version kind)) * width (type_of version kind)
+whole_value version kind k e = (type_width version kind).1 k e
+
+fill_formed : (options : WriteOptions) (o : Stored) (n : ℤ) → IsAttribute (fill_attr options o n)
 unfolding is_utf8 chars Utf8.encode
-fill_formed o n = record { name = refl; whole = whole_value o.kind (length (value_bytes (type_of o.kind) n)) (value_length o.kind n) }
+fill_formed options o n = record { name = refl; whole = whole_value options.version o.kind (length (value_bytes (type_of options.version o.kind) n)) (value_length options.version o.kind n) }
 
-own_by : (o : Stored) (a : Attr) (b : Bool) → IsAttribute a → IsAttribute (cond b (fill_attr o (unwrap_or (attr_fill o) (pos 0))) a)
-own_by o a true is = fill_formed o (unwrap_or (attr_fill o) (pos 0))
-own_by o a false is = is
+own_by : (options : WriteOptions) (o : Stored) (a : Attr) (b : Bool) → IsAttribute a → IsAttribute (cond b (fill_attr options o (unwrap_or (attr_fill o) (pos 0))) a)
+own_by options o a true is = fill_formed options o (unwrap_or (attr_fill o) (pos 0))
+own_by options o a false is = is
 
-own_formed : (o : Stored) (attrs : List Attr) → AllByRecursion IsAttribute attrs → AllByRecursion IsAttribute (map (own_attr o) attrs)
-own_formed o [] all = tt
-own_formed o (a ∷ attrs) all = (own_by o a (is_fill_in_use o a) all.0, own_formed o attrs all.1)
+own_formed : (options : WriteOptions) (o : Stored) (attrs : List Attr) → AllByRecursion IsAttribute attrs → AllByRecursion IsAttribute (map (own_attr options o) attrs)
+own_formed options o [] all = tt
+own_formed options o (a ∷ attrs) all = (own_by options o a (is_fill_in_use o a) all.0, own_formed options o attrs all.1)
 
 text_formed : (name text : List ℕ) → is_name name ≡ true → IsAttribute (text_attr name text)
 text_formed name text is = record { name = is; whole = omega arith }
@@ -102,10 +144,14 @@ dtype_formed kinds.Int8 = tt
 dtype_formed kinds.Int16 = tt
 dtype_formed kinds.Int32 = tt
 dtype_formed kinds.Int64 = tt
+dtype_formed kinds.UInt8 = tt
+dtype_formed kinds.UInt16 = tt
+dtype_formed kinds.UInt32 = tt
+dtype_formed kinds.UInt64 = tt
 
-fill_by : (o : Stored) (n : ℤ) (b : Bool) → AllByRecursion IsAttribute (cond b (fill_attr o n ∷ []) [])
-fill_by o n true = (fill_formed o n, tt)
-fill_by o n false = tt
+fill_by : (options : WriteOptions) (o : Stored) (n : ℤ) (b : Bool) → AllByRecursion IsAttribute (cond b (fill_attr options o n ∷ []) [])
+fill_by options o n true = (fill_formed options o n, tt)
+fill_by options o n false = tt
 
 coordinates_formed : (names : List (List ℕ)) → AllByRecursion IsAttribute (coordinates_added names)
 unfolding is_utf8 chars Utf8.encode
@@ -115,37 +161,53 @@ coordinates_formed (n ∷ ns) = (text_formed (codes "coordinates") _ refl, tt)
 added_formed : (options : WriteOptions) (o : Stored) → AllByRecursion IsAttribute (added options o)
 added_formed options o =
     all_join IsAttribute (dtype_added o.kind) (fill_added options o ++ coordinates_added o.lists) (dtype_formed o.kind)
-    (all_join IsAttribute (fill_added options o) (coordinates_added o.lists) (fill_by o (unwrap_or options.fill (pos 0)) (uses_option options o)) (coordinates_formed o.lists))
+    (all_join IsAttribute (fill_added options o) (coordinates_added o.lists) (fill_by options o (unwrap_or options.fill (pos 0)) (uses_option options o)) (coordinates_formed o.lists))
 
 -- the names of those that are added
 abbrev dtype_names : DType → List (List ℕ)
 dtype_names kind = attr_names (dtype_added kind)
 
-three_distinct : (kind : DType) (b : Bool) (o : Stored) (n : ℤ) (names : List (List ℕ)) → are_distinct (attr_names (dtype_added kind ++ (cond b (fill_attr o n ∷ []) [] ++ coordinates_added names))) ≡ true
-three_distinct kinds.Bool true o n [] = refl
-three_distinct kinds.Bool true o n (c ∷ cs) = refl
-three_distinct kinds.Bool false o n [] = refl
-three_distinct kinds.Bool false o n (c ∷ cs) = refl
-three_distinct kinds.Char true o n [] = refl
-three_distinct kinds.Char true o n (c ∷ cs) = refl
-three_distinct kinds.Char false o n [] = refl
-three_distinct kinds.Char false o n (c ∷ cs) = refl
-three_distinct kinds.Int8 true o n [] = refl
-three_distinct kinds.Int8 true o n (c ∷ cs) = refl
-three_distinct kinds.Int8 false o n [] = refl
-three_distinct kinds.Int8 false o n (c ∷ cs) = refl
-three_distinct kinds.Int16 true o n [] = refl
-three_distinct kinds.Int16 true o n (c ∷ cs) = refl
-three_distinct kinds.Int16 false o n [] = refl
-three_distinct kinds.Int16 false o n (c ∷ cs) = refl
-three_distinct kinds.Int32 true o n [] = refl
-three_distinct kinds.Int32 true o n (c ∷ cs) = refl
-three_distinct kinds.Int32 false o n [] = refl
-three_distinct kinds.Int32 false o n (c ∷ cs) = refl
-three_distinct kinds.Int64 true o n [] = refl
-three_distinct kinds.Int64 true o n (c ∷ cs) = refl
-three_distinct kinds.Int64 false o n [] = refl
-three_distinct kinds.Int64 false o n (c ∷ cs) = refl
+three_distinct : (kind : DType) (b : Bool) (options : WriteOptions) (o : Stored) (n : ℤ) (names : List (List ℕ)) → are_distinct (attr_names (dtype_added kind ++ (cond b (fill_attr options o n ∷ []) [] ++ coordinates_added names))) ≡ true
+three_distinct kinds.Bool true options o n [] = refl
+three_distinct kinds.Bool true options o n (c ∷ cs) = refl
+three_distinct kinds.Bool false options o n [] = refl
+three_distinct kinds.Bool false options o n (c ∷ cs) = refl
+three_distinct kinds.Char true options o n [] = refl
+three_distinct kinds.Char true options o n (c ∷ cs) = refl
+three_distinct kinds.Char false options o n [] = refl
+three_distinct kinds.Char false options o n (c ∷ cs) = refl
+three_distinct kinds.Int8 true options o n [] = refl
+three_distinct kinds.Int8 true options o n (c ∷ cs) = refl
+three_distinct kinds.Int8 false options o n [] = refl
+three_distinct kinds.Int8 false options o n (c ∷ cs) = refl
+three_distinct kinds.Int16 true options o n [] = refl
+three_distinct kinds.Int16 true options o n (c ∷ cs) = refl
+three_distinct kinds.Int16 false options o n [] = refl
+three_distinct kinds.Int16 false options o n (c ∷ cs) = refl
+three_distinct kinds.Int32 true options o n [] = refl
+three_distinct kinds.Int32 true options o n (c ∷ cs) = refl
+three_distinct kinds.Int32 false options o n [] = refl
+three_distinct kinds.Int32 false options o n (c ∷ cs) = refl
+three_distinct kinds.Int64 true options o n [] = refl
+three_distinct kinds.Int64 true options o n (c ∷ cs) = refl
+three_distinct kinds.Int64 false options o n [] = refl
+three_distinct kinds.Int64 false options o n (c ∷ cs) = refl
+three_distinct kinds.UInt8 true options o n [] = refl
+three_distinct kinds.UInt8 true options o n (c ∷ cs) = refl
+three_distinct kinds.UInt8 false options o n [] = refl
+three_distinct kinds.UInt8 false options o n (c ∷ cs) = refl
+three_distinct kinds.UInt16 true options o n [] = refl
+three_distinct kinds.UInt16 true options o n (c ∷ cs) = refl
+three_distinct kinds.UInt16 false options o n [] = refl
+three_distinct kinds.UInt16 false options o n (c ∷ cs) = refl
+three_distinct kinds.UInt32 true options o n [] = refl
+three_distinct kinds.UInt32 true options o n (c ∷ cs) = refl
+three_distinct kinds.UInt32 false options o n [] = refl
+three_distinct kinds.UInt32 false options o n (c ∷ cs) = refl
+three_distinct kinds.UInt64 true options o n [] = refl
+three_distinct kinds.UInt64 true options o n (c ∷ cs) = refl
+three_distinct kinds.UInt64 false options o n [] = refl
+three_distinct kinds.UInt64 false options o n (c ∷ cs) = refl
 
 -- names of which no attribute is there
 among_is : (own : List Attr) (name : List ℕ) → list_any (is_attr name) own ≡ among (attr_names own) name
@@ -178,8 +240,8 @@ one_distinct (n ∷ ns) = refl
 
 all_distinct : (options : WriteOptions) (o : Stored) → AreAttributes o.attrs → are_new o.attrs (added options o) ≡ true → are_distinct (attr_names (attrs_of options o)) ≡ true
 all_distinct options o is new =
-    ap are_distinct (map-append (λ (a : Attr). a.name) (map (own_attr o) o.attrs) (added options o) ∙ ap (λ ns. ns ++ attr_names (added options o)) (own_names o o.attrs))
-    ∙ distinct_join (attr_names o.attrs) (attr_names (added options o)) is.distinct (three_distinct o.kind (uses_option options o) o (unwrap_or options.fill (pos 0)) o.lists)
+    ap are_distinct (map-append (λ (a : Attr). a.name) (map (own_attr options o) o.attrs) (added options o) ∙ ap (λ ns. ns ++ attr_names (added options o)) (own_names options o o.attrs))
+    ∙ distinct_join (attr_names o.attrs) (attr_names (added options o)) is.distinct (three_distinct o.kind (uses_option options o) options o (unwrap_or options.fill (pos 0)) o.lists)
     (apart_swap (attr_names o.attrs) (attr_names (added options o)) (apart_from o.attrs (added options o) (not_true (list_any (λ (a : Attr). list_any (is_attr a.name) o.attrs) (added options o)) new)))
 
 -- ---- a variable that fits together
@@ -191,13 +253,13 @@ pub record IsFormed (set : Dataset) (options : WriteOptions) (o : Stored) : Type
   pub known : AreKnown set options o.dims sizes
   pub whole : length o.cells ≡ size sizes
 
-raw_length : (options : WriteOptions) (o : Stored) (cells : List (Option ℤ)) → length (flat_map (λ c. value_bytes (type_of o.kind) (number_for options o c)) cells) ≡ length cells * width (type_of o.kind)
-raw_length options o [] = let none : 0 ≡ 0 * width (type_of o.kind) = omega arith in none
+raw_length : (options : WriteOptions) (o : Stored) (cells : List (Option ℤ)) → length (flat_map (λ c. value_bytes (type_of options.version o.kind) (number_for options o c)) cells) ≡ length cells * width (type_of options.version o.kind)
+raw_length options o [] = let none : 0 ≡ 0 * width (type_of options.version o.kind) = omega arith in none
 raw_length options o (c ∷ cells) =
-    let both = length-append (value_bytes (type_of o.kind) (number_for options o c)) (flat_map (λ c. value_bytes (type_of o.kind) (number_for options o c)) cells) in
-    let one = value_length o.kind (number_for options o c) in
+    let both = length-append (value_bytes (type_of options.version o.kind) (number_for options o c)) (flat_map (λ c. value_bytes (type_of options.version o.kind) (number_for options o c)) cells) in
+    let one = value_length options.version o.kind (number_for options o c) in
     let rest = raw_length options o cells in
-    both ∙ ap (λ n. n + length (flat_map (λ c. value_bytes (type_of o.kind) (number_for options o c)) cells)) one ∙ ap (λ n. width (type_of o.kind) + n) rest ∙ sym (suc_times (length cells) (width (type_of o.kind)))
+    both ∙ ap (λ n. n + length (flat_map (λ c. value_bytes (type_of options.version o.kind) (number_for options o c)) cells)) one ∙ ap (λ n. width (type_of options.version o.kind) + n) rest ∙ sym (suc_times (length cells) (width (type_of options.version o.kind)))
 
 var_good : (set : Dataset) (options : WriteOptions) (o : Stored) → IsFormed set options o → are_new o.attrs (added options o) ≡ true → length (var_text options.version (dims_of set options) (var_of (dims_of set options) options o, 0)) ≤ most
     → IsVar (encoded set options) (var_of (dims_of set options) options o)
@@ -208,8 +270,8 @@ var_good set options o is new le =
       name = record { name = is.name; fits = var_name options.version dims v le };
       dims = numbers_inside set options o.dims is.sizes is.known;
       rank_fits = var_rank options.version dims v le;
-      attrs = attrs_good (attrs_of options o) (all_join IsAttribute (map (own_attr o) o.attrs) (added options o) (own_formed o o.attrs is.attrs.each) (added_formed options o)) (all_distinct options o is.attrs new) (var_attrs options.version dims v le);
-      raw = raw_length options o o.cells ∙ ap (λ n. n * width (type_of o.kind)) (is.whole ∙ ap size (sym (shape_is set options o.dims is.sizes is.known)));
+      attrs = attrs_good options.version (attrs_of options o) (all_join IsAttribute (map (own_attr options o) o.attrs) (added options o) (own_formed options o o.attrs is.attrs.each) (added_formed options o)) (all_distinct options o is.attrs new) (var_attrs options.version dims v le);
+      raw = raw_length options o o.cells ∙ ap (λ n. n * width (type_of options.version o.kind)) (is.whole ∙ ap size (sym (shape_is set options o.dims is.sizes is.known)));
     }
 
 -- ---- texts
@@ -517,20 +579,21 @@ string_is_name n lt =
     both_true (not (length (string_name n) == 0)) (is_utf8 (string_name n)) (some_bytes 115 (116 ∷ 114 ∷ 105 ∷ 110 ∷ 103 ∷ decimal n))
     (is_utf8-from_IsUtf8 (string_name n) (IsUtf8-append (codes "string") (decimal n) (IsUtf8-from_is_utf8 (codes "string") string_utf8) (IsUtf8-from_ascii (decimal n) (IsAscii-decimal n lt))))
 
-axis_dim : (r : Option (List ℕ)) (x : Axis) → IsDimension x → length (dim_text (dim_of_axis r x)) ≤ most → IsDim (dim_of_axis r x)
-axis_dim r x is le = record { name = record { name = is.name; fits = dim_name (dim_of_axis r x) le }; fits = few (is_that r x.name) }
+axis_dim : (version : ℕ) (r : Option (List ℕ)) (x : Axis) → IsDimension x → length (dim_text version (dim_of_axis r x)) ≤ most → IsDim version (dim_of_axis r x)
+axis_dim version r x is le = record { name = record { name = is.name; fits = dim_name version (dim_of_axis r x) le }; fits = few (is_that r x.name) }
   where
-    few : (b : Bool) → (if b then 0 else x.size) < 2 ^ 32
-    few true = omega arith
-    few false = let f = is.few in omega arith
+    few : (b : Bool) → Fits version (if b then 0 else x.size)
+    few true = small_fits version 0 (omega arith)
+    few false = let f = is.few in small_fits version x.size (omega arith)
 
-axis_dims : (r : Option (List ℕ)) (axes : List Axis) → AllByRecursion IsDimension axes → AllByRecursion (λ d. length (dim_text d) ≤ most) (map (dim_of_axis r) axes) → AllByRecursion IsDim (map (dim_of_axis r) axes)
-axis_dims r [] is fits = tt
-axis_dims r (x ∷ axes) is fits = (axis_dim r x is.0 fits.0, axis_dims r axes is.1 fits.1)
+axis_dims : (version : ℕ) (r : Option (List ℕ)) (axes : List Axis) → AllByRecursion IsDimension axes → AllByRecursion (λ d. length (dim_text version d) ≤ most) (map (dim_of_axis r) axes) → AllByRecursion (IsDim version) (map (dim_of_axis r) axes)
+axis_dims version r [] is fits = tt
+axis_dims version r (x ∷ axes) is fits = (axis_dim version r x is.0 fits.0, axis_dims version r axes is.1 fits.1)
 
-string_dims : (ws : List ℕ) → AllByRecursion (λ n. n < 2 ^ 64) ws → AllByRecursion (λ n. n < 2 ^ 32) ws → AllByRecursion (λ d. length (dim_text d) ≤ most) (map string_dim ws) → AllByRecursion IsDim (map string_dim ws)
-string_dims [] small few fits = tt
-string_dims (w ∷ ws) small few fits = (record { name = record { name = string_is_name w small.0; fits = dim_name (string_dim w) fits.0 }; fits = few.0 }, string_dims ws small.1 few.1 fits.1)
+string_dims : (version : ℕ) (ws : List ℕ) → AllByRecursion (λ n. n < 2 ^ 64) ws → AllByRecursion (λ n. n < 2 ^ 32) ws → AllByRecursion (λ d. length (dim_text version d) ≤ most) (map string_dim ws) → AllByRecursion (IsDim version) (map string_dim ws)
+string_dims version [] small few fits = tt
+string_dims version (w ∷ ws) small few fits =
+    (record { name = record { name = string_is_name w small.0; fits = dim_name version (string_dim w) fits.0 }; fits = small_fits version w few.0 }, string_dims version ws small.1 few.1 fits.1)
 
 -- ---- the widths fit, since the texts are written
 
@@ -563,10 +626,19 @@ texts_written set options names n some le is =
 abbrev IsSlab : Dataset → WriteOptions → Stored → Type 0
 IsSlab set options o = slab (dims_of set options) (var_of (dims_of set options) options o) ≤ 2 * most
 
+-- each version writes texts with a byte for each char
+chars_wide : (long : Bool) → width (cond long (own_type kinds.Char) (classic_type kinds.Char)) ≡ 1
+chars_wide true = refl
+chars_wide false = refl
+
+in_bytes : (set : Dataset) (options : WriteOptions) (names : List (List ℕ)) → size (shape_of (dims_of set options) 1 (map (number_of_dim (dims_of set options)) names)) * width (type_of options.version kinds.Char) ≤ 2 * most
+    → size (shape_of (dims_of set options) 1 (map (number_of_dim (dims_of set options)) names)) * 1 ≤ 2 * most
+in_bytes set options names le = subst (λ w. size (shape_of (dims_of set options) 1 (map (number_of_dim (dims_of set options)) names)) * w ≤ 2 * most) (chars_wide (options.version == 5)) le
+
 list_written : (set : Dataset) (options : WriteOptions) (name : List ℕ) (attrs : List Attr) (list : LabelList) → IsSlab set options (stored_labels name attrs list) → MatchOption (labels_width list) ⊤ (IsWritten set options)
 list_written set options name attrs (Numbers kind ns) le = tt
 list_written set options name attrs (Times coding ts) le = tt
-list_written set options name attrs (Texts texts) le = texts_written set options (name ∷ []) (text_width texts) (wide_at_least 1 texts) le
+list_written set options name attrs (Texts texts) le = texts_written set options (name ∷ []) (text_width texts) (wide_at_least 1 texts) (in_bytes set options (name ∷ string_name (text_width texts) ∷ []) le)
 
 index_written : (set : Dataset) (options : WriteOptions) (name : List ℕ) (o : Option Labels) (rest : List Axis) → AllByRecursion (IsSlab set options) (cons_option (option_map (λ (l : Labels). stored_labels name l.attrs l.list) o) (filter_map stored_index rest))
     → MatchOption (elim o [ None ↦ None | Some l ↦ labels_width l.list ]) ⊤ (IsWritten set options) × AllByRecursion (IsSlab set options) (filter_map stored_index rest)
@@ -579,7 +651,7 @@ indexes_written set options (x ∷ axes) all = let both = index_written set opti
 
 content_written : (set : Dataset) (options : WriteOptions) (c : Coord) (content : Content) → IsSlab set options (stored_content c content) → MatchOption (content_width content) ⊤ (IsWritten set options)
 content_written set options c (contents.Cells a masked) le = tt
-content_written set options c (contents.Text text) le = texts_written set options [] (text_width (text ∷ [])) (wide_at_least 1 (text ∷ [])) le
+content_written set options c (contents.Text text) le = texts_written set options [] (text_width (text ∷ [])) (wide_at_least 1 (text ∷ [])) (in_bytes set options (string_name (text_width (text ∷ [])) ∷ []) le)
 content_written set options c (contents.Time coding t) le = tt
 
 coords_written : (set : Dataset) (options : WriteOptions) (cs : List Coord) → AllByRecursion (IsSlab set options) (map stored_coord cs) → AllByRecursion (λ c. MatchOption (coord_width c) ⊤ (IsWritten set options)) cs
@@ -617,10 +689,20 @@ names_held : (set : Dataset) (options : WriteOptions) → check_names set option
 unfolding check_names
 names_held set options ok = three_held (list_all (has_width set) (text_widths set)) (list_all (λ o. are_new o.attrs (added options o)) (stored set)) (are_new set.attrs (coordinates_added (listed_by_none set))) DuplicateName ok
 
+four_held : {E : Type 0} (a b c d : Bool) (e : E) → (unless a e >>= λ u. unless b e >>= λ v. unless c e >>= λ w. unless d e) ≡ Ok tt → (a ≡ true) × ((b ≡ true) × (d ≡ true))
+unfolding unless
+four_held true true true true e is = (refl, (refl, refl))
+four_held true true true false e is = absurd cc
+four_held true true false d e is = absurd cc
+four_held true false c d e is = absurd cc
+four_held false b c d e is = absurd cc
+
 records_held : (set : Dataset) (options : WriteOptions) → check_records set options ≡ Ok tt
-    → (list_all (is_that (record_dim set options)) (empty_axes set) ≡ true) × ((list_all (stands_first (record_dim set options)) (stored set) ≡ true) × (not (list_any (λ name. list_any is_blank name) (coord_names set.coords)) ≡ true))
+    → (list_all (is_that (record_dim set options)) (empty_axes set) ≡ true) × ((list_all (stands_first (record_dim set options)) (stored set) ≡ true) × ((has_types options.version set.attrs && list_all (λ o. has_types options.version (attrs_of options o)) (stored set)) ≡ true))
 unfolding check_records
-records_held set options ok = three_held (list_all (is_that (record_dim set options)) (empty_axes set)) (list_all (stands_first (record_dim set options)) (stored set)) (not (list_any (λ name. list_any is_blank name) (coord_names set.coords))) CannotHold ok
+records_held set options ok =
+    four_held (list_all (is_that (record_dim set options)) (empty_axes set)) (list_all (stands_first (record_dim set options)) (stored set)) (not (list_any (λ name. list_any is_blank name) (coord_names set.coords)))
+    (has_types options.version set.attrs && list_all (λ o. has_types options.version (attrs_of options o)) (stored set)) CannotHold ok
 
 checks_held : (set : Dataset) (options : WriteOptions) → check_outlines set options ≡ Ok tt → (check_names set options ≡ Ok tt) × (check_records set options ≡ Ok tt)
 unfolding check_outlines
@@ -636,13 +718,21 @@ each_true t (x ∷ xs) e = let both = and_parts (t x) (list_all t xs) e in (both
 
 -- ---- records
 
-found_few : (axes : List Axis) (d : List ℕ) (o : Option Axis) → AllByRecursion IsDimension axes → axis_named d axes ≡ o → elim o [ None ↦ 0 | Some x ↦ x.size ] < streaming
+found_few : (axes : List Axis) (d : List ℕ) (o : Option Axis) → AllByRecursion IsDimension axes → axis_named d axes ≡ o → elim o [ None ↦ 0 | Some x ↦ x.size ] < 4294967295
 found_few axes d None is e = omega arith
 found_few axes d (Some x) is e = let few = (found_all IsDimension axes d x is e).few in omega arith
 
-records_few : (axes : List Axis) (r : Option (List ℕ)) → AllByRecursion IsDimension axes → elim r [ None ↦ 0 | Some d ↦ elim (axis_named d axes) [ None ↦ 0 | Some x ↦ x.size ] ] < streaming
+records_few : (axes : List Axis) (r : Option (List ℕ)) → AllByRecursion IsDimension axes → elim r [ None ↦ 0 | Some d ↦ elim (axis_named d axes) [ None ↦ 0 | Some x ↦ x.size ] ] < 4294967295
 records_few axes None is = omega arith
 records_few axes (Some d) is = found_few axes d (axis_named d axes) is refl
+
+below_by : (b : Bool) (n : ℕ) → n < 4294967295 → n < (if b then 18446744073709551615 else 4294967295)
+below_by true n lt = omega arith
+below_by false n lt = lt
+
+-- no count of records has all bits set
+below_most : (version n : ℕ) → n < 4294967295 → n < most_count version
+below_most version n lt = below_by (version == 5) n lt
 
 -- ---- the whole
 
@@ -656,7 +746,7 @@ is_file set options is version ok fits small =
     let names = names_held set options checks.0 in
     let full = (records_held set options checks.1).0 in
     let formed = all_formed set options is full names.0 fits in
-    let parts = all_parts (λ d. length (dim_text d) ≤ most) (map (dim_of_axis r) set.axes) (map string_dim ws) (dims_fit f small) in
+    let parts = all_parts (λ d. length (dim_text options.version d) ≤ most) (map (dim_of_axis r) set.axes) (map string_dim ws) (dims_fit f small) in
     let lines : AllByRecursion (λ o. length (var_text options.version dims (var_of dims options o, 0)) ≤ most) (stored set) = all_unmapped (λ v. length (var_text options.version dims (v, 0)) ≤ most) (var_of dims options) (stored set) (vars_fit f small) in
     let new : AllByRecursion (λ o. are_new o.attrs (added options o) ≡ true) (stored set) = each_true (λ o. are_new o.attrs (added options o)) (stored set) names.1.0 in
     let good : AllByRecursion (λ o. IsVar f (var_of dims options o)) (stored set) =
@@ -664,12 +754,12 @@ is_file set options is version ok fits small =
     (all_with (IsFormed set options) (λ o. are_new o.attrs (added options o) ≡ true) (λ o. IsFormed set options o × (are_new o.attrs (added options o) ≡ true)) (λ o a b. (a, b)) (stored set) formed new) lines in
     record {
       known = version;
-      numrecs = records_few set.axes r is.axes.each;
-      dims = all_join IsDim (map (dim_of_axis r) set.axes) (map string_dim ws) (axis_dims r set.axes is.axes.each parts.0)
-          (string_dims ws (all_filtered (λ n. n < 2 ^ 64) (is_axisless set.axes) (text_widths set) fits) (widths_few set options small fits) parts.1);
+      numrecs = below_most options.version (records_of set options) (records_few set.axes r is.axes.each);
+      dims = all_join (IsDim options.version) (map (dim_of_axis r) set.axes) (map string_dim ws) (axis_dims options.version r set.axes is.axes.each parts.0)
+          (string_dims options.version ws (all_filtered (λ n. n < 2 ^ 64) (is_axisless set.axes) (text_widths set) fits) (widths_few set options small fits) parts.1);
       dims_distinct = dims_distinct set options is.axes.distinct fits;
       dims_fit = dims_few f small;
-      attrs = attrs_good (set.attrs ++ coordinates_added (listed_by_none set)) (all_join IsAttribute set.attrs (coordinates_added (listed_by_none set)) is.attrs.each (coordinates_formed (listed_by_none set)))
+      attrs = attrs_good options.version (set.attrs ++ coordinates_added (listed_by_none set)) (all_join IsAttribute set.attrs (coordinates_added (listed_by_none set)) is.attrs.each (coordinates_formed (listed_by_none set)))
           (distinct_added set.attrs (coordinates_added (listed_by_none set)) is.attrs.distinct (one_distinct (listed_by_none set)) names.1.1) (small_attrs f small);
       vars = all_mapped (IsVar f) (var_of dims options) (stored set) good;
       vars_distinct = ap are_distinct (var_names dims options (stored set) ∙ stored_names set) ∙ distinct_any_order (axis_names (labelled set.axes)) set.coords (variable_names set.vars) is.vars_distinct;
@@ -679,16 +769,24 @@ is_file set options is version ok fits small =
 -- ---- its version can hold it
 
 all_placed : (set : Dataset) (options : WriteOptions) (os : List Stored) → AllByRecursion (IsFormed set options) os → AllByRecursion (λ o. stands_first (record_dim set options) o ≡ true) os
-    → list_all (λ (v : CdfVar). in_place (dims_of set options) v.dims) (map (var_of (dims_of set options) options) os) ≡ true
-all_placed set options [] formed first = refl
-all_placed set options (o ∷ os) formed first =
-    both_true _ _ (placed_first set options o.dims formed.0.sizes formed.0.known (not_true (list_any (is_that (record_dim set options)) (drop 1 o.dims)) first.0)) (all_placed set options os formed.1 first.1)
+    → list_all (λ o. has_types options.version (attrs_of options o)) os ≡ true → list_all (can_hold_var (encoded set options)) (map (var_of (dims_of set options) options) os) ≡ true
+all_placed set options [] formed first typed = refl
+all_placed set options (o ∷ os) formed first typed =
+    let both = and_parts (has_types options.version (attrs_of options o)) (list_all (λ o. has_types options.version (attrs_of options o)) os) typed in
+    both_true _ _ (both_true _ _ (both_true _ _ (type_there options.version o.kind) both.0) (placed_first set options o.dims formed.0.sizes formed.0.known (not_true (list_any (is_that (record_dim set options)) (drop 1 o.dims)) first.0)))
+    (all_placed set options os formed.1 first.1 both.1)
+
+set_typed : (version : ℕ) (attrs : List Attr) (names : List (List ℕ)) → has_types version attrs ≡ true → has_types version (attrs ++ coordinates_added names) ≡ true
+set_typed version attrs names typed = list_all-append (λ (a : Attr). has_type version a.kind) attrs (coordinates_added names) ∙ both_true (has_types version attrs) (has_types version (coordinates_added names)) typed (coordinates_there version names)
 
 pub is_holdable : (set : Dataset) (options : WriteOptions) → IsDataset set → check_outlines set options ≡ Ok tt → AllByRecursion (λ n. n < 2 ^ 64) (text_widths set) → can_hold (encoded set options) ≡ true
 is_holdable set options is ok fits =
+    let f : CdfFile = encoded set options in
     let checks = checks_held set options ok in
     let names = names_held set options checks.0 in
     let records = records_held set options checks.1 in
+    let typed = and_parts (has_types options.version set.attrs) (list_all (λ o. has_types options.version (attrs_of options o)) (stored set)) records.1.1 in
     let few = few_records set options is.axes.distinct records.0 (widths_some set) in
-    both_true (nat_le (count_record_dims (dims_of set options)) 1) (list_all (λ (v : CdfVar). in_place (dims_of set options) v.dims) (map (var_of (dims_of set options) options) (stored set))) (le-leb (count_record_dims (dims_of set options)) 1 few)
-    (all_placed set options (stored set) (all_formed set options is records.0 names.0 fits) (each_true (stands_first (record_dim set options)) (stored set) records.1.0))
+    both_true _ _
+    (both_true (nat_le (count_record_dims (dims_of set options)) 1) (has_types options.version f.attrs) (le-leb (count_record_dims (dims_of set options)) 1 few) (set_typed options.version set.attrs (listed_by_none set) typed.0))
+    (all_placed set options (stored set) (all_formed set options is records.0 names.0 fits) (each_true (stands_first (record_dim set options)) (stored set) records.1.0) typed.1)

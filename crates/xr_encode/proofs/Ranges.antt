@@ -1,24 +1,24 @@
 -- What the type of a kind holds.
-use Rattle.std.proofs.Common.{◌≡◌, ℤ, pos, negsuc, ◌≤ℤ◌, Bool, true, false, List, [], ◌∷◌, map, Option, Some, None, refl, sym, ap, ◌∙◌, All, arith}
+use Rattle.std.proofs.Common.{◌≡◌, ◌==◌, ℕ, ℤ, pos, ◌≤ℤ◌, Bool, true, false, cond, List, [], ◌∷◌, map, Option, Some, None, refl, sym, ap, ◌∙◌, All, arith}
 use Rattle.std.specs.Prelude.{◌&&◌, ◌||◌, int_le, is_some, unwrap_or, Ok}
 use Rattle.std.specs.List.{list_any, list_all}
 use Rattle.std.specs.Ordering.{int_eq}
 use Rattle.std.proofs.lemmas.Bool.{and_parts}
 use Rattle.std.proofs.lemmas.Int.{ints}
 use Rattle.std.proofs.lemmas.List.Elements.{All-head, All-tail}
-use Rattle.xr_types.specs.Kinds.{InRange}
+use Rattle.xr_types.specs.Kinds.{low, high, InRange, in_range}
 use Rattle.xr_types.specs.declared.attr.NcType.{NcType}
 use Rattle.xr_types.specs.declared.kind.DType.{DType}
 use Rattle.xr_types.specs.declared.kind.DType.TheVariants as kinds
 use Rattle.xr_arrays.specs.Arrays.{IsCell}
-use Rattle.xr_defs.specs.Encoding.{Stored, holds, holds_cell, type_of, is_between, is_fill_cell, fill_for, check_fit, check_cells}
+use Rattle.xr_defs.specs.Encoding.{Stored, classic_type, own_type, holds, holds_cell, may_fill, type_of, is_fill_cell, fill_for, check_fit, check_cells}
 use Rattle.xr_defs.specs.declared.write_options.WriteOptions.{WriteOptions}
 use Rattle.xr_types.specs.Results.{◌>>=◌, unless}
 use Rattle.xr_defs.specs.WellFormed.{AreSeen}
 use Rattle.xr_encode.specs.declared.outline.Outline.{Outline}
 use Rattle.xr_encode.specs.Outlines.{filled_with, without_cells}
 use Rattle.xr_encode.proofs.Attributes.{fits_type, where_masked}
-use Rattle.xr_encode.specs.Rows.{number_or, are_held, is_number, has_any, MayHold}
+use Rattle.xr_encode.specs.Rows.{number_or, are_held, is_number, has_any, holds_all}
 
 pub and_both : (a b : Bool) → a ≡ true → b ≡ true → (a && b) ≡ true
 and_both true true e f = refl
@@ -28,62 +28,60 @@ and_both false b e f = e
 below : (a b : ℤ) → a ≤ℤ b → int_le a b ≡ true
 below a b le = grind (arith, ints)
 
-pub between : (low high n : ℤ) → low ≤ℤ n → n ≤ℤ high → is_between low high n ≡ true
-between low high n a b = and_both (int_le low n) (int_le n high) (below low n a) (below n high b)
+-- a number of a kind's range
+pub in_range_is : (kind : DType) (n : ℤ) → InRange kind n → in_range kind n ≡ true
+in_range_is kind n r = and_both (int_le (low kind) n) (int_le n (high kind)) (below (low kind) n r.0) (below n (high kind) r.1)
 
--- the kinds but int64 go into types that have all of their numbers
-pub fits : (kind : DType) → (kind ≡ kinds.Int64 → ⊥) → (n : ℤ) → InRange kind n → holds (type_of kind) n ≡ true
-fits kinds.Bool other n r = between (negsuc 127) (pos 127) n (omega (arith, ints, r.0)) (omega (arith, ints, r.1))
-fits kinds.Char other n r = between (pos 0) (pos 255) n r.0 r.1
-fits kinds.Int8 other n r = between (negsuc 127) (pos 127) n r.0 r.1
-fits kinds.Int16 other n r = between (negsuc 32767) (pos 32767) n r.0 r.1
-fits kinds.Int32 other n r = between (negsuc 2147483647) (pos 2147483647) n r.0 r.1
-fits kinds.Int64 other n r = absurd (other refl)
+-- the types of version 5 have all numbers of their kinds
+own_fits : (kind : DType) (n : ℤ) → InRange kind n → holds (own_type kind) n ≡ true
+own_fits kinds.Bool n r = in_range_is kinds.Int8 n (omega (arith, ints, r.0), omega (arith, ints, r.1))
+own_fits kinds.Char n r = in_range_is kinds.Char n r
+own_fits kinds.Int8 n r = in_range_is kinds.Int8 n r
+own_fits kinds.Int16 n r = in_range_is kinds.Int16 n r
+own_fits kinds.Int32 n r = in_range_is kinds.Int32 n r
+own_fits kinds.Int64 n r = in_range_is kinds.Int64 n r
+own_fits kinds.UInt8 n r = in_range_is kinds.UInt8 n r
+own_fits kinds.UInt16 n r = in_range_is kinds.UInt16 n r
+own_fits kinds.UInt32 n r = in_range_is kinds.UInt32 n r
+own_fits kinds.UInt64 n r = in_range_is kinds.UInt64 n r
 
--- no other kind is int64
-pub is_other : (kind : DType) → (kind ≡ kinds.Int64 → ⊥) → (k : DType) → k ≡ kind → k ≡ kinds.Int64 → ⊥
-is_other kind other k e long = other (sym e ∙ long)
+-- those of the other versions, of the kinds that these read
+classic_fits : (version : ℕ) (kind : DType) (n : ℤ) → (version == 5) ≡ false → holds_all version kind ≡ true → InRange kind n → holds (classic_type kind) n ≡ true
+classic_fits version kinds.Bool n e all r = in_range_is kinds.Int8 n (omega (arith, ints, r.0), omega (arith, ints, r.1))
+classic_fits version kinds.Char n e all r = in_range_is kinds.Char n r
+classic_fits version kinds.Int8 n e all r = in_range_is kinds.Int8 n r
+classic_fits version kinds.Int16 n e all r = in_range_is kinds.Int16 n r
+classic_fits version kinds.Int32 n e all r = in_range_is kinds.Int32 n r
+classic_fits version kinds.Int64 n e all r = cc
+classic_fits version kinds.UInt8 n e all r = cc
+classic_fits version kinds.UInt16 n e all r = cc
+classic_fits version kinds.UInt32 n e all r = cc
+classic_fits version kinds.UInt64 n e all r = cc
 
-pub not_bool : kinds.Bool ≡ kinds.Int64 → ⊥
-not_bool e = cc
+fits_by : (version : ℕ) (kind : DType) (n : ℤ) (b : Bool) → (version == 5) ≡ b → holds_all version kind ≡ true → InRange kind n → holds (cond b (own_type kind) (classic_type kind)) n ≡ true
+fits_by version kind n true e all r = own_fits kind n r
+fits_by version kind n false e all r = classic_fits version kind n e all r
 
-pub not_char : kinds.Char ≡ kinds.Int64 → ⊥
-not_char e = cc
+one_holds : (version : ℕ) (kind : DType) (c : Option ℤ) → holds_all version kind ≡ true → IsCell kind c → holds_cell (type_of version kind) c ≡ true
+one_holds version kind None all is = refl
+one_holds version kind (Some n) all is = fits_by version kind n (version == 5) refl all is
 
-pub not_int8 : kinds.Int8 ≡ kinds.Int64 → ⊥
-not_int8 e = cc
+pub cells_hold : (version : ℕ) (kind : DType) (cells : List (Option ℤ)) → holds_all version kind ≡ true → All (IsCell kind) cells → list_all (holds_cell (type_of version kind)) cells ≡ true
+cells_hold version kind [] every all = refl
+cells_hold version kind (c ∷ cells) every all = and_both _ _ (one_holds version kind c every (All-head (IsCell kind) c cells all)) (cells_hold version kind cells every (All-tail (IsCell kind) c cells all))
 
-pub not_int16 : kinds.Int16 ≡ kinds.Int64 → ⊥
-not_int16 e = cc
-
-pub not_int32 : kinds.Int32 ≡ kinds.Int64 → ⊥
-not_int32 e = cc
-
-one_holds : (kind : DType) (c : Option ℤ) → ((n : ℤ) → InRange kind n → holds (type_of kind) n ≡ true) → IsCell kind c → holds_cell (type_of kind) c ≡ true
-one_holds kind None f is = refl
-one_holds kind (Some n) f is = f n is
-
-each_holds : (kind : DType) (cells : List (Option ℤ)) → ((n : ℤ) → InRange kind n → holds (type_of kind) n ≡ true) → All (IsCell kind) cells → list_all (holds_cell (type_of kind)) cells ≡ true
-each_holds kind [] f all = refl
-each_holds kind (c ∷ cells) f all = and_both _ _ (one_holds kind c f (All-head (IsCell kind) c cells all)) (each_holds kind cells f (All-tail (IsCell kind) c cells all))
-
-pub cells_hold : (kind : DType) (cells : List (Option ℤ)) → (kind ≡ kinds.Int64 → ⊥) → All (IsCell kind) cells → list_all (holds_cell (type_of kind)) cells ≡ true
-cells_hold kind cells other all = each_holds kind cells (fits kind other) all
-
-labels_one : (kind : DType) (ns : List ℤ) → (kind ≡ kinds.Int64 → ⊥) → All (InRange kind) ns → list_all (holds_cell (type_of kind)) (map Some ns) ≡ true
-labels_one kind [] other all = refl
-labels_one kind (n ∷ ns) other all = and_both _ _ (fits kind other n (All-head (InRange kind) n ns all)) (labels_one kind ns other (All-tail (InRange kind) n ns all))
-
-of_kind : (kind : DType) (ns : List ℤ) → (kind ≡ kinds.Int64 → ⊥) → MayHold kind ns → All (InRange kind) ns
-of_kind kinds.Bool ns other may = may
-of_kind kinds.Char ns other may = may
-of_kind kinds.Int8 ns other may = may
-of_kind kinds.Int16 ns other may = may
-of_kind kinds.Int32 ns other may = may
-of_kind kinds.Int64 ns other may = absurd (other refl)
-
-pub labels_hold : (kind : DType) (ns : List ℤ) → (kind ≡ kinds.Int64 → ⊥) → MayHold kind ns → list_all (holds_cell (type_of kind)) (map Some ns) ≡ true
-labels_hold kind ns other may = labels_one kind ns other (of_kind kind ns other may)
+-- the numbers that may stand for missing cells of a kind are those of its type in version 5
+pub may_fill_is : (kind : DType) (n : ℤ) → holds (own_type kind) n ≡ may_fill kind n
+may_fill_is kinds.Bool n = refl
+may_fill_is kinds.Char n = refl
+may_fill_is kinds.Int8 n = refl
+may_fill_is kinds.Int16 n = refl
+may_fill_is kinds.Int32 n = refl
+may_fill_is kinds.Int64 n = refl
+may_fill_is kinds.UInt8 n = refl
+may_fill_is kinds.UInt16 n = refl
+may_fill_is kinds.UInt32 n = refl
+may_fill_is kinds.UInt64 n = refl
 
 -- ---- what is written is held
 
@@ -158,16 +156,16 @@ unfolding unless
 all_held true b e f is = refl
 all_held false b e f is = cc
 
-pub cells_checked : (options : WriteOptions) (o : Stored) → check_cells options o ≡ Ok tt → list_all (holds_cell (type_of o.kind)) o.cells ≡ true
+pub cells_checked : (options : WriteOptions) (o : Stored) → check_cells options o ≡ Ok tt → list_all (holds_cell (type_of options.version o.kind)) o.cells ≡ true
 unfolding check_cells
 cells_checked options o ok = all_held _ _ _ _ ok
 
-by_mask : (options : WriteOptions) (o : Outline) (cells : List (Option ℤ)) (masked : Bool) → o.masked ≡ masked → AreSeen o.masked cells → check_fit options (without_cells o) ≡ Ok tt → list_all (holds_cell (type_of o.kind)) cells ≡ true
-    → are_held (type_of o.kind) (unwrap_or (fill_for options (without_cells o)) (pos 0)) cells ≡ true
-by_mask options o cells true m seen fit all = held_masked (type_of o.kind) (unwrap_or (fill_for options (without_cells o)) (pos 0)) cells all (where_masked o.masked _ (fits_type options (without_cells o) fit) m)
-by_mask options o cells false m seen fit all = held_unmasked (type_of o.kind) (unwrap_or (fill_for options (without_cells o)) (pos 0)) cells all (seen m)
+by_mask : (options : WriteOptions) (o : Outline) (cells : List (Option ℤ)) (masked : Bool) → o.masked ≡ masked → AreSeen o.masked cells → check_fit options (without_cells o) ≡ Ok tt → list_all (holds_cell (type_of options.version o.kind)) cells ≡ true
+    → are_held (type_of options.version o.kind) (unwrap_or (fill_for options (without_cells o)) (pos 0)) cells ≡ true
+by_mask options o cells true m seen fit all = held_masked (type_of options.version o.kind) (unwrap_or (fill_for options (without_cells o)) (pos 0)) cells all (where_masked o.masked _ (fits_type options (without_cells o) fit) m)
+by_mask options o cells false m seen fit all = held_unmasked (type_of options.version o.kind) (unwrap_or (fill_for options (without_cells o)) (pos 0)) cells all (seen m)
 
-pub held_written : (options : WriteOptions) (o : Outline) (cells : List (Option ℤ)) (kind : DType) (fill : ℤ) → kind ≡ o.kind → AreSeen o.masked cells → check_fit options (without_cells o) ≡ Ok tt → check_cells options (filled_with cells o) ≡ Ok tt
-    → fill ≡ unwrap_or (fill_for options (without_cells o)) (pos 0) → are_held (type_of kind) fill cells ≡ true
-held_written options o cells kind fill k seen fit checked is =
-    ap (λ t. are_held (type_of t) fill cells) k ∙ ap (λ f. are_held (type_of o.kind) f cells) is ∙ by_mask options o cells o.masked refl seen fit (cells_checked options (filled_with cells o) checked)
+pub held_written : (options : WriteOptions) (o : Outline) (cells : List (Option ℤ)) (t : NcType) (fill : ℤ) → t ≡ type_of options.version o.kind → AreSeen o.masked cells → check_fit options (without_cells o) ≡ Ok tt → check_cells options (filled_with cells o) ≡ Ok tt
+    → fill ≡ unwrap_or (fill_for options (without_cells o)) (pos 0) → are_held t fill cells ≡ true
+held_written options o cells t fill k seen fit checked is =
+    ap (λ u. are_held u fill cells) k ∙ ap (λ f. are_held (type_of options.version o.kind) f cells) is ∙ by_mask options o cells o.masked refl seen fit (cells_checked options (filled_with cells o) checked)

@@ -55,6 +55,11 @@ bytes_more t fill cells i c out more whole lt is put so_far =
 pub bytes_end : (t : NcType) (fill : ℤ) (cells : List (Option ℤ)) (i : ℕ) (out whole : List ℕ) → length cells ≤ i → out ++ cells_bytes t fill (drop i cells) ≡ whole → out ≡ whole
 bytes_end t fill cells i out whole le so_far = sym (append-nil out) ∙ ap (λ l. out ++ l) (sym (at_drop_all (cells_bytes t fill) cells i le)) ∙ so_far
 
+-- types of fractions hold no number, and none has bytes
+pub no_bytes : (t : NcType) (fill : ℤ) (cells : List (Option ℤ)) → ((n : ℤ) → value_bytes t n ≡ []) → cells_bytes t fill cells ≡ []
+no_bytes t fill [] none = refl
+no_bytes t fill (c ∷ cells) none = ap (λ l. l ++ cells_bytes t fill cells) (none (number_or fill c)) ∙ no_bytes t fill cells none
+
 -- numbers of a kind with a sign stand for themselves
 pub themselves : (ns : List ℤ) → map (λ n. n) ns ≡ ns
 themselves [] = refl

@@ -17,18 +17,19 @@ use Rattle.xr_defs.specs.declared.value.Content.TheVariants as contents
 use Rattle.xr_arrays.specs.declared.node.Node.{Node}
 use Rattle.xr_defs.specs.declared.value.Coord.{Coord}
 use Rattle.xr_defs.specs.declared.write_options.WriteOptions.{WriteOptions}
+use Rattle.xr_files.specs.Canonical.{has_types}
 use Rattle.xr_types.specs.Results.{◌>>=◌, unless, all_of}
 use Rattle.xr_defs.specs.Printing.{by_name, put_coord, is_below}
 use Rattle.xr_types.specs.Names.{among}
 use Rattle.xr_defs.specs.Values as of
-use Rattle.xr_defs.specs.Encoding.{Stored, stored, stored_index, stored_labels, stored_content, stored_coord, stored_variable, coord_names, has_width, text_widths, are_new, added, coordinates_added, listed_by_none, is_listed, listed_by, is_that, record_dim, empty_axes, stands_first, check_unlimited, check_names, check_records, check_fill, check_fit}
+use Rattle.xr_defs.specs.Encoding.{Stored, stored, stored_index, stored_labels, stored_content, stored_coord, stored_variable, coord_names, has_width, text_widths, are_new, added, coordinates_added, listed_by_none, is_listed, listed_by, is_that, record_dim, empty_axes, stands_first, attrs_of, check_unlimited, check_names, check_records, check_fill, check_fit}
 use Rattle.xr_values.specs.declared.variable.Variable.{Variable}
 use Rattle.xr_values.specs.declared.dataset.Dataset.{Dataset}
 use Rattle.xr_values.specs.Stands.{variable_in, dataset_in, shape_named, IsNodeOf, IsDatasetIn}
 use Rattle.xr_defs.specs.WellFormed.{IsCoordinate, IsVariable}
 use Rattle.xr_encode.specs.declared.outline.Outline.{Outline}
 use Rattle.xr_encode.specs.Outlines.{without_cells, outline_of, index_outlines, coord_outlines}
-use Rattle.xr_encode.specs.Checks.{over, has_new, has_blank, is_first, names_checked, records_checked}
+use Rattle.xr_encode.specs.Checks.{over, has_new, has_blank, is_first, are_typed, names_checked, places_checked, records_checked}
 use Rattle.xr_encode.specs.Sets.{variable_outline, outlines_of, lists_name, unlisted_by}
 use Rattle.xr_encode.specs.Walk.{HasContent}
 use Rattle.xr_encode.specs.Encoded.{check_outlines, IsReady}
@@ -119,13 +120,26 @@ names_are nodes s options =
     ap (λ b. unless (list_all (has_width set) (text_widths set)) DuplicateName >>= λ u. unless b DuplicateName >>= λ v. unless (are_new s.attrs (coordinates_added (parts_of s).unlisted)) DuplicateName) new
     ∙ ap (λ ns. unless (list_all (has_width set) (text_widths set)) DuplicateName >>= λ u. unless (list_all (λ o. are_new o.attrs (added options o)) (stored set)) DuplicateName >>= λ v. unless (are_new s.attrs (coordinates_added ns)) DuplicateName) (unlisted_are nodes s)
 
-records_are : (nodes : List Node) (s : Dataset) (options : WriteOptions) → records_checked s.axes (outlines_of s) (coord_names s.coords) options ≡ check_records (dataset_in nodes s) options
-unfolding records_checked check_records
+three_first : {E : Type 0} (a b c : Bool) (e : E) (last : Result (Unit {0}) E) → ((unless a e >>= λ u. unless b e >>= λ v. unless c e) >>= λ w. last) ≡ (unless a e >>= λ u. unless b e >>= λ v. unless c e >>= λ w. last)
+unfolding unless
+three_first true true true e last = refl
+three_first true true false e last = refl
+three_first true false c e last = refl
+three_first false b c e last = refl
+
+records_are : (nodes : List Node) (s : Dataset) (options : WriteOptions) → records_checked s.axes (outlines_of s) (coord_names s.coords) s.attrs options ≡ check_records (dataset_in nodes s) options
+unfolding records_checked places_checked check_records
 records_are nodes s options =
     let set : of.Dataset = dataset_in nodes s in
+    let empty : Bool = list_all (is_that (record_dim set options)) (empty_axes set) in
+    let named : Bool = not (list_any has_blank (coord_names s.coords)) in
     let first : list_all (is_first s.axes options) (outlines_of s) ≡ list_all (stands_first (record_dim set options)) (stored set) =
     ap (list_all (is_first s.axes options)) (outlines_are nodes s) ∙ all_stored (is_first s.axes options) (stands_first (record_dim set options)) (λ o. refl) (stored set) in
-    ap (λ b. unless (list_all (is_that (record_dim set options)) (empty_axes set)) CannotHold >>= λ u. unless b CannotHold >>= λ v. unless (not (list_any has_blank (coord_names s.coords))) CannotHold) first
+    let typed : list_all (are_typed options) (outlines_of s) ≡ list_all (λ o. has_types options.version (attrs_of options o)) (stored set) =
+    ap (list_all (are_typed options)) (outlines_are nodes s) ∙ all_stored (are_typed options) (λ o. has_types options.version (attrs_of options o)) (λ o. refl) (stored set) in
+    three_first empty (list_all (is_first s.axes options) (outlines_of s)) named CannotHold (unless (has_types options.version s.attrs && list_all (are_typed options) (outlines_of s)) CannotHold)
+    ∙ ap (λ a. unless empty CannotHold >>= λ u. unless a CannotHold >>= λ v. unless named CannotHold >>= λ w. unless (has_types options.version s.attrs && list_all (are_typed options) (outlines_of s)) CannotHold) first
+    ∙ ap (λ b. unless empty CannotHold >>= λ u. unless (list_all (stands_first (record_dim set options)) (stored set)) CannotHold >>= λ v. unless named CannotHold >>= λ w. unless (has_types options.version s.attrs && b) CannotHold) typed
 
 pub fills_are : (nodes : List Node) (s : Dataset) (options : WriteOptions) → all_of (check_fill options) (map without_cells (outlines_of s)) ≡ all_of (check_fill options) (stored (dataset_in nodes s))
 fills_are nodes s options = ap (λ os. all_of (check_fill options) (map without_cells os)) (outlines_are nodes s) ∙ checks_stored (check_fill options) (same_fill options) (stored (dataset_in nodes s))
@@ -143,8 +157,8 @@ parts_are nodes s options =
     let chain : Result (Unit {0}) Fault → Result (Unit {0}) Fault → Result (Unit {0}) Fault → Result (Unit {0}) Fault → Result (Unit {0}) Fault → Result (Unit {0}) Fault =
     λ a b c d e. a >>= λ u. b >>= λ v. c >>= λ w. d >>= λ x. e in
     let set : of.Dataset = dataset_in nodes s in
-    ap (λ r. chain r (names_checked s.axes (parts_of s).widths (outlines_of s) s.attrs (parts_of s).unlisted options) (records_checked s.axes (outlines_of s) (coord_names s.coords) options) (all_of (check_fill options) (map without_cells (outlines_of s))) (all_of (check_fit options) (map without_cells (outlines_of s)))) (unlimited_is nodes s options)
-    ∙ ap (λ r. chain (check_unlimited set options) r (records_checked s.axes (outlines_of s) (coord_names s.coords) options) (all_of (check_fill options) (map without_cells (outlines_of s))) (all_of (check_fit options) (map without_cells (outlines_of s)))) (names_are nodes s options)
+    ap (λ r. chain r (names_checked s.axes (parts_of s).widths (outlines_of s) s.attrs (parts_of s).unlisted options) (records_checked s.axes (outlines_of s) (coord_names s.coords) s.attrs options) (all_of (check_fill options) (map without_cells (outlines_of s))) (all_of (check_fit options) (map without_cells (outlines_of s)))) (unlimited_is nodes s options)
+    ∙ ap (λ r. chain (check_unlimited set options) r (records_checked s.axes (outlines_of s) (coord_names s.coords) s.attrs options) (all_of (check_fill options) (map without_cells (outlines_of s))) (all_of (check_fit options) (map without_cells (outlines_of s)))) (names_are nodes s options)
     ∙ ap (λ r. chain (check_unlimited set options) (check_names set options) r (all_of (check_fill options) (map without_cells (outlines_of s))) (all_of (check_fit options) (map without_cells (outlines_of s)))) (records_are nodes s options)
     ∙ ap (λ r. chain (check_unlimited set options) (check_names set options) (check_records set options) r (all_of (check_fit options) (map without_cells (outlines_of s)))) (fills_are nodes s options)
     ∙ ap (λ r. chain (check_unlimited set options) (check_names set options) (check_records set options) (all_of (check_fill options) (stored set)) r) (fits_are nodes s options)
@@ -161,7 +175,7 @@ last_ok (Err t) b c d e is = cc
 pub parts_fit : (s : Dataset) (parts : Parts) (options : WriteOptions) → parts_checked s parts options ≡ Ok tt → all_of (check_fit options) (map without_cells parts.outlines) ≡ Ok tt
 unfolding parts_checked
 parts_fit s parts options ok =
-    last_ok (check_unlimited (over s.axes) options) (names_checked s.axes parts.widths parts.outlines s.attrs parts.unlisted options) (records_checked s.axes parts.outlines (coord_names s.coords) options) (all_of (check_fill options) (map without_cells parts.outlines))
+    last_ok (check_unlimited (over s.axes) options) (names_checked s.axes parts.widths parts.outlines s.attrs parts.unlisted options) (records_checked s.axes parts.outlines (coord_names s.coords) s.attrs options) (all_of (check_fill options) (map without_cells parts.outlines))
     (all_of (check_fit options) (map without_cells parts.outlines)) ok
 
 halves_ok : {X E : Type 0} (c : X → Result (Unit {0}) E) (xs ys : List X) → all_of c (xs ++ ys) ≡ Ok tt → (all_of c xs ≡ Ok tt) × (all_of c ys ≡ Ok tt)

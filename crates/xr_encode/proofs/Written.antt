@@ -1,16 +1,17 @@
 -- A variable that was checked, with its values.
-use Rattle.std.proofs.Common.{◌≡◌, ℕ, ℤ, pos, Bool, true, false, List, [], ◌∷◌, ◌++◌, map, Option, Some, refl, sym, ap, ◌∙◌}
+use Rattle.std.proofs.Common.{◌≡◌, ◌==◌, ℕ, ℤ, pos, Bool, true, false, cond, List, [], ◌∷◌, ◌++◌, map, Option, Some, refl, sym, ap, ◌∙◌}
 use Rattle.std.specs.Prelude.{◌&&◌, ◌||◌, not, unwrap_or, flat_map, Ok, Err}
 use Rattle.std.specs.List.{list_all}
 use Rattle.xr_types.specs.declared.kind.DType.{DType}
 use Rattle.xr_types.specs.declared.kind.DType.TheVariants as kinds
 use Rattle.xr_types.specs.declared.attr.NcType.{NcType}
+use Rattle.xr_types.specs.declared.attr.NcType.TheVariants.{Char}
 use Rattle.xr_types.specs.declared.fault.Fault.TheVariants.{CannotHold}
 use Rattle.xr_files.specs.declared.file.CdfDim.{CdfDim}
 use Rattle.xr_files.specs.declared.file.CdfVar.{CdfVar}
 use Rattle.xr_defs.specs.declared.write_options.WriteOptions.{WriteOptions}
 use Rattle.xr_types.specs.Results.{◌>>=◌, unless}
-use Rattle.xr_defs.specs.Encoding.{Stored, holds_cell, type_of, fill_for, check_fill, check_fit, check_cells, text_cells, text_width, filled_up, var_of, value_bytes}
+use Rattle.xr_defs.specs.Encoding.{Stored, holds_cell, classic_type, own_type, type_of, fill_for, check_fill, check_fit, check_cells, text_cells, text_width, filled_up, var_of, value_bytes}
 use Rattle.xr_encode.specs.declared.outline.Outline.{Outline}
 use Rattle.xr_encode.specs.Outlines.{filled_with, without_cells, outline_of}
 use Rattle.xr_encode.specs.Rows.{cells_bytes}
@@ -40,7 +41,7 @@ check_by true a b e f m = cc
 check_by false true b e f m = refl
 check_by false false b e f m = refl
 
-pub plain_check : (options : WriteOptions) (o : Stored) → o.masked ≡ false → check_cells options o ≡ unless (list_all (holds_cell (type_of o.kind)) o.cells) CannotHold
+pub plain_check : (options : WriteOptions) (o : Stored) → o.masked ≡ false → check_cells options o ≡ unless (list_all (holds_cell (type_of options.version o.kind)) o.cells) CannotHold
 unfolding check_cells
 plain_check options o m = check_by o.masked _ _ _ _ m
 
@@ -56,20 +57,20 @@ err_where false e h = refl
 
 -- ---- what is told of a variable
 
-pub told_fault : (small : Bool) (dims : List CdfDim) (options : WriteOptions) (o : Outline) (cells : List (Option ℤ)) → o.masked ≡ false → list_all (holds_cell (type_of o.kind)) cells ≡ false → var_checked small dims options (filled_with cells o) ≡ Err CannotHold
+pub told_fault : (small : Bool) (dims : List CdfDim) (options : WriteOptions) (o : Outline) (cells : List (Option ℤ)) → o.masked ≡ false → list_all (holds_cell (type_of options.version o.kind)) cells ≡ false → var_checked small dims options (filled_with cells o) ≡ Err CannotHold
 unfolding var_checked
 told_fault small dims options o cells m h = ap (λ r. r >>= λ u. Ok (var_of dims options (cells_if small (filled_with cells o)))) (plain_check options (filled_with cells o) m ∙ err_where _ CannotHold h)
 
-told : (small : Bool) (dims : List CdfDim) (options : WriteOptions) (o : Outline) (cells : List (Option ℤ)) → o.masked ≡ false → list_all (holds_cell (type_of o.kind)) cells ≡ true → var_checked small dims options (filled_with cells o) ≡ Ok (var_of dims options (cells_if small (filled_with cells o)))
+told : (small : Bool) (dims : List CdfDim) (options : WriteOptions) (o : Outline) (cells : List (Option ℤ)) → o.masked ≡ false → list_all (holds_cell (type_of options.version o.kind)) cells ≡ true → var_checked small dims options (filled_with cells o) ≡ Ok (var_of dims options (cells_if small (filled_with cells o)))
 unfolding var_checked
 told small dims options o cells m h = ap (λ r. r >>= λ u. Ok (var_of dims options (cells_if small (filled_with cells o)))) (plain_check options (filled_with cells o) m ∙ ok_where _ CannotHold h)
 
-pub told_unwritten : (small : Bool) (dims : List CdfDim) (options : WriteOptions) (o : Outline) (cells : List (Option ℤ)) (v : CdfVar) (raw : List ℕ) → small ≡ false → o.masked ≡ false → list_all (holds_cell (type_of o.kind)) cells ≡ true → raw ≡ [] → v ≡ var_with dims options o raw
+pub told_unwritten : (small : Bool) (dims : List CdfDim) (options : WriteOptions) (o : Outline) (cells : List (Option ℤ)) (v : CdfVar) (raw : List ℕ) → small ≡ false → o.masked ≡ false → list_all (holds_cell (type_of options.version o.kind)) cells ≡ true → raw ≡ [] → v ≡ var_with dims options o raw
     → var_checked small dims options (filled_with cells o) ≡ Ok v
 told_unwritten small dims options o cells v raw s m h none is =
     told small dims options o cells m h ∙ ap (λ b. Ok (var_of dims options (cells_if b (filled_with cells o)))) s ∙ sym (ap Ok (is ∙ ap (var_with dims options o) none))
 
-pub told_written : (small : Bool) (dims : List CdfDim) (options : WriteOptions) (o : Outline) (cells : List (Option ℤ)) (v : CdfVar) (raw : List ℕ) → small ≡ true → o.masked ≡ false → list_all (holds_cell (type_of o.kind)) cells ≡ true → raw ≡ written_bytes options (filled_with cells o)
+pub told_written : (small : Bool) (dims : List CdfDim) (options : WriteOptions) (o : Outline) (cells : List (Option ℤ)) (v : CdfVar) (raw : List ℕ) → small ≡ true → o.masked ≡ false → list_all (holds_cell (type_of options.version o.kind)) cells ≡ true → raw ≡ written_bytes options (filled_with cells o)
     → v ≡ var_with dims options o raw → var_checked small dims options (filled_with cells o) ≡ Ok v
 told_written small dims options o cells v raw s m h bytes is =
     told small dims options o cells m h ∙ ap (λ b. Ok (var_of dims options (cells_if b (filled_with cells o)))) s ∙ sym (ap Ok (is ∙ ap (var_with dims options o) bytes))
@@ -80,20 +81,28 @@ same_bytes : (t : NcType) (f g : ℤ) (ns : List ℤ) → cells_bytes t f (map S
 same_bytes t f g [] = refl
 same_bytes t f g (n ∷ ns) = ap (λ l. value_bytes t n ++ l) (same_bytes t f g ns)
 
-pub labels_written : (options : WriteOptions) (o : Outline) (ns : List ℤ) → cells_bytes (type_of o.kind) (pos 0) (map Some ns) ≡ written_bytes options (filled_with (map Some ns) o)
-labels_written options o ns = same_bytes (type_of o.kind) (pos 0) (unwrap_or (fill_for options (without_cells o)) (pos 0)) ns
+pub labels_written : (options : WriteOptions) (o : Outline) (ns : List ℤ) → cells_bytes (type_of options.version o.kind) (pos 0) (map Some ns) ≡ written_bytes options (filled_with (map Some ns) o)
+labels_written options o ns = same_bytes (type_of options.version o.kind) (pos 0) (unwrap_or (fill_for options (without_cells o)) (pos 0)) ns
 
-pub cells_written : (options : WriteOptions) (o : Outline) (kind : DType) (fill : ℤ) (cells : List (Option ℤ)) → kind ≡ o.kind → fill ≡ unwrap_or (fill_for options (without_cells o)) (pos 0)
-    → cells_bytes (type_of kind) fill cells ≡ written_bytes options (filled_with cells o)
-cells_written options o kind fill cells k is = ap (λ t. cells_bytes (type_of t) fill cells) k ∙ ap (λ f. cells_bytes (type_of o.kind) f cells) is
+pub cells_written : (options : WriteOptions) (o : Outline) (t : NcType) (fill : ℤ) (cells : List (Option ℤ)) → t ≡ type_of options.version o.kind → fill ≡ unwrap_or (fill_for options (without_cells o)) (pos 0)
+    → cells_bytes t fill cells ≡ written_bytes options (filled_with cells o)
+cells_written options o t fill cells k is = ap (λ u. cells_bytes u fill cells) k ∙ ap (λ f. cells_bytes (type_of options.version o.kind) f cells) is
 
-pub texts_checked : (o : Outline) (texts : List (List ℕ)) → o.kind ≡ kinds.Char → AreBytes texts → list_all (holds_cell (type_of o.kind)) (text_cells texts) ≡ true
-texts_checked o texts k bytes = ap (λ t. list_all (holds_cell (type_of t)) (text_cells texts)) k ∙ texts_hold texts bytes
+char_by : (b : Bool) → (cond b (own_type kinds.Char) (classic_type kinds.Char)) ≡ Char
+char_by true = refl
+char_by false = refl
+
+-- each version writes texts as char
+char_is : (options : WriteOptions) (o : Outline) → o.kind ≡ kinds.Char → type_of options.version o.kind ≡ Char
+char_is options o k = ap (type_of options.version) k ∙ char_by (options.version == 5)
+
+pub texts_checked : (options : WriteOptions) (o : Outline) (texts : List (List ℕ)) → o.kind ≡ kinds.Char → AreBytes texts → list_all (holds_cell (type_of options.version o.kind)) (text_cells texts) ≡ true
+texts_checked options o texts k bytes = ap (λ t. list_all (holds_cell t) (text_cells texts)) (char_is options o k) ∙ texts_hold texts bytes
 
 pub texts_written : (options : WriteOptions) (o : Outline) (texts : List (List ℕ)) → o.kind ≡ kinds.Char → AreBytes texts → flat_map (filled_up (text_width texts)) texts ≡ written_bytes options (filled_with (text_cells texts) o)
 texts_written options o texts k bytes =
     let fill : ℤ = unwrap_or (fill_for options (without_cells o)) (pos 0) in
-    sym (ap (λ t. cells_bytes (type_of t) fill (text_cells texts)) k ∙ texts_again fill texts bytes)
+    sym (ap (λ t. cells_bytes t fill (text_cells texts)) (char_is options o k) ∙ texts_again fill texts bytes)
 
 -- the check of fill numbers looks at no cells
 pub same_fit : (options : WriteOptions) (o : Stored) → check_fit options (without_cells (outline_of o)) ≡ check_fit options o

@@ -1,5 +1,5 @@
 -- The checks of a dataset that look at no cells, over its parts.
-use Rattle.std.specs.Prelude.{ℕ, List, [], not, ◌||◌, codes, Result, Bool}
+use Rattle.std.specs.Prelude.{ℕ, List, [], not, ◌||◌, ◌&&◌, codes, Result, Bool}
 use Rattle.std.specs.List.{list_any, list_all}
 use Rattle.xr_types.specs.declared.fault.Fault.{Fault}
 use Rattle.xr_types.specs.declared.fault.Fault.TheVariants.{DuplicateName, CannotHold}
@@ -9,7 +9,8 @@ use Rattle.xr_defs.specs.declared.write_options.WriteOptions.{WriteOptions}
 use Rattle.xr_types.specs.Results.{◌>>=◌, unless}
 use Rattle.xr_defs.specs.Values.{Dataset}
 use Rattle.xr_defs.specs.Decoding.{is_attr, is_blank}
-use Rattle.xr_defs.specs.Encoding.{has_width, are_new, added, coordinates_added, is_that, record_dim, empty_axes, stands_first}
+use Rattle.xr_defs.specs.Encoding.{has_width, are_new, added, coordinates_added, is_that, record_dim, empty_axes, stands_first, attrs_of}
+use Rattle.xr_files.specs.Canonical.{has_types}
 use Rattle.xr_encode.specs.declared.outline.Outline.{Outline}
 use Rattle.xr_encode.specs.Outlines.{without_cells}
 
@@ -39,8 +40,16 @@ is_first axes options o = stands_first (record_dim (over axes) options) (without
 abbrev pub has_blank : List ℕ → Bool
 has_blank name = list_any is_blank name
 
-unfoldable pub records_checked : List Axis → List Outline → List (List ℕ) → WriteOptions → Result (Unit {0}) Fault
-records_checked axes outlines names options =
+-- the version has the type of each attribute of a variable, as it is written
+abbrev pub are_typed : WriteOptions → Outline → Bool
+are_typed options o = has_types options.version (attrs_of options (without_cells o))
+
+unfoldable pub places_checked : List Axis → List Outline → List (List ℕ) → WriteOptions → Result (Unit {0}) Fault
+places_checked axes outlines names options =
     unless (list_all (is_that (record_dim (over axes) options)) (empty_axes (over axes))) CannotHold >>= λ u.
     unless (list_all (is_first axes options) outlines) CannotHold >>= λ v.
     unless (not (list_any has_blank names)) CannotHold
+
+unfoldable pub records_checked : List Axis → List Outline → List (List ℕ) → List Attr → WriteOptions → Result (Unit {0}) Fault
+records_checked axes outlines names attrs options =
+    places_checked axes outlines names options >>= λ w. unless (has_types options.version attrs && list_all (are_typed options) outlines) CannotHold

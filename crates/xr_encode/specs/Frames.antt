@@ -47,7 +47,7 @@ frame_of s parts options = file_with s parts options (map (λ o. var_of (dims_wi
 unfoldable pub parts_checked : Dataset → Parts → WriteOptions → Result (Unit {0}) Fault
 parts_checked s parts options =
     check_unlimited (over s.axes) options >>= λ a. names_checked s.axes parts.widths parts.outlines s.attrs parts.unlisted options >>= λ b.
-    records_checked s.axes parts.outlines (coord_names s.coords) options >>= λ c.
+    records_checked s.axes parts.outlines (coord_names s.coords) s.attrs options >>= λ c.
     all_of (check_fill options) (map without_cells parts.outlines) >>= λ d. all_of (check_fit options) (map without_cells parts.outlines)
 
 -- ---- the walk

@@ -1,6 +1,5 @@
 pub mod Outlines
 pub mod Widths
-pub mod Numbers
 pub mod Attributes
 pub mod Checks
 pub mod Dimensions

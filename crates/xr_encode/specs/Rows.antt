@@ -1,11 +1,10 @@
 -- Cells in row order, as the bytes of values.
-use Rattle.std.specs.Prelude.{ℕ, ℤ, Bool, false, List, flat_map, Option, Some, None, All, ⊤}
+use Rattle.std.specs.Prelude.{◌==◌, ℕ, ℤ, Bool, true, false, List, flat_map, Option, Some, None}
 use Rattle.std.specs.List.{list_all, list_any}
 use Rattle.std.specs.Ordering.{int_eq}
-use Rattle.xr_types.specs.Kinds.{InRange}
 use Rattle.xr_types.specs.declared.attr.NcType.{NcType}
 use Rattle.xr_types.specs.declared.kind.DType.{DType}
-use Rattle.xr_types.specs.declared.kind.DType.TheVariants.{Int64}
+use Rattle.xr_types.specs.declared.kind.DType.TheVariants as kinds
 use Rattle.xr_defs.specs.Encoding.{holds, value_bytes}
 
 -- a cell's number, or the one that stands for a missing cell
@@ -25,15 +24,20 @@ abbrev pub is_number : ℤ → Option ℤ → Bool
 is_number n None = false
 is_number n (Some m) = int_eq m n
 
--- one of the numbers is this one
-abbrev pub stands : ℤ → List ℤ → Bool
-stands n ns = list_any (λ m. int_eq m n) ns
-
 -- a cell that is there has one of these numbers
 abbrev pub has_any : List ℤ → List (Option ℤ) → Bool
 has_any fills cells = list_any (λ n. list_any (is_number n) cells) fills
 
--- labels of a kind that has more numbers than its type are looked at one by one; the others are of their kind
-abbrev pub MayHold : DType → List ℤ → Type 0
-MayHold Int64 ns = ⊤
-MayHold kind ns = All (InRange kind) ns
+-- the type in which a version writes a kind has all numbers of the kind: those of version 5 do, and in versions 1 and 2 those of
+-- the kinds that these versions read
+abbrev pub holds_all : ℕ → DType → Bool
+holds_all version kinds.Bool = true
+holds_all version kinds.Char = true
+holds_all version kinds.Int8 = true
+holds_all version kinds.Int16 = true
+holds_all version kinds.Int32 = true
+holds_all version kinds.Int64 = version == 5
+holds_all version kinds.UInt8 = version == 5
+holds_all version kinds.UInt16 = version == 5
+holds_all version kinds.UInt32 = version == 5
+holds_all version kinds.UInt64 = version == 5

@@ -7,7 +7,7 @@ use Rattle.xr_files.specs.declared.file.CdfDim.{CdfDim}
 use Rattle.xr_files.specs.declared.file.CdfVar.{CdfVar}
 use Rattle.xr_defs.specs.declared.write_options.WriteOptions.{WriteOptions}
 use Rattle.xr_types.specs.Results.{◌>>=◌}
-use Rattle.xr_defs.specs.Encoding.{Stored, check_cells, var_of, type_of, value_bytes, number_for}
+use Rattle.xr_defs.specs.Encoding.{Stored, check_cells, var_of, written_type, value_bytes, number_for}
 use Rattle.xr_defs.specs.declared.value.Coord.{Coord}
 use Rattle.xr_types.specs.Names.{shape_over}
 use Rattle.xr_defs.specs.WellFormed.{IsContent}
@@ -20,7 +20,7 @@ var_with dims options o raw = record (var_of dims options (without_cells o)) { r
 
 -- the bytes of a variable's values
 abbrev pub written_bytes : WriteOptions → Stored → List ℕ
-written_bytes options o = flat_map (λ c. value_bytes (type_of o.kind) (number_for options o c)) o.cells
+written_bytes options o = flat_map (λ c. value_bytes (written_type options o) (number_for options o c)) o.cells
 
 abbrev pub cells_if : Bool → Stored → Stored
 cells_if true o = o

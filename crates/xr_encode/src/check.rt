@@ -1,12 +1,14 @@
 //! The checks that look at no cells.
-ghost use Rattle.std.specs.Prelude.{◌≡◌, map, option_copied, IfOk};
+ghost use Rattle.std.specs.Prelude.{◌≡◌, ◌&&◌, map, option_copied, IfOk};
 ghost use Rattle.std.specs.List.{list_any, list_all};
 ghost use Rattle.xr_types.specs.Results.{Answers, unless, all_of};
 ghost use Rattle.xr_defs.specs.Decoding.{is_attr};
 ghost use Rattle.xr_defs.specs.Encoding.{has_width, are_new, coord_names, dtype_added, coordinates_added, is_that, empty_axes, stands_first, check_unlimited, check_fill, check_fit};
+ghost use Rattle.xr_files.specs.Canonical.{has_types};
 ghost use Rattle.xr_encode.specs.Outlines.{without_cells};
-ghost use Rattle.xr_encode.specs.Checks.{over, is_fill_new, list_none, has_new, names_checked, is_first, has_blank, records_checked};
+ghost use Rattle.xr_encode.specs.Checks.{over, is_fill_new, list_none, has_new, names_checked, is_first, has_blank, are_typed, places_checked, records_checked};
 
+use crate::attrs::{are_typed, fill_in_use};
 use crate::dims::{axis_named, is_that, record_dim};
 use crate::fill::{fill_for, fill_numbers, is_attr, uses_option};
 use crate::name::string_name;
@@ -85,6 +87,7 @@ fn is_dtype_new(kind: DType, own: &[Attr]) -> bool
     match kind {
         DType::Bool => !has_attr("dtype", own),
         DType::Char | DType::Int8 | DType::Int16 | DType::Int32 | DType::Int64 => true,
+        DType::UInt8 | DType::UInt16 | DType::UInt32 | DType::UInt64 => true,
     }
 }
 
@@ -210,20 +213,81 @@ fn have_blank(coords: &[Coord]) -> bool
     false
 }
 
-/// There is one record dimension at most, which stands first only, and no coordinate's name has a blank.
-#[tactic(auto, unfolding(crate::specs::Checks::records_checked))]
-pub fn check_records(
+// The version has the type of each attribute of a variable, as it is written.
+#[tactic(auto, using(crate::proofs::Typed::typed_are))]
+fn are_outline_attrs_typed(
+    alloc: Global,
+    options: &WriteOptions,
+    outline: &Outline,
+) -> Result<bool, AllocError>
+    ensures { IfOk result (λ b. b ≡ are_typed options.now outline.now) }
+{
+    let fill = fill_in_use(alloc, outline)?;
+    Ok(are_typed(options.version, fill, outline.attrs.as_slice()))
+}
+
+fn are_all_typed(
+    alloc: Global,
+    options: &WriteOptions,
+    outlines: &[Outline],
+) -> Result<bool, AllocError>
+    ensures { IfOk result (λ b. b ≡ list_all (are_typed options.now) outlines.now) }
+{
+    for outline in outlines {
+        if !are_outline_attrs_typed(alloc, options, outline)? {
+            return Ok(false);
+        }
+    }
+    Ok(true)
+}
+
+// The version has the type of each attribute of a dataset, and of its variables.
+#[tactic(auto, using(crate::proofs::Typed::given_none))]
+fn has_types(
+    alloc: Global,
+    options: &WriteOptions,
+    outlines: &[Outline],
+    attrs: &[Attr],
+) -> Result<bool, AllocError>
+    ensures { IfOk result (λ b. b ≡ (has_types options.now.version attrs.now && list_all (are_typed options.now) outlines.now)) }
+{
+    Ok(are_typed(options.version, None, attrs) && are_all_typed(alloc, options, outlines)?)
+}
+
+// There is one record dimension at most, which stands first only, and no coordinate's name has a blank.
+#[tactic(auto, unfolding(crate::specs::Checks::places_checked))]
+fn check_places(
     axes: &[Axis],
     outlines: &[Outline],
     coords: &[Coord],
     options: &WriteOptions,
 ) -> Result<(), CallFault>
-    ensures { Answers (λ u. u) result (records_checked axes.now outlines.now (coord_names coords.now) options.now) }
+    ensures { Answers (λ u. u) result (places_checked axes.now outlines.now (coord_names coords.now) options.now) }
 {
     let records = record_dim(axes, options);
     refuse_unless(have_one_empty(axes, records), Fault::CannotHold)?;
     refuse_unless(stand_first(records, outlines), Fault::CannotHold)?;
     refuse_unless(!have_blank(coords), Fault::CannotHold)
+}
+
+/// There is one record dimension at most, which stands first only, no coordinate's name has a blank, and the version has
+/// the types of the attributes.
+#[tactic(auto, unfolding(crate::specs::Checks::records_checked))]
+pub fn check_records(
+    alloc: Global,
+    axes: &[Axis],
+    outlines: &[Outline],
+    coords: &[Coord],
+    attrs: &[Attr],
+    options: &WriteOptions,
+) -> Result<(), CallFault>
+    ensures { Answers (λ u. u) result (records_checked axes.now outlines.now (coord_names coords.now) attrs.now options.now) }
+{
+    check_places(axes, outlines, coords, options)?;
+    refuse_unless(
+        has_types(alloc, options, outlines, attrs)?,
+        Fault::CannotHold,
+    )
 }
 
 #[tactic(auto, unfolding(xr_defs::specs::Encoding::check_fill))]
@@ -262,7 +326,7 @@ fn check_fit(alloc: Global, options: &WriteOptions, outline: &Outline) -> Result
     )?;
     let fill = fill_for(options, outline, fills.as_slice()).unwrap_or(0);
     refuse_unless(
-        !outline.masked || holds(type_of(outline.kind), fill),
+        !outline.masked || holds(type_of(options.version, outline.kind), fill),
         Fault::CannotHold,
     )
 }

@@ -14,9 +14,9 @@ use crate::set::variable_outline;
 use plan_core::Compute;
 use std::alloc::Global;
 use std::thread::Threads;
-use xr_files::{CdfDim, CdfVar};
 use xr_arrays::ArrayValue;
 use xr_defs::{Coord, WriteOptions};
+use xr_files::{CdfDim, CdfVar};
 use xr_types::{CallFault, ComputeFault, Items, NodeId};
 use xr_values::{Cx, Variable};
 

@@ -6,8 +6,8 @@ ghost use Rattle.xr_encode.specs.Dimensions.{is_axisless, dims_with};
 
 use crate::name::string_name;
 use std::alloc::{AllocError, Global};
-use xr_files::CdfDim;
 use xr_defs::WriteOptions;
+use xr_files::CdfDim;
 use xr_types::{Axis, DeepCopy, Items, Name};
 
 /// The axis of a name.

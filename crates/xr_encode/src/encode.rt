@@ -24,8 +24,8 @@ use crate::widths::read_widths;
 use plan_core::Compute;
 use std::alloc::Global;
 use std::thread::Threads;
-use xr_files::{CdfDim, CdfFile, CdfVar};
 use xr_defs::{Coord, WriteOptions};
+use xr_files::{CdfDim, CdfFile, CdfVar};
 use xr_types::{CallFault, Fault, Items};
 use xr_values::{Cx, Dataset};
 
@@ -51,7 +51,14 @@ fn check_parts(
         parts.unlisted.as_slice(),
         options,
     )?;
-    check_records(axes, outlines, set.coords.as_slice(), options)?;
+    check_records(
+        alloc,
+        axes,
+        outlines,
+        set.coords.as_slice(),
+        set.attrs.as_slice(),
+        options,
+    )?;
     check_fills(alloc, options, outlines)?;
     check_fits(alloc, options, outlines)
 }
@@ -132,7 +139,7 @@ fn encode_parts<R: Threads + Sync, C: Compute>(
 /// The classic file of a dataset of the plan, or why there is none (CF Conventions; xarray, `Dataset.to_netcdf`).
 ///
 /// The first fault in this order is the answer: the dimension that is asked for isn't there; a name would stand twice;
-/// the version has no place for the record dimensions; a masked variable has no number for its missing cells; a number
+/// the version has no place for the record dimensions, or not the type of an attribute; a masked variable has no number for its missing cells; a number
 /// that stands for them doesn't fit; variable by variable in the order of the file a number that its type doesn't
 /// hold, or one that would read as missing; the file is too large. The cells of a data variable are computed when its
 /// turn comes, and where its node is declined that is the answer. The plan stays as it is.

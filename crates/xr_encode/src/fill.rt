@@ -1,14 +1,17 @@
 //! The numbers that stand for missing cells.
-ghost use Rattle.std.specs.Prelude.{◌≡◌, ◌++◌, find, ℤ, option_copied, IfOk, OnOk};
+ghost use Rattle.std.specs.Prelude.{◌≡◌, ◌++◌, true, find, option_copied, IfOk, OnOk};
+ghost use Rattle.xr_arrays.specs.Numbers.{is_whole, numbers_of};
 ghost use Rattle.xr_defs.specs.Decoding.{is_attr, attr_numbers, own_fill, fill_numbers};
 ghost use Rattle.xr_defs.specs.Encoding.{uses_option, fill_for};
 ghost use Rattle.xr_encode.specs.Outlines.{without_cells};
 
-use crate::number::{is_integer, push_numbers};
+use crate::number::is_integer;
 use crate::outline::Outline;
 use std::alloc::{AllocError, Global};
+use stored_cells::decoded_cells;
 use xr_defs::WriteOptions;
-use xr_types::{Attr, Items};
+use xr_types::{Attr, Integers, Items, NcType};
+use xr_values::integers_of;
 
 /// Whether an attribute has a name.
 pub fn is_attr(name: &str, attr: &Attr) -> bool
@@ -28,14 +31,44 @@ fn attr_named<'a>(name: &str, attrs: &'a [Attr]) -> Option<&'a Attr>
     None
 }
 
+fn push_integers(numbers: &mut Items<i128>, more: &Integers) -> Result<(), AllocError>
+    ensures { OnOk result (numbers.new ≡ numbers.old ++ more.now) }
+{
+    for i in 0..more.len() {
+        numbers.push(more.get(i))?;
+    }
+    Ok(())
+}
+
+// Appends the numbers of values.
+fn push_numbers(
+    alloc: Global,
+    numbers: &mut Items<i128>,
+    kind: NcType,
+    raw: &[u8],
+) -> Result<(), AllocError>
+    requires { is_whole kind ≡ true }
+    ensures { OnOk result (numbers.new ≡ numbers.old ++ numbers_of kind raw.now) }
+{
+    let cells = decoded_cells(alloc, kind, raw)?;
+    let more = integers_of(alloc, &cells)?;
+    push_integers(numbers, &more)
+}
+
 // Appends the numbers of an attribute of whole numbers.
-fn push_attr_numbers(numbers: &mut Items<i64>, name: &str, attrs: &[Attr]) -> Result<(), AllocError>
+#[tactic(auto, using(crate::proofs::Values::integer_is_whole))]
+fn push_attr_numbers(
+    alloc: Global,
+    numbers: &mut Items<i128>,
+    name: &str,
+    attrs: &[Attr],
+) -> Result<(), AllocError>
     ensures { OnOk result (numbers.new ≡ numbers.old ++ attr_numbers name.now attrs.now) }
 {
     match attr_named(name, attrs) {
         Some(attr) => {
             if is_integer(attr.kind) {
-                push_numbers(numbers, attr.kind, attr.raw.as_slice())
+                push_numbers(alloc, numbers, attr.kind, attr.raw.as_slice())
             } else {
                 Ok(())
             }
@@ -45,11 +78,11 @@ fn push_attr_numbers(numbers: &mut Items<i64>, name: &str, attrs: &[Attr]) -> Re
 }
 
 /// The one number of `_FillValue`.
-pub fn own_fill(alloc: Global, attrs: &[Attr]) -> Result<Items<i64>, AllocError>
+pub fn own_fill(alloc: Global, attrs: &[Attr]) -> Result<Items<i128>, AllocError>
     ensures { IfOk result (λ fills. fills ≡ own_fill attrs.now) }
 {
     let mut numbers = Items::new(alloc);
-    push_attr_numbers(&mut numbers, "_FillValue", attrs)?;
+    push_attr_numbers(alloc, &mut numbers, "_FillValue", attrs)?;
     match numbers.as_slice() {
         [] => Ok(numbers),
         [_] => Ok(numbers),
@@ -58,16 +91,16 @@ pub fn own_fill(alloc: Global, attrs: &[Attr]) -> Result<Items<i64>, AllocError>
 }
 
 /// The one number of `_FillValue`, and all of `missing_value`.
-pub fn fill_numbers(alloc: Global, attrs: &[Attr]) -> Result<Items<i64>, AllocError>
+pub fn fill_numbers(alloc: Global, attrs: &[Attr]) -> Result<Items<i128>, AllocError>
     ensures { IfOk result (λ fills. fills ≡ fill_numbers attrs.now) }
 {
     let mut fills = own_fill(alloc, attrs)?;
-    push_attr_numbers(&mut fills, "missing_value", attrs)?;
+    push_attr_numbers(alloc, &mut fills, "missing_value", attrs)?;
     Ok(fills)
 }
 
 /// Whether missing cells are written as the option's number, given the fill numbers of a variable.
-pub fn uses_option(options: &WriteOptions, outline: &Outline, fills: &[i64]) -> bool
+pub fn uses_option(options: &WriteOptions, outline: &Outline, fills: &[i128]) -> bool
     requires { fills.now ≡ fill_numbers outline.now.attrs }
     ensures { result ≡ uses_option options.now (without_cells outline.now) }
 {
@@ -78,12 +111,12 @@ pub fn uses_option(options: &WriteOptions, outline: &Outline, fills: &[i64]) -> 
 }
 
 /// The number as which missing cells are written, given the fill numbers of a variable.
-pub fn fill_for(options: &WriteOptions, outline: &Outline, fills: &[i64]) -> Option<i128>
+pub fn fill_for(options: &WriteOptions, outline: &Outline, fills: &[i128]) -> Option<i128>
     requires { fills.now ≡ fill_numbers outline.now.attrs }
     ensures { result ≡ fill_for options.now (without_cells outline.now) }
 {
     match fills {
         [] => options.fill,
-        [fill, ..] => Some(i128::from(*fill)),
+        [fill, ..] => Some(*fill),
     }
 }

@@ -13,23 +13,24 @@ use crate::array::{array_bytes, array_has, array_holds};
 use crate::check::refuse_unless;
 use crate::fill::{fill_for, fill_numbers, uses_option};
 use crate::frame::var_with;
+use crate::number::type_of;
 use crate::outline::Outline;
 use bytes::Bytes;
 use std::alloc::{AllocError, Global};
-use xr_files::{CdfDim, CdfVar};
 use xr_arrays::ArrayValue;
 use xr_defs::WriteOptions;
+use xr_files::{CdfDim, CdfVar};
 use xr_types::{CallFault, Fault};
 
-fn has_any(array: &ArrayValue, numbers: &[i64]) -> bool
-    ensures { result ≡ has_any numbers.now array.now.cells }
+fn has_any(alloc: Global, array: &ArrayValue, numbers: &[i128]) -> Result<bool, AllocError>
+    ensures { IfOk result (λ b. b ≡ has_any numbers.now array.now.cells) }
 {
     for number in numbers {
-        if array_has(array, i128::from(*number)) {
-            return true;
+        if array_has(alloc, array, *number)? {
+            return Ok(true);
         }
     }
-    false
+    Ok(false)
 }
 
 // Whether a cell that is there would read as missing.
@@ -44,9 +45,9 @@ fn collides(
 {
     let fills = fill_numbers(alloc, outline.attrs.as_slice())?;
     if uses_option(options, outline, fills.as_slice()) {
-        Ok(array_has(array, options.fill.unwrap_or(0)))
+        array_has(alloc, array, options.fill.unwrap_or(0))
     } else {
-        Ok(has_any(array, fills.as_slice()))
+        has_any(alloc, array, fills.as_slice())
     }
 }
 
@@ -62,7 +63,10 @@ fn check_array(
     requires range { All (IsCell array.now.kind) array.now.cells }
     ensures { Answers (λ u. u) result (check_cells options.now (filled_with array.now.cells outline.now)) }
 {
-    refuse_unless(array_holds(array), Fault::CannotHold)?;
+    refuse_unless(
+        array_holds(alloc, options.version, array)?,
+        Fault::CannotHold,
+    )?;
     if !outline.masked {
         return Ok(());
     }
@@ -87,7 +91,7 @@ fn checked_bytes(
 {
     let fills = fill_numbers(alloc, outline.attrs.as_slice())?;
     let fill = fill_for(options, outline, fills.as_slice()).unwrap_or(0);
-    array_bytes(alloc, array, fill)
+    array_bytes(alloc, type_of(options.version, array.kind()), array, fill)
 }
 
 /// A variable with the cells of an array, which are written where the file is small.

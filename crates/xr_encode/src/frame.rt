@@ -13,8 +13,8 @@ use crate::outline::Outline;
 use crate::parts::Parts;
 use bytes::Bytes;
 use std::alloc::{AllocError, Global};
-use xr_files::{CdfDim, CdfFile, CdfVar};
 use xr_defs::WriteOptions;
+use xr_files::{CdfDim, CdfFile, CdfVar};
 use xr_types::{DeepCopy, Items};
 use xr_values::Dataset;
 
@@ -33,7 +33,7 @@ pub fn var_with(
         name: outline.name.deep_copy(alloc)?,
         dims: numbers_of_dims(alloc, dims, outline.dims.as_slice())?,
         attrs: attrs_of(alloc, options, outline)?,
-        kind: type_of(outline.kind),
+        kind: type_of(options.version, outline.kind),
         raw,
     })
 }

@@ -8,14 +8,15 @@ ghost use Rattle.xr_encode.specs.Walk.{var_checked, vars_from, Puts, HasContent}
 
 use crate::filled::array_var;
 use crate::outline::{coord_outline, labels_outline};
-use crate::plain::{labels_var, texts_var};
+use crate::plain::{integers_var, labels_var, texts_var};
 use std::alloc::Global;
 use std::slice::from_ref;
-use xr_files::{CdfDim, CdfVar};
 use xr_defs::{Content, Coord, WriteOptions};
+use xr_files::{CdfDim, CdfVar};
 use xr_types::{Axis, CallFault, Items, LabelList, Labels, Name};
 
 // The variable of the labels of an axis.
+#[tactic(auto, using(crate::proofs::Runs::themselves))]
 fn index_var(
     alloc: Global,
     dims: &[CdfDim],
@@ -30,7 +31,7 @@ fn index_var(
     let outline = labels_outline(alloc, name, labels.attrs.as_slice(), &labels.list)?;
     match &labels.list {
         LabelList::Numbers(_, numbers) => {
-            labels_var(alloc, dims, options, &outline, numbers.as_slice(), small)
+            integers_var(alloc, dims, options, &outline, numbers, small)
         }
         LabelList::Times(_, times) => {
             labels_var(alloc, dims, options, &outline, times.as_slice(), small)
@@ -62,6 +63,7 @@ pub fn push_indexes(
 }
 
 // The variable of a coordinate that is no index.
+#[tactic(auto, using(crate::proofs::Runs::themselves))]
 fn coord_var(
     alloc: Global,
     dims: &[CdfDim],

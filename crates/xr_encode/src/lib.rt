@@ -12,7 +12,6 @@ mod fill;
 mod filled;
 mod frame;
 mod held;
-mod label;
 mod name;
 mod number;
 mod outline;

@@ -1,15 +1,14 @@
 //! Neighbouring cells, with a mask or without one.
 ghost use Rattle.std.specs.Prelude.{◌≡◌, ◌<◌, true, ℤ, List, Option, map, length, get_or, ◌++◌, IfOk, OnOk, Some, None};
 ghost use Rattle.std.specs.List.{list_all, list_any};
-ghost use Rattle.xr_types.specs.declared.attr.NcType.TheVariants as types;
 ghost use Rattle.xr_arrays.specs.Arrays.{hidden};
 ghost use Rattle.xr_defs.specs.Encoding.{holds, holds_cell, value_bytes};
 ghost use Rattle.xr_encode.specs.Rows.{number_or, cells_bytes, are_held, is_number};
 
-use crate::number::Written;
+use crate::number::{Written, holds};
 use bytes::Bytes;
 use std::alloc::{AllocError, Global};
-use xr_types::Elem;
+use xr_types::{Elem, NcType};
 
 /// Cells in row order, some of which may be missing.
 pub trait Run: Copy + Drop {
@@ -71,13 +70,13 @@ impl<'a, T: Elem> Run for Masked<'a, T> {
     }
 }
 
-/// Whether type int holds each number.
-pub fn are_ints<R: Run>(run: R) -> bool
-    ensures { result ≡ list_all (holds_cell types.Int) (R.cells run) }
+/// Whether a type holds each number.
+pub fn are_held<R: Run>(kind: NcType, run: R) -> bool
+    ensures { result ≡ list_all (holds_cell kind) (R.cells run) }
 {
     for i in 0..run.len() {
         if let Some(n) = run.number(i) {
-            if n < -2_147_483_648 || n > 2_147_483_647 {
+            if !holds(kind, n) {
                 return false;
             }
         }
@@ -110,8 +109,8 @@ fn put_cell<W: Written>(out: &mut Vec<u8>, cell: Option<i128>, fill: i128) -> Re
     }
 }
 
-/// The bytes of the cells in a type, with a number for each missing one.
-pub fn bytes_of<R: Run, W: Written>(alloc: Global, run: R, fill: i128) -> Result<Bytes, AllocError>
+// The bytes of the cells in a type, with a number for each missing one.
+fn bytes_of<R: Run, W: Written>(alloc: Global, run: R, fill: i128) -> Result<Bytes, AllocError>
     requires { are_held W.kind fill (R.cells run) ≡ true }
     ensures { IfOk result (λ raw. raw ≡ cells_bytes W.kind fill (R.cells run)) }
 {
@@ -120,4 +119,29 @@ pub fn bytes_of<R: Run, W: Written>(alloc: Global, run: R, fill: i128) -> Result
         put_cell::<W>(&mut out, run.number(i), fill)?;
     }
     Ok(Bytes::from_vec(out)?)
+}
+
+/// The bytes of the cells in a type that holds them, with a number for each missing one.
+#[tactic(auto, using(crate::proofs::Runs::no_bytes))]
+pub fn bytes_in<R: Run>(
+    alloc: Global,
+    kind: NcType,
+    run: R,
+    fill: i128,
+) -> Result<Bytes, AllocError>
+    requires { are_held kind fill (R.cells run) ≡ true }
+    ensures { IfOk result (λ raw. raw ≡ cells_bytes kind fill (R.cells run)) }
+{
+    match kind {
+        NcType::Byte => bytes_of::<R, i8>(alloc, run, fill),
+        NcType::Char | NcType::UByte => bytes_of::<R, u8>(alloc, run, fill),
+        NcType::Short => bytes_of::<R, i16>(alloc, run, fill),
+        NcType::Int => bytes_of::<R, i32>(alloc, run, fill),
+        // these hold none
+        NcType::Float | NcType::Double => Ok(Bytes::new()),
+        NcType::UShort => bytes_of::<R, u16>(alloc, run, fill),
+        NcType::UInt => bytes_of::<R, u32>(alloc, run, fill),
+        NcType::Int64 => bytes_of::<R, i64>(alloc, run, fill),
+        NcType::UInt64 => bytes_of::<R, u64>(alloc, run, fill),
+    }
 }

@@ -1,99 +1,13 @@
 //! How large a file is, whatever its values are. The greatest number of 64 bits stands for all sizes that are larger.
-ghost use Rattle.std.specs.Prelude.{◌≡◌, ◌==◌, length, map};
-ghost use Rattle.xr_types.specs.Widths.{width};
-ghost use Rattle.xr_files.specs.Classic.{dim_at, padding};
-ghost use Rattle.xr_files.specs.Files.{padded, positions};
-ghost use Rattle.xr_files.specs.Canonical.{attr_text, dim_text, fixed_size, header_size, is_record, is_small, list_text, name_text, record_vars, recsize, room, slab, var_text};
-ghost use Rattle.cdf_writer.specs.Sizes.{capped, place_bytes};
+ghost use Rattle.std.specs.Prelude.{◌≡◌, ◌==◌, length};
+ghost use Rattle.xr_files.specs.Classic.{dim_at};
+ghost use Rattle.xr_files.specs.Files.{positions};
+ghost use Rattle.xr_files.specs.Canonical.{fixed_size, is_record, is_small, record_vars, recsize, room, slab};
+ghost use Rattle.cdf_writer.specs.Sizes.{capped};
 
-use crate::number::width;
+use cdf_writer::{header_size, padded_size, width};
 use xr_files::{CdfDim, CdfFile, CdfVar};
-use xr_types::{Attr, MOST_FILE_BYTES, Name};
-
-// With the bytes that fill it up to a multiple of four.
-fn padded_size(n: u64) -> u64
-    ensures { result ≡ capped (padded n) }
-{
-    n.saturating_add((4 - n % 4) % 4)
-}
-
-fn name_size(name: &Name) -> u64
-    ensures { result ≡ capped (length (name_text name.now)) }
-{
-    padded_size(name.as_bytes().len() as u64).saturating_add(4)
-}
-
-fn dim_size(dim: &CdfDim) -> u64
-    ensures { result ≡ capped (length (dim_text dim.now)) }
-{
-    name_size(&dim.name).saturating_add(4)
-}
-
-fn dims_size(dims: &[CdfDim]) -> u64
-    ensures { result ≡ capped (length (list_text 10 dim_text dims.now)) }
-{
-    let mut total: u64 = 8;
-    for dim in dims {
-        total = total.saturating_add(dim_size(dim));
-    }
-    total
-}
-
-fn attr_size(attr: &Attr) -> u64
-    ensures { result ≡ capped (length (attr_text attr.now)) }
-{
-    let values = padded_size(attr.raw.as_slice().len() as u64);
-    name_size(&attr.name)
-        .saturating_add(values)
-        .saturating_add(8)
-}
-
-fn attrs_size(attrs: &[Attr]) -> u64
-    ensures { result ≡ capped (length (list_text 12 attr_text attrs.now)) }
-{
-    let mut total: u64 = 8;
-    for attr in attrs {
-        total = total.saturating_add(attr_size(attr));
-    }
-    total
-}
-
-// Bytes of a place in the file.
-fn place_bytes(version: u8) -> u64
-    ensures { result ≡ place_bytes version }
-{
-    if version == 1 { 4 } else { 8 }
-}
-
-fn var_size(file: &CdfFile, var: &CdfVar) -> u64
-    ensures { result ≡ capped (length (var_text file.now.version file.now.dims (var.now, 0))) }
-{
-    let numbers = (var.dims.as_slice().len() as u64).saturating_mul(4);
-    let rest = attrs_size(var.attrs.as_slice()).saturating_add(12 + place_bytes(file.version));
-    name_size(&var.name)
-        .saturating_add(numbers)
-        .saturating_add(rest)
-}
-
-fn vars_size(file: &CdfFile) -> u64
-    ensures { result ≡ capped (length (list_text 11 (var_text file.now.version file.now.dims) (map (λ v. (v, 0)) file.now.vars))) }
-{
-    let mut total: u64 = 8;
-    for var in file.vars.as_slice() {
-        total = total.saturating_add(var_size(file, var));
-    }
-    total
-}
-
-fn header_size(file: &CdfFile) -> u64
-    ensures { result ≡ capped (header_size file.now) }
-{
-    let dims = dims_size(file.dims.as_slice());
-    let attrs = attrs_size(file.attrs.as_slice());
-    dims.saturating_add(attrs)
-        .saturating_add(vars_size(file))
-        .saturating_add(8)
-}
+use xr_types::MOST_FILE_BYTES;
 
 // How many positions the dimension of a number has in one record.
 fn positions(dims: &[CdfDim], number: u64) -> u64
@@ -121,7 +35,7 @@ fn is_record(file: &CdfFile, var: &CdfVar) -> bool
 fn slab(file: &CdfFile, var: &CdfVar) -> u64
     ensures { result ≡ capped (slab file.now.dims var.now) }
 {
-    let mut size = width(var.kind) as u64;
+    let mut size = width(var.kind);
     for number in var.dims.as_slice() {
         size = size.saturating_mul(positions(file.dims.as_slice(), *number));
     }

@@ -1,82 +1,62 @@
-//! Arrays that keep their cells as a file has them: which equal a number, and their bytes.
-ghost use Rattle.std.specs.Prelude.{◌≡◌, ◌<◌, ℕ, true, length, get_or, All, ⊤, MatchOption, IfOk};
+//! Arrays that keep their cells as a file has them: which numbers no cell has, and their bytes.
+ghost use Rattle.std.specs.Prelude.{◌≡◌, ◌<◌, ℕ, true, false, get_or, ⊤, MatchOption, IfOk};
 ghost use Rattle.std.specs.List.{list_all, list_any};
 ghost use Rattle.std.specs.Ordering.{int_eq};
-ghost use Rattle.xr_arrays.specs.Arrays.{IsCell};
-ghost use Rattle.xr_defs.specs.Encoding.{holds_cell, type_of};
-ghost use Rattle.xr_arrays.specs.Numbers.{is_whole, numbers_of};
 ghost use Rattle.xr_arrays.specs.Stored.{is_fill};
-ghost use Rattle.xr_encode.specs.Rows.{cells_bytes, is_number, stands};
+ghost use Rattle.xr_encode.specs.Rows.{cells_bytes, is_number};
 
-use crate::number::Written;
 use bytes::Bytes;
 use std::alloc::AllocError;
 use xr_arrays::StoredArray;
 use xr_types::NcType;
 
-/// Whether the type of a stored array's kind holds each of its numbers, which it always does.
-pub fn stored_holds(array: &StoredArray) -> bool
-    requires { All (IsCell array.now.kind) array.now.cells }
-    ensures { result ≡ list_all (holds_cell (type_of array.now.kind)) array.now.cells }
-{
-    let _parts = array.parts();
-    true
-}
-
-fn has_value<W: Written>(raw: &[u8], number: i128) -> bool
-    ensures { result ≡ stands number (numbers_of W.kind raw.now) }
-{
-    for i in 0..raw.len() / W::width() {
-        if W::number_at(raw, i) == number {
-            return true;
-        }
-    }
-    false
-}
-
-// Whether one of the numbers that bytes spell is this one.
-fn values_have(kind: NcType, raw: &[u8], number: i128) -> bool
-    requires { is_whole kind ≡ true }
-    ensures { result ≡ stands number (numbers_of kind raw.now) }
-{
-    match kind {
-        NcType::Byte => has_value::<i8>(raw, number),
-        NcType::Char => has_value::<u8>(raw, number),
-        NcType::Short => has_value::<i16>(raw, number),
-        NcType::Int => has_value::<i32>(raw, number),
-        // these are no types of whole numbers
-        NcType::Float | NcType::Double => false,
-    }
-}
-
-fn is_fill(fills: &[i64], number: i128) -> bool
+fn is_fill(fills: &[i128], number: i128) -> bool
     ensures { result ≡ is_fill fills.now number }
 {
     for fill in fills {
-        if number == i128::from(*fill) {
+        if number == *fill {
             return true;
         }
     }
     false
 }
 
-/// Whether a cell that is there has this number. Where the number stands for missing cells, none has it.
-pub fn stored_has(array: &StoredArray, number: i128) -> bool
-    ensures { result ≡ list_any (is_number number) array.now.cells }
+/// Whether a number stands for missing cells, so that no cell that is there has it.
+pub fn is_hidden(array: &StoredArray, number: i128) -> bool
+    ensures { result ≡ true → list_any (is_number number) array.now.cells ≡ false }
 {
     let parts = array.parts();
-    !is_fill(parts.fills, number) && values_have(parts.kind, parts.bytes.as_slice(), number)
+    is_fill(parts.fills, number)
 }
 
-fn are_all(fills: &[i64], number: i128) -> bool
+fn are_all(fills: &[i128], number: i128) -> bool
     ensures { result ≡ list_all (int_eq number) fills.now }
 {
     for fill in fills {
-        if number != i128::from(*fill) {
+        if number != *fill {
             return false;
         }
     }
     true
+}
+
+fn is_same(a: NcType, b: NcType) -> bool
+    ensures { result ≡ true → a ≡ b }
+{
+    match (a, b) {
+        (NcType::Byte, NcType::Byte) => true,
+        (NcType::Char, NcType::Char) => true,
+        (NcType::Short, NcType::Short) => true,
+        (NcType::Int, NcType::Int) => true,
+        (NcType::Float, NcType::Float) => true,
+        (NcType::Double, NcType::Double) => true,
+        (NcType::UByte, NcType::UByte) => true,
+        (NcType::UShort, NcType::UShort) => true,
+        (NcType::UInt, NcType::UInt) => true,
+        (NcType::Int64, NcType::Int64) => true,
+        (NcType::UInt64, NcType::UInt64) => true,
+        _ => false,
+    }
 }
 
 // What a slice holds are bytes.
@@ -84,11 +64,19 @@ fn read_bytes(raw: &[u8])
     ensures { (i : ℕ) → get_or raw.now i 0 < 256 }
 {}
 
-/// The bytes of a stored array, shared, where each number that stands for missing cells is the one that is written for them.
-pub fn shared_bytes(array: &StoredArray, fill: i128) -> Result<Option<Bytes>, AllocError>
-    ensures { IfOk result (λ found. MatchOption found ⊤ (λ raw. raw ≡ cells_bytes (type_of array.now.kind) fill array.now.cells)) }
+/// The bytes of a stored array, shared, where they are of the type and each number that stands for missing cells is the
+/// one that is written for them.
+pub fn shared_bytes(
+    kind: NcType,
+    array: &StoredArray,
+    fill: i128,
+) -> Result<Option<Bytes>, AllocError>
+    ensures { IfOk result (λ found. MatchOption found ⊤ (λ raw. raw ≡ cells_bytes kind fill array.now.cells)) }
 {
     let parts = array.parts();
+    if !is_same(parts.kind, kind) {
+        return Ok(None);
+    }
     if !are_all(parts.fills, fill) {
         return Ok(None);
     }

@@ -1,5 +1,5 @@
 use Rattle.std.proofs.Common.{◌≡◌, ◌++◌, drop}
-use Rattle.xr_defs.specs.Values.{axis_names}
+use Rattle.xr_types.specs.Names.{axis_names}
 use Rattle.xr_encode.proofs.outline.names_of_axes.Given as goal
 
 abbrev pub invariant-loop-axis : goal.invariant-loop-axis

@@ -1,8 +1,0 @@
-use Rattle.std.proofs.Common.{◌≡◌, ◌+◌, length, take}
-use Rattle.std.specs.List.{flat_map}
-use Rattle.xr_files.specs.Canonical.{attr_text}
-use Rattle.cdf_writer.specs.Sizes.{capped}
-use Rattle.xr_encode.proofs.size.attrs_size.Given as goal
-
-abbrev pub invariant-loop-attr : goal.invariant-loop-attr
-invariant-loop-attr l = l.total ≡ capped (8 + length (flat_map attr_text (take l.attr-index l.attrs)))
