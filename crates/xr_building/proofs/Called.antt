@@ -11,6 +11,11 @@ use Rattle.xr_defs.specs.Building.{is_dimension}
 use Rattle.xr_values.proofs.Named.{bytes_eq_swap}
 use Rattle.xr_building.proofs.Names.{same_text}
 
+-- as many sizes as axes
+pub rank : (axes : List Axis) → length (shape_over axes) ≡ length axes
+rank [] = refl
+rank (x ∷ axes) = ap suc (rank axes)
+
 pub position_some : (axes : List Axis) (n : List ℕ) → is_dimension axes n ≡ true → (k : ℕ) × (axis_position n axes ≡ Some k) × (k < length axes) × ((get_or axes k no_axis).name ≡ n)
 position_some [] n is = absurd cc
 position_some (x ∷ axes) n is = by (bytes_eq x.name n) refl (λ e. position_some axes n e)

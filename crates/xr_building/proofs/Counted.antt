@@ -5,7 +5,7 @@ use Rattle.std.proofs.lemmas.List.Folds.{list_all-append}
 use Rattle.std.specs.List.{list_all}
 use Rattle.std.specs.Prelude.{◌==◌}
 use Rattle.std.proofs.lemmas.Bool.Decides.{nat_tests}
-use Rattle.xr_defs.specs.Meanings.{Value, Absent, Missing, Truth, Number, Text, Sequence, Table, Slice, Array, Set, Values, NoValue, With}
+use Rattle.xr_defs.specs.Meanings.{Value, Absent, Missing, Truth, Number, Text, Sequence, Table, Slice, Array, Set, Times, GroupedArray, GroupedSet, Values, NoValue, With}
 use Rattle.xr_types.specs.Points.{size}
 use Rattle.xr_defs.specs.Building.{elements, elements_of, items, is_nested, is_regular}
 
@@ -21,6 +21,9 @@ one_element (Table es) is = refl
 one_element (Slice a b c) is = refl
 one_element (Array a) is = refl
 one_element (Set s) is = refl
+one_element (Times coding times) is = refl
+one_element (GroupedArray a by) is = refl
+one_element (GroupedSet s by) is = refl
 
 none : (n : ℕ) → 0 ≡ 0 * n
 none n = omega arith
@@ -58,6 +61,9 @@ not_nested zero (Table es) is = absurd cc
 not_nested zero (Slice a b c) is = absurd cc
 not_nested zero (Array a) is = absurd cc
 not_nested zero (Set s) is = absurd cc
+not_nested zero (Times coding times) is = absurd cc
+not_nested zero (GroupedArray a by) is = absurd cc
+not_nested zero (GroupedSet s by) is = absurd cc
 not_nested (suc k) Absent is = absurd cc
 not_nested (suc k) Missing is = absurd cc
 not_nested (suc k) (Truth b) is = absurd cc
@@ -67,6 +73,9 @@ not_nested (suc k) (Table es) is = absurd cc
 not_nested (suc k) (Slice a b c) is = absurd cc
 not_nested (suc k) (Array a) is = absurd cc
 not_nested (suc k) (Set s) is = absurd cc
+not_nested (suc k) (Times coding times) is = absurd cc
+not_nested (suc k) (GroupedArray a by) is = absurd cc
+not_nested (suc k) (GroupedSet s by) is = absurd cc
 
 pub whole : (ns : List ℕ) (v : Value) → is_nested (length ns) v ≡ true → is_regular ns v ≡ true → length (elements v) ≡ size ns
 unfolding elements

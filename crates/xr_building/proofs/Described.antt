@@ -22,7 +22,7 @@ use Rattle.xr_building.specs.declared.elements.Elements.{Elements}
 use Rattle.xr_building.specs.Frames.{IsFrame}
 use Rattle.xr_building.specs.Gathered.{gathered, suits_all}
 use Rattle.xr_building.proofs.Counted.{whole}
-use Rattle.xr_building.proofs.Kept.{cells_in}
+use Rattle.xr_building.proofs.Kept.{all_in}
 use Rattle.xr_building.proofs.Unlabelled.{bare_frame}
 
 pub nested-length : (k : ℕ) (m : Value) → length (nested_shape k m) ≡ k
@@ -43,11 +43,13 @@ suits_same kinds.Int8 vs = refl
 suits_same kinds.Int16 vs = refl
 suits_same kinds.Int32 vs = refl
 suits_same kinds.Int64 vs = refl
+suits_same kinds.UInt8 vs = refl
+suits_same kinds.UInt16 vs = refl
+suits_same kinds.UInt32 vs = refl
+suits_same kinds.UInt64 vs = refl
 
 pub range_from : (k : DType) (e : Elements) (vs : List Value) (cells : List (Option ℤ)) → e ≡ gathered vs → cells ≡ e.cells → k ≢ kinds.Char → suits_all k e ≡ true → list_all (fits_kind k) cells ≡ true → All (IsCell k) cells
-range_from k e vs cells all look number suit fit =
-    let same : cells ≡ map element_cell vs = look ∙ ap (λ (x : Elements). x.cells) all in
-    subst (λ cs. All (IsCell k) cs) (sym same) (cells_in k vs number (sym (suits_same k vs) ∙ ap (suits_all k) (sym all) ∙ suit) (ap (list_all (fits_kind k)) (sym same) ∙ fit))
+range_from k e vs cells all look number suit fit = all_in k cells fit
 
 seen_whole : (v : Value) → is_whole_cell v ≡ true → is_missing v ≡ false → is_some (element_cell v) ≡ true
 seen_whole (of.Number n) is there = refl
@@ -60,6 +62,9 @@ seen_whole (of.Table es) is there = absurd cc
 seen_whole (of.Slice a b c) is there = absurd cc
 seen_whole (of.Array a) is there = absurd cc
 seen_whole (of.Set s) is there = absurd cc
+seen_whole (of.Times coding times) is there = absurd cc
+seen_whole (of.GroupedArray a by) is there = absurd cc
+seen_whole (of.GroupedSet s by) is there = absurd cc
 
 seen_truth : (v : Value) → is_truth_cell v ≡ true → is_missing v ≡ false → is_some (element_cell v) ≡ true
 seen_truth (of.Truth b) is there = refl
@@ -72,6 +77,9 @@ seen_truth (of.Table es) is there = absurd cc
 seen_truth (of.Slice a b c) is there = absurd cc
 seen_truth (of.Array a) is there = absurd cc
 seen_truth (of.Set s) is there = absurd cc
+seen_truth (of.Times coding times) is there = absurd cc
+seen_truth (of.GroupedArray a by) is there = absurd cc
+seen_truth (of.GroupedSet s by) is there = absurd cc
 
 all_seen : (test : Value → Bool) → ((v : Value) → test v ≡ true → is_missing v ≡ false → is_some (element_cell v) ≡ true) → (vs : List Value) → list_all test vs ≡ true → list_any is_missing vs ≡ false → All (λ c. is_some c ≡ true) (map element_cell vs)
 all_seen test each [] all none = All-nil (λ c. is_some c ≡ true)

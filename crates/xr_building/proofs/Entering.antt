@@ -1,11 +1,14 @@
 -- Entries that are put in their places, as the definitions say: labels past 64 bits, which leave their axis bare for the time being, tell
 -- no other fault.
-use Rattle.std.proofs.Common.{◌≡◌, ◌==◌, ℕ, Bool, true, false, not, List, [], ◌∷◌, map, get_or, Option, Some, None, Result, Ok, Err, refl, sym, ap, ◌∙◌}
+use Rattle.std.proofs.Common.{◌≡◌, ◌==◌, ◌||◌, ℕ, Bool, true, false, not, List, [], ◌∷◌, map, get_or, Option, Some, None, Result, Ok, Err, refl, sym, ap, ◌∙◌}
 use Rattle.std.specs.Prelude.{if◌then◌else◌, MatchOption, ⊤, is_some}
 use Rattle.std.specs.Str.{bytes_eq}
 use Rattle.std.specs.List.{list_all, AllByRecursion}
+use Rattle.xr_types.specs.Kinds.{in_range}
+use Rattle.xr_types.specs.declared.attr.Attr.{Attr}
 use Rattle.xr_types.specs.declared.axis.Axis.{Axis}
 use Rattle.xr_types.specs.declared.axis.Labels.{Labels}
+use Rattle.xr_types.specs.declared.axis.LabelList.{LabelList}
 use Rattle.xr_types.specs.declared.axis.LabelList.TheVariants.{Numbers}
 use Rattle.xr_types.specs.declared.kind.DType.TheVariants as kinds
 use Rattle.xr_types.specs.declared.fault.Fault.{Fault}
@@ -14,20 +17,18 @@ use Rattle.xr_defs.specs.declared.value.Coord.{Coord}
 use Rattle.xr_types.specs.Results.{◌>>=◌, unless, all_of}
 use Rattle.xr_types.specs.Names.{among}
 use Rattle.xr_arrays.specs.Labels.{labels_of}
-use Rattle.xr_defs.specs.Encoding.{may_fill}
 use Rattle.xr_defs.specs.Values as of
-use Rattle.xr_types.specs.Names.{axis_names}
 use Rattle.xr_defs.specs.Values.{present}
 use Rattle.xr_defs.specs.Selecting.{axis_called}
-use Rattle.xr_defs.specs.Meanings.{Value, Values, Absent, Missing, Truth, Number, Text, Sequence, Table, Slice, Array, Set}
+use Rattle.xr_defs.specs.Meanings.{Value, Values, Absent, Missing, Truth, Number, Text, Sequence, Table, Slice, Array, Set, Times, GroupedArray, GroupedSet}
 use Rattle.xr_defs.specs.Building.{Frame, all_values, as_labels, check_axis, check_entry, check_labels, check_coordinate, check_numbers, coordinate_given, is_dimension, is_integer_kind, is_number, is_text, label_total, labels_given, numbers_in, same_labels, with_coord, with_coordinate, with_entry, with_labels}
 use Rattle.xr_defs.specs.Parts.{texts_in}
-use Rattle.xr_defs.specs.WellFormed.{IsDataArray, IsDimension, IsIndex}
+use Rattle.xr_defs.specs.WellFormed.{AreLabels, IsDataArray, IsDimension, IsIndex}
 use Rattle.xr_building.specs.Frames.{with_index}
-use Rattle.xr_building.specs.Walk.{aligned, check_put, coord_fits, coord_given, coord_in, fit_list, fitting, indexed, labels_in, put, put_fitting, shown, sized, with_another, IsWhole}
+use Rattle.xr_building.specs.Walk.{aligned, check_put, coord_fits, coord_given, coord_in, fit_list, fitting, held_labels, held_list, indexed, labels_in, put, put_fitting, shown, sized, with_another, IsWhole}
 use Rattle.xr_building.proofs.Called.{called_kept, dimension_kept, position_kept, size_called}
 use Rattle.xr_building.proofs.Lists.{label_result}
-use Rattle.xr_building.proofs.Fitting.{labels_fit, present_fit, unfit_differs}
+use Rattle.xr_building.proofs.Fitting.{labels_fit, labels_held, labels_kept, list_kept, present_in, unfit_differs}
 
 -- ---- the checks of an entry, and the entry in its place
 
@@ -57,6 +58,9 @@ coordinate_put f name (Sequence vs) = refl
 coordinate_put f name (Table es) = refl
 coordinate_put f name (Slice a b c) = refl
 coordinate_put f name (Set s) = refl
+coordinate_put f name (Times coding times) = refl
+coordinate_put f name (GroupedArray a by) = refl
+coordinate_put f name (GroupedSet s by) = refl
 
 pub entry_is : (variables : List (List ℕ)) (f : Frame) (kv : List ℕ × Value) → with_entry variables f kv ≡ (check_put variables f.axes kv >>= λ u. Ok (put f kv))
 unfolding with_entry check_put
@@ -109,8 +113,8 @@ same_shown None p fit = refl
 same_shown (Some l) None fit = refl
 same_shown (Some l) (Some m) fit = by (fit_list m.list) refl
   where
-    by : (b : Bool) → fit_list m.list ≡ b → labels_same (Some l) (if b then Some m else None) ≡ labels_same (Some l) (Some m)
-    by true is = refl
+    by : (b : Bool) → fit_list m.list ≡ b → labels_same (Some l) (if b then Some (held_labels m) else None) ≡ labels_same (Some l) (Some m)
+    by true is = ap (same_labels (labels_of l.list)) (labels_held m.list)
     by false is = sym (unfit_differs l.list m.list fit is)
 
 index_fits : (n : ℕ) (o : Option Labels) → MatchOption o ⊤ (IsIndex n) → ListFits o
@@ -141,6 +145,9 @@ aligned_shown axes (Sequence vs) is = refl
 aligned_shown axes (Table es) is = refl
 aligned_shown axes (Slice a b c) is = refl
 aligned_shown axes (Set s) is = refl
+aligned_shown axes (Times coding times) is = refl
+aligned_shown axes (GroupedArray a by) is = refl
+aligned_shown axes (GroupedSet s by) is = refl
 
 sized_shown : (axes : List Axis) (name : List ℕ) (v : Value) → sized (map shown axes) name v ≡ sized axes name v
 unfolding sized
@@ -188,7 +195,7 @@ unless_holds false f is = absurd cc
 
 fit_coord : (name : List ℕ) (v : Value) → check_numbers (name, v) ≡ Ok tt → coord_fits v ≡ true
 unfolding check_numbers
-fit_coord name (Number n) is = unless_holds (may_fill kinds.Int64 n) DoesNotFit is
+fit_coord name (Number n) is = unless_holds (in_range kinds.Int64 n) DoesNotFit is
 fit_coord name (Text t) is = refl
 fit_coord name (Array a) is = refl
 fit_coord name Absent is = refl
@@ -198,17 +205,23 @@ fit_coord name (Sequence vs) is = refl
 fit_coord name (Table es) is = refl
 fit_coord name (Slice a b c) is = refl
 fit_coord name (Set s) is = refl
+fit_coord name (Times coding times) is = refl
+fit_coord name (GroupedArray a by) is = refl
+fit_coord name (GroupedSet s by) is = refl
 
-fitted : (l : Labels) → fit_list l.list ≡ true → fitting (Some l) ≡ Some l
-fitted l is = ap (λ b. if b then Some l else None) is
+abbrev labels_as : LabelList → List Attr → Labels
+labels_as list attrs = record { list = list; attrs = attrs }
 
-fit_listed : (vs : Values) → list_all (may_fill kinds.Int64) (numbers_in vs) ≡ true → fitting (labels_in (Sequence vs)) ≡ labels_in (Sequence vs)
+pub fitted : (l : Labels) → fit_list l.list ≡ true → held_list l.list ≡ l.list → fitting (Some l) ≡ Some l
+fitted l is kept = ap (λ b. if b then Some (held_labels l) else None) is ∙ ap (λ list. Some (labels_as list l.attrs)) kept
+
+fit_listed : (vs : Values) → list_all (in_range kinds.Int64) (numbers_in vs) ≡ true → fitting (labels_in (Sequence vs)) ≡ labels_in (Sequence vs)
 unfolding as_labels
 fit_listed vs fit = by (all_values is_number vs) (all_values is_text vs) (texts_in vs)
   where
     by : (n t : Bool) (r : Result (List (List ℕ)) Fault)
         → fitting (elim (label_result n t (numbers_in vs) r) as (λ r. Option Labels) [ Err e ↦ None | Ok l ↦ Some l ]) ≡ elim (label_result n t (numbers_in vs) r) as (λ r. Option Labels) [ Err e ↦ None | Ok l ↦ Some l ]
-    by true t r = fitted (record { list = Numbers kinds.Int64 (numbers_in vs); attrs = [] }) fit
+    by true t r = fitted (record { list = Numbers kinds.Int64 (numbers_in vs); attrs = [] }) (ap (λ b. b || list_all (in_range kinds.UInt64) (numbers_in vs)) fit) (list_kept kinds.Int64 (numbers_in vs) fit)
     by false true (Ok ts) = refl
     by false true (Err e) = refl
     by false false r = refl
@@ -222,12 +235,14 @@ integer_kind name a is = by (is_integer_kind a.kind) _ is
     by false r e = absurd cc
 
 pub array_fits : (name : List ℕ) (a : of.DataArray) → IsDataArray a → check_labels name (Array a) ≡ Ok tt → fitting (labels_in (Array a)) ≡ labels_in (Array a)
-array_fits name a whole is = fitted (record { list = Numbers a.kind (present a.cells); attrs = a.attrs }) (present_fit a.kind a.cells (integer_kind name a is) whole.cells.range)
+array_fits name a whole is =
+    let are : AreLabels (Numbers a.kind (present a.cells)) = (integer_kind name a is, present_in a.kind a.cells whole.cells.range) in
+    fitted (record { list = Numbers a.kind (present a.cells); attrs = a.attrs }) (labels_fit (Numbers a.kind (present a.cells)) are) (labels_kept (Numbers a.kind (present a.cells)) are)
 
 fit_labels : (name : List ℕ) (v : Value) → IsWhole v → check_labels name v ≡ Ok tt → check_numbers (name, v) ≡ Ok tt → fitting (labels_in v) ≡ labels_in v
 unfolding check_numbers
-fit_labels name (Sequence vs) whole is fit = fit_listed vs (unless_holds (list_all (may_fill kinds.Int64) (numbers_in vs)) DoesNotFit fit)
-fit_labels name (Array a) whole is fit = fitted (record { list = Numbers a.kind (present a.cells); attrs = a.attrs }) (present_fit a.kind a.cells (integer_kind name a is) whole.cells.range)
+fit_labels name (Sequence vs) whole is fit = fit_listed vs (unless_holds (list_all (in_range kinds.Int64) (numbers_in vs)) DoesNotFit fit)
+fit_labels name (Array a) whole is fit = array_fits name a whole is
 fit_labels name (Number n) whole is fit = refl
 fit_labels name (Text t) whole is fit = refl
 fit_labels name Absent whole is fit = refl
@@ -236,6 +251,9 @@ fit_labels name (Truth b) whole is fit = refl
 fit_labels name (Table es) whole is fit = refl
 fit_labels name (Slice a b c) whole is fit = refl
 fit_labels name (Set s) whole is fit = refl
+fit_labels name (Times coding times) whole is fit = refl
+fit_labels name (GroupedArray a by) whole is fit = refl
+fit_labels name (GroupedSet s by) whole is fit = refl
 
 pub put_same : (f : Frame) (kv : List ℕ × Value) → IsWhole kv.1 → check_entry f.axes kv ≡ Ok tt → check_numbers kv ≡ Ok tt → put_fitting f kv ≡ put f kv
 unfolding check_entry

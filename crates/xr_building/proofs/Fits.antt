@@ -24,10 +24,10 @@ use Rattle.xr_types.specs.Names.{among}
 use Rattle.xr_types.specs.Points.{size}
 use Rattle.xr_arrays.specs.Labels.{labels_of}
 use Rattle.xr_defs.specs.Values as of
-use Rattle.xr_types.specs.Names.{axis_names}
+use Rattle.xr_types.specs.Names.{axis_names, shape_over}
 use Rattle.xr_defs.specs.Values.{axis_position, no_axis, present}
 use Rattle.xr_defs.specs.Selecting.{axis_called}
-use Rattle.xr_defs.specs.Meanings.{Value, NoValue, Absent, Missing, Truth, Number, Text, Sequence, Table, Slice, Array, Set}
+use Rattle.xr_defs.specs.Meanings.{Value, NoValue, Absent, Missing, Truth, Number, Text, Sequence, Table, Slice, Array, Set, Times, GroupedArray, GroupedSet}
 use Rattle.xr_defs.specs.Building.{all_values, as_labels, check_axis, check_labels, check_numbers, is_along, is_dimension, is_integer_kind, is_number, is_text, label_total, labels_given, numbers_in, same_labels}
 use Rattle.xr_defs.specs.Parts.{texts_in}
 use Rattle.xr_values.specs.declared.value.Value.{Value as Held}
@@ -114,7 +114,7 @@ along_total name a x is checked at =
     let whole : length a.cells ≡ x.size = is.cells.whole ∙ one a.axes p.1 at in
     ap Some (sym whole ∙ sym (present_whole a.cells (is.cells.seen p.0)) ∙ sym (length-map (present a.cells) Int))
   where
-    one : (axes : List Axis) → length axes ≡ 1 → x ≡ get_or axes 0 x → size (of.shape_over axes) ≡ x.size
+    one : (axes : List Axis) → length axes ≡ 1 → x ≡ get_or axes 0 x → size (shape_over axes) ≡ x.size
     one [] long at = absurd (omega arith)
     one (y ∷ []) long at = ap (λ (z : Axis). z.size * 1) (sym at) ∙ times x.size
       where
@@ -139,6 +139,9 @@ nums_long (v ∷ vs) all = by v (and_parts (is_number v) (list_all is_number vs)
     by (Slice a b c) p rest = absurd (let e = p.0 in cc)
     by (Array a) p rest = absurd (let e = p.0 in cc)
     by (Set s) p rest = absurd (let e = p.0 in cc)
+    by (Times coding times) p rest = absurd (let e = p.0 in cc)
+    by (GroupedArray a g) p rest = absurd (let e = p.0 in cc)
+    by (GroupedSet s g) p rest = absurd (let e = p.0 in cc)
 
 abbrev labels_as : LabelList → List Attr → Labels
 labels_as list attrs = record { list = list; attrs = attrs }
@@ -204,6 +207,9 @@ numbers_checked (name, Table es) = refl
 numbers_checked (name, Slice a b c) = refl
 numbers_checked (name, Array a) = refl
 numbers_checked (name, Set s) = refl
+numbers_checked (name, Times coding times) = refl
+numbers_checked (name, GroupedArray a by) = refl
+numbers_checked (name, GroupedSet s by) = refl
 
 -- ---- values without labels
 
@@ -223,6 +229,9 @@ labels_ok name (Text t) e checked none = cc
 labels_ok name (Table es) e checked none = cc
 labels_ok name (Slice a b c) e checked none = cc
 labels_ok name (Set s) e checked none = cc
+labels_ok name (Times coding times) e checked none = cc
+labels_ok name (GroupedArray a by) e checked none = cc
+labels_ok name (GroupedSet s by) e checked none = cc
 
 pub sized_none : (axes : List Axis) (name : List ℕ) (m : Value) → None ≡ total_in m → check_labels name m ≡ Ok (tt {0}) → sized axes name m ≡ Err WrongKind
 sized_none axes name m none checked = by (labels_given m) refl none

@@ -7,6 +7,7 @@ use Rattle.std.proofs.lemmas.List.Elements.{All-nil, All-cons}
 use Rattle.std.specs.Prelude.{if◌then◌else◌, MatchOption, ⊤, is_some, option_map}
 use Rattle.std.specs.Str.{bytes_eq}
 use Rattle.std.specs.List.{AllByRecursion}
+use Rattle.xr_types.specs.Kinds.{in_range}
 use Rattle.xr_types.specs.declared.attr.Attr.{Attr}
 use Rattle.xr_types.specs.declared.axis.Axis.{Axis}
 use Rattle.xr_types.specs.declared.axis.Labels.{Labels}
@@ -22,23 +23,23 @@ use Rattle.xr_types.specs.Names.{among}
 use Rattle.xr_files.specs.Classic.{is_name}
 use Rattle.xr_types.specs.Names.{are_distinct}
 use Rattle.xr_arrays.specs.Labels.{labels_of}
-use Rattle.xr_defs.specs.Encoding.{may_fill}
 use Rattle.xr_defs.specs.Values as of
 use Rattle.xr_types.specs.Names.{axis_names, shape_over}
 use Rattle.xr_defs.specs.Values.{axis_position, label_count, no_axis, present}
 use Rattle.xr_defs.specs.Selecting.{axis_called}
-use Rattle.xr_defs.specs.Meanings.{Value, Absent, Missing, Truth, Number, Text, Sequence, Table, Slice, Array, Set}
+use Rattle.xr_defs.specs.Meanings.{Value, Absent, Missing, Truth, Number, Text, Sequence, Table, Slice, Array, Set, GroupedArray, GroupedSet}
+use Rattle.xr_defs.specs.Meanings as meanings
 use Rattle.xr_defs.specs.Building.{Frame, all_values, as_labels, check_axis, check_entry, check_labels, check_coordinate, check_place, is_dimension, is_integer_kind, is_number, is_text, label_total, labels_given, numbers_in, with_coord}
 use Rattle.xr_defs.specs.Parts.{texts_in}
 use Rattle.xr_defs.specs.WellFormed.{AreAttributes, AreCells, AreLabels, IsContent, IsCoordinate, IsIndex, names_of}
 use Rattle.xr_values.proofs.Named.{bytes_eq_swap}
 use Rattle.xr_building.specs.Frames.{with_index, coord_with_index, IsOpenAxis, IsFrame}
 use Rattle.xr_building.specs.Places.{is_there}
-use Rattle.xr_building.specs.Walk.{aligned, check_put, coord_given, coord_in, fit_list, fitting, indexed, labels_in, put_fitting, sized, with_another, IsWhole}
+use Rattle.xr_building.specs.Walk.{aligned, check_put, coord_given, coord_in, fit_list, fitting, held_labels, held_list, indexed, labels_in, put_fitting, sized, with_another, IsWhole}
 use Rattle.xr_building.proofs.Names.{absent_both, distinct_end, same_text}
 use Rattle.xr_building.proofs.Called.{called_kept, called_name, dimension_named, names_kept, sizes_kept}
 use Rattle.xr_building.proofs.Lists.{label_result}
-use Rattle.xr_building.proofs.Fitting.{fit_in_range, fits_in_range, present_in}
+use Rattle.xr_building.proofs.Fitting.{fits_in_range, held_range, labels_kept, present_in}
 
 -- ---- labels of one axis
 
@@ -199,31 +200,36 @@ integer_kind name a is = unless_holds (is_integer_kind a.kind) WrongKind (first_
 abbrev Indexes : ℕ → Option Labels → Type 0
 Indexes n o = MatchOption o ⊤ (IsIndex n)
 
-fit_index : (n : ℕ) (l : Labels) → label_count l.list ≡ n → AreAttributes l.attrs → (fit_list l.list ≡ true → AreLabels l.list) → Indexes n (fitting (Some l))
+held_count : (l : LabelList) → label_count (held_list l) ≡ label_count l
+held_count (Numbers k ns) = refl
+held_count (Times coding ts) = refl
+held_count (Texts ts) = refl
+
+fit_index : (n : ℕ) (l : Labels) → label_count l.list ≡ n → AreAttributes l.attrs → (fit_list l.list ≡ true → AreLabels (held_list l.list)) → Indexes n (fitting (Some l))
 fit_index n l whole attrs range = by (fit_list l.list) refl
   where
-    by : (b : Bool) → fit_list l.list ≡ b → Indexes n (if b then Some l else None)
-    by true fit = record { whole = whole; range = range fit; attrs = attrs }
+    by : (b : Bool) → fit_list l.list ≡ b → Indexes n (if b then Some (held_labels l) else None)
+    by true fit = record { whole = held_count l.list ∙ whole; range = range fit; attrs = attrs }
     by false unfit = tt
 
 abbrev labels_as : LabelList → List Attr → Labels
 labels_as list attrs = record { list = list; attrs = attrs }
 
-given_index : (n : ℕ) (name : List ℕ) (v : Value) (l : Labels) → IsWhole v → check_labels name v ≡ Ok tt → labels_given v ≡ Ok l → AreAttributes l.attrs × (fit_list l.list ≡ true → AreLabels l.list)
+given_index : (n : ℕ) (name : List ℕ) (v : Value) (l : Labels) → IsWhole v → check_labels name v ≡ Ok tt → labels_given v ≡ Ok l → AreAttributes l.attrs × (fit_list l.list ≡ true → AreLabels (held_list l.list))
 unfolding as_labels
 given_index n name (Array a) l whole is given =
     let same : labels_as (Numbers a.kind (present a.cells)) a.attrs ≡ l = cc in
-    subst (λ (m : Labels). AreAttributes m.attrs × (fit_list m.list ≡ true → AreLabels m.list)) same (whole.attrs, λ fit. (integer_kind name a is, present_in a.kind a.cells whole.cells.range))
+    subst (λ (m : Labels). AreAttributes m.attrs × (fit_list m.list ≡ true → AreLabels (held_list m.list))) same (whole.attrs, λ fit. let are : AreLabels (Numbers a.kind (present a.cells)) = (integer_kind name a is, present_in a.kind a.cells whole.cells.range) in subst AreLabels (sym (labels_kept (Numbers a.kind (present a.cells)) are)) are)
 given_index n name (Sequence vs) l whole is given = by (all_values is_number vs) (all_values is_text vs) (texts_in vs) given
   where
     by : (p t : Bool) (r : Result (List (List ℕ)) Fault)
-        → label_result p t (numbers_in vs) r ≡ Ok l → AreAttributes l.attrs × (fit_list l.list ≡ true → AreLabels l.list)
+        → label_result p t (numbers_in vs) r ≡ Ok l → AreAttributes l.attrs × (fit_list l.list ≡ true → AreLabels (held_list l.list))
     by true t r e =
         let same : labels_as (Numbers kinds.Int64 (numbers_in vs)) [] ≡ l = cc in
-        subst (λ (m : Labels). AreAttributes m.attrs × (fit_list m.list ≡ true → AreLabels m.list)) same (no_attrs, λ fit. (refl, fit_in_range (numbers_in vs) fit))
+        subst (λ (m : Labels). AreAttributes m.attrs × (fit_list m.list ≡ true → AreLabels (held_list m.list))) same (no_attrs, λ fit. held_range kinds.Int64 (numbers_in vs) refl fit)
     by false true (Ok ts) e =
         let same : labels_as (Texts ts) [] ≡ l = cc in
-        subst (λ (m : Labels). AreAttributes m.attrs × (fit_list m.list ≡ true → AreLabels m.list)) same (no_attrs, λ fit. tt)
+        subst (λ (m : Labels). AreAttributes m.attrs × (fit_list m.list ≡ true → AreLabels (held_list m.list))) same (no_attrs, λ fit. tt)
     by false true (Err x) e = absurd cc
     by false false r e = absurd cc
 given_index n name (Number k) l whole is given = absurd cc
@@ -234,6 +240,9 @@ given_index n name (Truth b) l whole is given = absurd cc
 given_index n name (Table es) l whole is given = absurd cc
 given_index n name (Slice a b c) l whole is given = absurd cc
 given_index n name (Set s) l whole is given = absurd cc
+given_index n name (meanings.Times coding times) l whole is given = absurd cc
+given_index n name (GroupedArray a by) l whole is given = absurd cc
+given_index n name (GroupedSet s by) l whole is given = absurd cc
 
 labels_index : (axes : List Axis) (name : List ℕ) (v : Value) → IsWhole v → check_labels name v ≡ Ok tt → sized axes name v ≡ Ok tt → Indexes (axis_called axes name).size (fitting (labels_in v))
 unfolding sized
@@ -280,11 +289,11 @@ one_size = omega arith
 abbrev Coordinates : List Axis → List ℕ → Option Coord → Type 0
 Coordinates axes name o = MatchOption o ⊤ (λ (c : Coord). IsCoordinate axes c × (c.name ≡ name))
 
-number_cells : (n : ℤ) → may_fill kinds.Int64 n ≡ true → AreCells [] kinds.Int64 false (Some n ∷ [])
+number_cells : (n : ℤ) → in_range kinds.Int64 n ≡ true → AreCells [] kinds.Int64 false (Some n ∷ [])
 number_cells n fit =
     record {
       whole = refl;
-      range = All-cons (IsCell kinds.Int64) (Some n) [] (fits_in_range n fit) (All-nil (IsCell kinds.Int64));
+      range = All-cons (IsCell kinds.Int64) (Some n) [] (fits_in_range kinds.Int64 n fit) (All-nil (IsCell kinds.Int64));
       seen = λ bare. All-cons (λ c. is_some c ≡ true) (Some n) [] refl (All-nil (λ c. is_some c ≡ true));
       low_rank = omega arith;
       few = omega arith;
@@ -292,9 +301,9 @@ number_cells n fit =
 
 given_coordinate : (axes : List Axis) (name : List ℕ) (v : Value) → IsWhole v → is_name name ≡ true → check_place axes (name, v) ≡ Ok tt → aligned axes v ≡ Ok tt → Coordinates axes name (coord_in axes name v)
 unfolding check_place aligned
-given_coordinate axes name (Number n) whole named place fits = by (may_fill kinds.Int64 n) refl
+given_coordinate axes name (Number n) whole named place fits = by (in_range kinds.Int64 n) refl
   where
-    by : (b : Bool) → may_fill kinds.Int64 n ≡ b → Coordinates axes name (if b then coord_given axes name (Number n) else None)
+    by : (b : Bool) → in_range kinds.Int64 n ≡ b → Coordinates axes name (if b then coord_given axes name (Number n) else None)
     by true fit = (record { name = named; over = tt; distinct = refl; attrs = no_attrs; content = (refl, number_cells n fit) }, refl)
     by false unfit = tt
 given_coordinate axes name (Text t) whole named place fits = (record { name = named; over = tt; distinct = refl; attrs = no_attrs; content = refl }, refl)
@@ -316,6 +325,9 @@ given_coordinate axes name (Sequence vs) whole named place fits = tt
 given_coordinate axes name (Table es) whole named place fits = tt
 given_coordinate axes name (Slice a b c) whole named place fits = tt
 given_coordinate axes name (Set s) whole named place fits = tt
+given_coordinate axes name (meanings.Times coding times) whole named place fits = tt
+given_coordinate axes name (GroupedArray a by) whole named place fits = tt
+given_coordinate axes name (GroupedSet s by) whole named place fits = tt
 
 another_frame : (f : Frame) (name : List ℕ) (o : Option Coord) → is_dimension f.axes name ≡ false → Coordinates f.axes name o → IsFrame f.axes f.coords → IsFrame (with_another f o).axes (with_another f o).coords
 another_frame f name None other one is = is

@@ -11,7 +11,7 @@ use Rattle.xr_defs.specs.declared.value.Coord.{Coord}
 use Rattle.xr_types.specs.Names.{among}
 use Rattle.xr_types.specs.Names.{are_distinct}
 use Rattle.xr_types.specs.Names.{axis_names}
-use Rattle.xr_defs.specs.Meanings.{Value, Absent, Missing, Truth, Number, Text, Sequence, Table, Slice, Array, Set}
+use Rattle.xr_defs.specs.Meanings.{Value, Absent, Missing, Truth, Number, Text, Sequence, Table, Slice, Array, Set, Times, GroupedArray, GroupedSet}
 use Rattle.xr_defs.specs.Building.{Frame, is_dimension, with_coord}
 use Rattle.xr_values.specs.declared.args.Args.{Args}
 use Rattle.xr_defs.specs.WellFormed.{labelled, names_of}
@@ -81,6 +81,9 @@ named_so axes name (Sequence vs) c is = absurd cc
 named_so axes name (Table es) c is = absurd cc
 named_so axes name (Slice a b s) c is = absurd cc
 named_so axes name (Set s) c is = absurd cc
+named_so axes name (Times coding times) c is = absurd cc
+named_so axes name (GroupedArray a by) c is = absurd cc
+named_so axes name (GroupedSet s by) c is = absurd cc
 
 -- ---- both
 

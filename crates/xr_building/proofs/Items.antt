@@ -92,6 +92,9 @@ text_is (of.Table es) is = absurd cc
 text_is (of.Slice a b c) is = absurd cc
 text_is (of.Array a) is = absurd cc
 text_is (of.Set s) is = absurd cc
+text_is (of.Times coding times) is = absurd cc
+text_is (of.GroupedArray a by) is = absurd cc
+text_is (of.GroupedSet s by) is = absurd cc
 
 texts_are : (vs : Values) → all_values is_text vs ≡ true → (ts : List (List ℕ)) × (texts_in vs ≡ Ok ts)
 unfolding texts_in

@@ -1,21 +1,18 @@
 -- Cells as they are kept: numbers of their kind, and a mask.
-use Rattle.std.proofs.Common.{◌≡◌, ◌≢◌, ◌<◌, ℕ, ℤ, pos, ◌≤ℤ◌, Bool, true, false, ◌&&◌, List, [], ◌∷◌, map, length, All, Option, Some, None, refl, sym, ap, ◌∙◌, arith}
+use Rattle.std.proofs.Common.{◌≡◌, ◌<◌, ℕ, ℤ, pos, ◌≤ℤ◌, Bool, true, false, ◌&&◌, List, [], ◌∷◌, map, length, All, Option, Some, None, refl, sym, ap, ◌∙◌, arith}
 use Rattle.std.proofs.lemmas.Bool.{and_parts}
 use Rattle.std.proofs.lemmas.List.{length-map}
 use Rattle.std.proofs.lemmas.List.Elements.{All-nil, All-cons, All-head, All-tail}
 use Rattle.std.proofs.lemmas.Int.{ints}
 use Rattle.std.specs.List.{list_all}
 use Rattle.std.specs.Prelude.{is_some, int_le, IfOk, Result, Ok, Err}
-use Rattle.xr_types.specs.Kinds.{low, high, wrap_to, InRange}
+use Rattle.xr_types.specs.Kinds.{in_range, low, high, wrap_to, InRange}
 use Rattle.xr_types.specs.declared.kind.DType.{DType}
 use Rattle.xr_types.specs.declared.kind.DType.TheVariants as kinds
 use Rattle.xr_types.proofs.Wrapping.{wrapped_only}
 use Rattle.xr_arrays.specs.declared.typed.Cells.{Cells}
 use Rattle.xr_arrays.specs.Arrays.{Array, IsCell, hidden, cell, kind_of, wide}
-use Rattle.xr_defs.specs.Encoding.{may_fill}
-use Rattle.xr_defs.specs.Meanings.{Value, Absent, Missing, Truth, Number, Text, Sequence, Table, Slice, Set}
-use Rattle.xr_defs.specs.Meanings as of
-use Rattle.xr_defs.specs.Building.{is_truth_cell, element_cell, fits_kind, suits}
+use Rattle.xr_defs.specs.Building.{fits_kind}
 use Rattle.xr_defs.specs.WellFormed.{AreSeen}
 use Rattle.xr_building.specs.Gathered.{number_or_zero, mask_byte}
 
@@ -34,6 +31,10 @@ zero_in kinds.Int8 = (omega (arith, ints), omega (arith, ints))
 zero_in kinds.Int16 = (omega (arith, ints), omega (arith, ints))
 zero_in kinds.Int32 = (omega (arith, ints), omega (arith, ints))
 zero_in kinds.Int64 = (omega (arith, ints), omega (arith, ints))
+zero_in kinds.UInt8 = (omega (arith, ints), omega (arith, ints))
+zero_in kinds.UInt16 = (omega (arith, ints), omega (arith, ints))
+zero_in kinds.UInt32 = (omega (arith, ints), omega (arith, ints))
+zero_in kinds.UInt64 = (omega (arith, ints), omega (arith, ints))
 
 kept_cell : (t : DType) (c : Option ℤ) → IsCell t c → wrap_to t (number_or_zero c) ≡ number_or_zero c
 kept_cell t None is = wrap_same t (pos 0) (zero_in t)
@@ -95,46 +96,16 @@ up_to x y is = grind (arith, ints)
 between_in : (l h n : ℤ) → (int_le l n && int_le n h) ≡ true → (l ≤ℤ n) × (n ≤ℤ h)
 between_in l h n is = let p = and_parts (int_le l n) (int_le n h) is in let a = p.0 in let b = p.1 in (up_to l n a, up_to n h b)
 
-number_fits : (k : DType) (n : ℤ) → (k ≡ kinds.Bool → ⊥) → (k ≡ kinds.Char → ⊥) → may_fill k n ≡ true → InRange k n
-number_fits kinds.Bool n other number is = absurd (other refl)
-number_fits kinds.Char n other number is = absurd (number refl)
-number_fits kinds.Int8 n other number is = between_in (low kinds.Int8) (high kinds.Int8) n is
-number_fits kinds.Int16 n other number is = between_in (low kinds.Int16) (high kinds.Int16) n is
-number_fits kinds.Int32 n other number is = between_in (low kinds.Int32) (high kinds.Int32) n is
-number_fits kinds.Int64 n other number is = between_in (low kinds.Int64) (high kinds.Int64) n is
+number_fits : (k : DType) (n : ℤ) → in_range k n ≡ true → InRange k n
+number_fits k n is = between_in (low k) (high k) n is
 
-truth_in : (v : Value) → is_truth_cell v ≡ true → IsCell kinds.Bool (element_cell v)
-truth_in Missing is = tt
-truth_in (Truth true) is = (omega (arith, ints), omega (arith, ints))
-truth_in (Truth false) is = (omega (arith, ints), omega (arith, ints))
-truth_in Absent is = absurd cc
-truth_in (Number n) is = absurd cc
-truth_in (Text t) is = absurd cc
-truth_in (Sequence vs) is = absurd cc
-truth_in (Table es) is = absurd cc
-truth_in (Slice a b c) is = absurd cc
-truth_in (of.Array a) is = absurd cc
-truth_in (Set s) is = absurd cc
+fits_in : (k : DType) (c : Option ℤ) → fits_kind k c ≡ true → IsCell k c
+fits_in k None is = tt
+fits_in k (Some n) is = number_fits k n is
 
-fits_in : (k : DType) (c : Option ℤ) → (k ≡ kinds.Bool → ⊥) → (k ≡ kinds.Char → ⊥) → fits_kind k c ≡ true → IsCell k c
-fits_in k None other number is = tt
-fits_in k (Some n) other number is = number_fits k n other number is
-
-truths_in : (vs : List Value) → list_all is_truth_cell vs ≡ true → All (IsCell kinds.Bool) (map element_cell vs)
-truths_in [] is = All-nil (IsCell kinds.Bool)
-truths_in (v ∷ vs) is = let p = and_parts (is_truth_cell v) (list_all is_truth_cell vs) is in All-cons (IsCell kinds.Bool) (element_cell v) (map element_cell vs) (truth_in v p.0) (truths_in vs p.1)
-
-all_in : (k : DType) (cells : List (Option ℤ)) → (k ≡ kinds.Bool → ⊥) → (k ≡ kinds.Char → ⊥) → list_all (fits_kind k) cells ≡ true → All (IsCell k) cells
-all_in k [] other number is = All-nil (IsCell k)
-all_in k (c ∷ cs) other number is = let p = and_parts (fits_kind k c) (list_all (fits_kind k) cs) is in All-cons (IsCell k) c cs (fits_in k c other number p.0) (all_in k cs other number p.1)
-
-pub cells_in : (k : DType) (vs : List Value) → k ≢ kinds.Char → suits k vs ≡ true → list_all (fits_kind k) (map element_cell vs) ≡ true → All (IsCell k) (map element_cell vs)
-cells_in kinds.Bool vs number suit fit = truths_in vs suit
-cells_in kinds.Char vs number suit fit = absurd (number refl)
-cells_in kinds.Int8 vs number suit fit = all_in kinds.Int8 (map element_cell vs) (λ e. absurd cc) (λ e. absurd cc) fit
-cells_in kinds.Int16 vs number suit fit = all_in kinds.Int16 (map element_cell vs) (λ e. absurd cc) (λ e. absurd cc) fit
-cells_in kinds.Int32 vs number suit fit = all_in kinds.Int32 (map element_cell vs) (λ e. absurd cc) (λ e. absurd cc) fit
-cells_in kinds.Int64 vs number suit fit = all_in kinds.Int64 (map element_cell vs) (λ e. absurd cc) (λ e. absurd cc) fit
+pub all_in : (k : DType) (cells : List (Option ℤ)) → list_all (fits_kind k) cells ≡ true → All (IsCell k) cells
+all_in k [] is = All-nil (IsCell k)
+all_in k (c ∷ cs) is = let p = and_parts (fits_kind k c) (list_all (fits_kind k) cs) is in All-cons (IsCell k) c cs (fits_in k c p.0) (all_in k cs p.1)
 
 -- ---- the array
 

@@ -12,6 +12,7 @@ pub mod Fitting
 pub mod Framed
 pub mod Free
 pub mod Held
+pub mod Idle
 pub mod Items
 pub mod Keeping
 pub mod Kept

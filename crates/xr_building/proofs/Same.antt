@@ -1,5 +1,5 @@
 -- Lists of labels, compared one after the other.
-use Rattle.std.proofs.Common.{◌≡◌, ◌≢◌, ◌<◌, ◌+◌, ℕ, ℤ, suc, Bool, true, false, ◌&&◌, List, [], ◌∷◌, length, map, drop, get_or, refl, sym, ap, ◌∙◌, arith}
+use Rattle.std.proofs.Common.{◌≡◌, ◌≢◌, ◌<◌, ◌+◌, ℕ, ℤ, zero, suc, Bool, true, false, ◌&&◌, List, [], ◌∷◌, length, map, drop, get_or, refl, sym, ap, ◌∙◌, arith}
 use Rattle.std.proofs.Math.Seq.{drop-cons}
 use Rattle.std.proofs.lemmas.Map.Text.{is_eq-slice_cmp}
 use Rattle.std.proofs.lemmas.Bool.Decides.{nat_tests}
@@ -11,7 +11,24 @@ use Rattle.xr_types.specs.declared.axis.Label.TheVariants.{Int, Time, Text}
 use Rattle.xr_arrays.specs.Labels.{same}
 use Rattle.xr_defs.specs.Building.{same_labels}
 
+and_right : (b : Bool) → (b && false) ≡ false
+and_right true = refl
+and_right false = refl
+
 module _ {X : Type 0} (f : X → Label) where
+  -- lists with the same labels are the same
+  pub each_by : (d : X) (a b : List X) → length a ≡ length b → ((k : ℕ) → k < length a → same (f (get_or a k d)) (f (get_or b k d)) ≡ true) → same_labels (map f a) (map f b) ≡ true
+  each_by d [] [] e h = refl
+  each_by d [] (y ∷ b) e h = absurd (omega arith)
+  each_by d (x ∷ a) [] e h = absurd (omega arith)
+  each_by d (x ∷ a) (y ∷ b) e h = (λ i. h 0 (omega arith) i && same_labels (map f a) (map f b)) ∙ each_by d a b (omega arith) (λ k s. h (suc k) (omega arith))
+
+  pub one_by : (d : X) (a b : List X) (k : ℕ) → k < length a → k < length b → same (f (get_or a k d)) (f (get_or b k d)) ≡ false → same_labels (map f a) (map f b) ≡ false
+  one_by d [] b k s t h = absurd (omega arith)
+  one_by d (x ∷ a) [] k s t h = absurd (omega arith)
+  one_by d (x ∷ a) (y ∷ b) zero s t h = (λ i. h i && same_labels (map f a) (map f b))
+  one_by d (x ∷ a) (y ∷ b) (suc k) s t h = ap (λ b. same (f x) (f y) && b) (one_by d a b k (omega arith) (omega arith) h) ∙ and_right (same (f x) (f y))
+
   -- lists of two lengths differ
   pub other_length : (a b : List X) → length a ≢ length b → same_labels (map f a) (map f b) ≡ false
   other_length [] [] other = absurd (other refl)

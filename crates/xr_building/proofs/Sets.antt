@@ -1,5 +1,5 @@
 -- A dataset with the axes and the coordinates that a call leaves stands in the plan.
-use Rattle.std.proofs.Common.{◌≡◌, ◌≤◌, ◌+◌, ℕ, Bool, true, false, List, [], ◌∷◌, ◌++◌, length, map, Result, Ok, Err, All, refl, sym, ap, subst, ◌∙◌, append_assoc}
+use Rattle.std.proofs.Common.{◌≡◌, ◌≤◌, ◌+◌, ℕ, Bool, true, false, List, [], ◌∷◌, ◌++◌, length, map, filter, Result, Ok, Err, All, refl, sym, ap, subst, ◌∙◌, append_assoc}
 use Rattle.std.specs.Prelude.{if◌then◌else◌, nat_le}
 use Rattle.std.specs.Str.{bytes_eq}
 use Rattle.std.specs.List.{AllByRecursion}
@@ -20,20 +20,23 @@ use Rattle.xr_types.specs.Results.{◌>>=◌, unless, Answers}
 use Rattle.xr_defs.specs.Values as of
 use Rattle.xr_types.specs.Names.{axis_names, shape_over}
 use Rattle.xr_defs.specs.Selecting.{axis_called, check_set}
-use Rattle.xr_defs.specs.Building.{Frame}
+use Rattle.xr_defs.specs.Building.{Frame, with_frame}
+use Rattle.xr_defs.specs.Parts.{without_idle}
 use Rattle.xr_values.specs.declared.dataset.Dataset.{Dataset}
 use Rattle.xr_values.specs.declared.variable.Variable.{Variable}
 use Rattle.xr_values.specs.declared.args.Args.{Args}
 use Rattle.xr_values.specs.Stands.{dataset_in, variable_in, IsDatasetIn, IsNodeOf}
-use Rattle.xr_defs.specs.WellFormed.{AreCells, IsVariable, labelled, names_of}
+use Rattle.xr_defs.specs.WellFormed.{AreCells, IsDataset, IsVariable, labelled, names_of}
 use Rattle.xr_values.specs.Variables as kept
 use Rattle.xr_building.specs.Frames.{IsFrame}
+use Rattle.xr_building.specs.Idle.{is_held}
 use Rattle.xr_building.specs.Entries.{refused, frame_in, set_assigned, Follows, FollowsSet}
 use Rattle.xr_building.specs.Walk.{frame_of}
 use Rattle.xr_building.proofs.Apart.{AreAbsent, join, split}
 use Rattle.xr_building.proofs.Framed.{called_cons, unless_holds}
 use Rattle.xr_building.proofs.Free.{frame_free, labelled_distinct, taken}
 use Rattle.xr_building.proofs.Held.{dimensions, frame_spans, open_axes}
+use Rattle.xr_building.proofs.Idle.{axes_in, dims_have, idle_axes, idle_coords, idle_formed, idle_vars, nodes_left, IsLoose}
 use Rattle.xr_building.proofs.Within.{set_within}
 
 -- ---- the same sizes by the same names
@@ -122,7 +125,7 @@ module _ (declines : ℕ → Bool) (nodes : List Node) (s : Dataset) (args : Arg
   start_is = ap (λ (xs : List Axis). record { axes = xs; coords = coords }) same ∙ ap (λ (cs : List Coord). record { axes = s.axes; coords = cs }) look
 
   abbrev ends : Result Frame CallFault → Result of.Dataset CallFault
-  ends r = r >>= λ f. Ok (record (dataset_in nodes s) { axes = f.axes; coords = f.coords }) >>= λ t. refused (check_set t) >>= λ u. Ok t
+  ends r = r >>= λ f. Ok (without_idle (with_frame (dataset_in nodes s) f)) >>= λ t. refused (check_set t) >>= λ u. Ok t
 
   assigned_is : set_assigned declines nodes s args ≡ ends (reached start)
   unfolding set_assigned
@@ -131,50 +134,70 @@ module _ (declines : ℕ → Bool) (nodes : List Node) (s : Dataset) (args : Arg
   pub set_fails : (e : CallFault) → reached start ≡ Err e → set_assigned declines nodes s args ≡ Err e
   set_fails e told = assigned_is ∙ ap ends told
 
-  -- all but the count of coordinates and variables
-  formed : reached start ≡ Ok d → IsDatasetIn nodes s → IsFrame d.axes d.coords → length d.coords + length s.vars ≤ most_variables → IsDatasetIn nodes (reframed_set s d.axes d.coords)
-  formed told is frame few =
+  -- before idle axes go
+  abbrev whole : of.Dataset
+  whole = dataset_in nodes (reframed_set s d.axes d.coords)
+
+  abbrev ended : Dataset
+  ended = reframed_set s (filter (is_held d.coords s.vars) d.axes) d.coords
+
+  ended_is : dataset_in nodes ended ≡ without_idle whole
+  ended_is = ap (λ (xs : List Axis). record whole { axes = xs }) (sym (axes_in nodes d.coords s.vars d.axes))
+
+  loose : reached start ≡ Ok d → IsDatasetIn nodes s → IsFrame d.axes d.coords → IsLoose whole
+  loose told is frame =
       let here = ap reached (sym start_is) ∙ told in
       let spans = frame_spans declines nodes (kept.names_of s.vars) (frame_of_set s) d args here in
       let first = variables_free nodes s is in
       let free = frame_free declines nodes (kept.names_of s.vars) (frame_of_set s) d args here first.1 in
       let apart = join (taken d) (kept.names_of s.vars) (labelled_distinct d.axes (names_of d.coords) frame.distinct) first.0 free in
       record {
-        nodes_of = nodes_alike d.axes s.axes spans.names spans.sizes nodes s.vars is.nodes_of;
-        formed = record {
-          axes = record { each = dimensions d.axes s.axes spans.sizes is.formed.axes.each frame.each; distinct = frame.axes_distinct };
-          coords = frame.over;
-          vars = vars_alike d.axes s.axes spans.names spans.sizes (map (variable_in nodes) s.vars) is.formed.vars;
-          coords_distinct = frame.distinct;
-          vars_distinct =
-              ap (λ ns. are_distinct (axis_names (labelled d.axes) ++ (names_of d.coords ++ ns))) (names_in nodes s.vars)
-              ∙ ap are_distinct (sym (append_assoc (axis_names (labelled d.axes)) (names_of d.coords) (kept.names_of s.vars))) ∙ apart;
-          attrs = is.formed.attrs;
-          few = subst (λ n. length d.coords + n ≤ most_variables) (sym (length-map s.vars (variable_in nodes))) few;
-        };
+        axes = record { each = dimensions d.axes s.axes spans.sizes is.formed.axes.each frame.each; distinct = frame.axes_distinct };
+        coords = frame.over;
+        vars = vars_alike d.axes s.axes spans.names spans.sizes (map (variable_in nodes) s.vars) is.formed.vars;
+        coords_distinct = frame.distinct;
+        vars_distinct =
+            ap (λ ns. are_distinct (axis_names (labelled d.axes) ++ (names_of d.coords ++ ns))) (names_in nodes s.vars)
+            ∙ ap are_distinct (sym (append_assoc (axis_names (labelled d.axes)) (names_of d.coords) (kept.names_of s.vars))) ∙ apart;
+        attrs = is.formed.attrs;
+      }
+
+  left_nodes : reached start ≡ Ok d → IsDatasetIn nodes s → IsFrame d.axes d.coords → All (λ (v : Variable). IsNodeOf nodes v.node (sizes_by ended.axes v.dims) v.kind) s.vars
+  left_nodes told is frame =
+      let here = ap reached (sym start_is) ∙ told in
+      let spans = frame_spans declines nodes (kept.names_of s.vars) (frame_of_set s) d args here in
+      let vars = vars_alike d.axes s.axes spans.names spans.sizes (map (variable_in nodes) s.vars) is.formed.vars in
+      let first = nodes_alike d.axes s.axes spans.names spans.sizes nodes s.vars is.nodes_of in
+      subst (λ (xs : List Axis). All (λ (v : Variable). IsNodeOf nodes v.node (sizes_by xs v.dims) v.kind) s.vars) (axes_in nodes d.coords s.vars d.axes)
+      (nodes_left d.axes d.coords (map (variable_in nodes) s.vars) nodes s.vars vars (dims_have (map (variable_in nodes) s.vars)) first)
+
+  formed : reached start ≡ Ok d → IsDatasetIn nodes s → IsFrame d.axes d.coords → length d.coords + length s.vars ≤ most_variables → IsDatasetIn nodes ended
+  formed told is frame few =
+      record {
+        nodes_of = left_nodes told is frame;
+        formed =
+            subst IsDataset (sym ended_is)
+            (idle_formed whole (loose told is frame) (subst (λ n. length d.coords + n ≤ most_variables) (sym (length-map s.vars (variable_in nodes))) few));
       }
 
   abbrev few_of : Dataset → Frame → Result (Unit {0}) Fault
   few_of t f = unless (nat_le (length f.coords + length t.vars) most_variables) TooLarge
 
-  limits : reached start ≡ Ok d → IsDatasetIn nodes s → IsFrame d.axes d.coords → check_set (dataset_in nodes (reframed_set s d.axes d.coords)) ≡ few_of s d
+  limits : reached start ≡ Ok d → IsDatasetIn nodes s → IsFrame d.axes d.coords → check_set (without_idle whole) ≡ few_of s d
   limits told is frame =
-      let here = ap reached (sym start_is) ∙ told in
-      let spans = frame_spans declines nodes (kept.names_of s.vars) (frame_of_set s) d args here in
-      set_within (dataset_in nodes (reframed_set s d.axes d.coords)) (dimensions d.axes s.axes spans.sizes is.formed.axes.each frame.each) frame.over
-      (vars_alike d.axes s.axes spans.names spans.sizes (map (variable_in nodes) s.vars) is.formed.vars)
+      let w = loose told is frame in
+      set_within (without_idle whole) (idle_axes whole w) (idle_coords whole w) (idle_vars whole w)
       ∙ ap (λ n. unless (nat_le (length d.coords + n) most_variables) TooLarge) (length-map s.vars (variable_in nodes))
 
   abbrev limited : Result (Unit {0}) Fault → Result of.Dataset CallFault
-  limited r = refused r >>= λ u. Ok (dataset_in nodes (reframed_set s d.axes d.coords))
+  limited r = refused r >>= λ u. Ok (without_idle whole)
 
   checked_is : reached start ≡ Ok d → IsDatasetIn nodes s → IsFrame d.axes d.coords → set_assigned declines nodes s args ≡ limited (few_of s d)
   checked_is told is frame = assigned_is ∙ ap ends told ∙ ap limited (limits told is frame)
 
-  pub set_told : reached start ≡ Ok d → IsDatasetIn nodes s → IsFrame d.axes d.coords → few_of s d ≡ Ok (tt {0})
-      → (set_assigned declines nodes s args ≡ Ok (dataset_in nodes (reframed_set s d.axes d.coords))) × IsDatasetIn nodes (reframed_set s d.axes d.coords)
+  pub set_told : reached start ≡ Ok d → IsDatasetIn nodes s → IsFrame d.axes d.coords → few_of s d ≡ Ok (tt {0}) → (set_assigned declines nodes s args ≡ Ok (dataset_in nodes ended)) × IsDatasetIn nodes ended
   set_told told is frame few =
-      (checked_is told is frame ∙ ap limited few, formed told is frame (leb-true (length d.coords + length s.vars) most_variables (unless_holds _ TooLarge few)))
+      (checked_is told is frame ∙ ap limited few ∙ ap Ok (sym ended_is), formed told is frame (leb-true (length d.coords + length s.vars) most_variables (unless_holds _ TooLarge few)))
 
   pub set_beyond : (e : Fault) → reached start ≡ Ok d → IsDatasetIn nodes s → IsFrame d.axes d.coords → few_of s d ≡ Err e → set_assigned declines nodes s args ≡ Err (Refused e)
   set_beyond e told is frame many = checked_is told is frame ∙ ap limited many

@@ -1,5 +1,5 @@
 -- Arrays whose cells are written out stand in the plan.
-use Rattle.std.proofs.Common.{◌≡◌, ◌≤◌, ◌&&◌, ℕ, suc, ℤ, true, List, [], ◌∷◌, length, Option, Ok, All, refl, sym, ap, subst, ◌∙◌, arith}
+use Rattle.std.proofs.Common.{◌≡◌, ◌≤◌, ◌&&◌, ℕ, ℤ, true, List, [], ◌∷◌, length, Option, Ok, All, refl, sym, ap, subst, ◌∙◌, arith}
 use Rattle.std.proofs.lemmas.Bool.{and_parts, leb-true, le-leb}
 use Rattle.std.specs.List.{AllByRecursion, list_all}
 use Rattle.std.specs.Prelude.{nat_le, MatchOption, ⊤}
@@ -14,18 +14,24 @@ use Rattle.xr_arrays.specs.Arrays.{Array, IsCell}
 use Rattle.xr_defs.specs.Limits.{most_cells, most_dimensions}
 use Rattle.xr_arrays.specs.Nodes.{IsNode, Pushes, values, node_value}
 use Rattle.xr_defs.specs.Selecting.{is_within, are_within, check_array}
+use Rattle.xr_defs.specs.Room.{AddsForAny}
 use Rattle.xr_types.specs.Results.{unless}
 use Rattle.xr_types.specs.Names.{shape_over}
 use Rattle.xr_values.specs.declared.data_array.DataArray.{DataArray}
 use Rattle.xr_defs.specs.WellFormed.{AreSeen, IsDimension, IsDataArray}
 use Rattle.xr_values.specs.Stands.{array_in, with_cells, IsArrayIn}
 use Rattle.xr_values.proofs.Grown.{pushed_cells, pushed_array}
+use Rattle.xr_values.proofs.Rooms.{array_added}
 use Rattle.xr_building.specs.declared.placed.Outline.{Outline}
 use Rattle.xr_building.specs.Placed.{with_written, limited}
 use Rattle.xr_building.specs.Frames.{IsOpenAxis, IsFrame}
+use Rattle.xr_building.proofs.Called.{rank as rank_of}
+
+small_shape : (shape : List ℕ) → is_within shape ≡ true → (list_all (λ n. nat_le n most_cells) shape && nat_le (size shape) most_cells) ≡ true
+small_shape shape within = (and_parts (nat_le (length shape) most_dimensions) (list_all (λ n. nat_le n most_cells) shape && nat_le (size shape) most_cells) within).1
 
 few_cells : (shape : List ℕ) → is_within shape ≡ true → size shape ≤ most_cells
-few_cells shape within = leb-true (size shape) most_cells (and_parts (list_all (λ n. nat_le n most_cells) shape) (nat_le (size shape) most_cells) within).1
+few_cells shape within = leb-true (size shape) most_cells (and_parts (list_all (λ n. nat_le n most_cells) shape) (nat_le (size shape) most_cells) (small_shape shape within)).1
 
 short_axes : (axes : List Axis) → list_all (λ n. nat_le n most_cells) (shape_over axes) ≡ true → AllByRecursion IsOpenAxis axes → AllByRecursion IsDimension axes
 short_axes [] short all = all
@@ -45,15 +51,11 @@ module _ (a : Outline) (cells : List (Option ℤ)) (frame : IsFrame a.axes a.coo
   inside = (and_parts (is_within (shape_over a.axes)) (are_within a.coords) within).0
 
   short : list_all (λ n. nat_le n most_cells) (shape_over a.axes) ≡ true
-  short = (and_parts (list_all (λ n. nat_le n most_cells) (shape_over a.axes)) (nat_le (size (shape_over a.axes)) most_cells) inside).0
-
-  shape-length : (axes : List Axis) → length (shape_over axes) ≡ length axes
-  shape-length [] = refl
-  shape-length (x ∷ axes) = ap suc (shape-length axes)
+  short = (and_parts (list_all (λ n. nat_le n most_cells) (shape_over a.axes)) (nat_le (size (shape_over a.axes)) most_cells) (small_shape (shape_over a.axes) inside)).0
 
   pub fits : (old : List Node) → IsNode (values old) (Source value)
   unfolding node_value
-  fits old = record { fits = record { whole = whole; range = range }; small = let few = few_cells (shape_over a.axes) inside in omega arith }
+  fits old = record { fits = record { whole = whole; range = range }; small = (let few = few_cells (shape_over a.axes) inside in omega arith); low_rank = (let r = rank_of a.axes in omega arith) }
 
   formed : (n : ℕ) → IsDataArray (with_cells (written a n) cells)
   formed n = record {
@@ -62,7 +64,7 @@ module _ (a : Outline) (cells : List (Option ℤ)) (frame : IsFrame a.axes a.coo
     coords = frame.over;
     distinct = frame.distinct;
     attrs = record { each = tt; distinct = refl };
-    cells = record { whole = whole; range = range; seen = seen; low_rank = (let r = shape-length a.axes in omega arith); few = few_cells (shape_over a.axes) inside };
+    cells = record { whole = whole; range = range; seen = seen; low_rank = (let r = rank_of a.axes in omega arith); few = few_cells (shape_over a.axes) inside };
   }
 
   pub stands : (old new : List Node) (n : ℕ) → Pushes old new (Source value) n → (array_in new (written a n) ≡ with_cells (written a n) cells) × IsArrayIn new (written a n)
@@ -87,3 +89,7 @@ pub answered : (a : Outline) (cells : List (Option ℤ)) (new : List Node) (n : 
     → (limited (with_written a cells) ≡ Ok (array_in new (record (written a n) { attrs = attrs }))) × IsArrayIn new (record (written a n) { attrs = attrs })
 answered a cells new n attrs none within s =
     subst (λ (xs : List Attr). (limited (with_written a cells) ≡ Ok (array_in new (record (written a n) { attrs = xs }))) × IsArrayIn new (record (written a n) { attrs = xs })) (sym none) (within ∙ ap Ok (sym s.0), s.1)
+
+-- one node more
+pub node_added : (old new : List Node) (node : Node) (b : DataArray) → Pushes old new node b.node → IsArrayIn new b → AddsForAny old new (array_in new b)
+node_added old new node b pushes is = array_added old new node b.node (array_in new b) pushes is.node.has_shape is.formed.axes.distinct

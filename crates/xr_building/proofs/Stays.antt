@@ -11,7 +11,7 @@ use Rattle.xr_arrays.specs.declared.node.Node.{Node}
 use Rattle.xr_defs.specs.declared.value.Coord.{Coord}
 use Rattle.xr_types.specs.Results.{◌>>=◌, unless, all_of}
 use Rattle.xr_files.specs.Classic.{is_name}
-use Rattle.xr_defs.specs.Meanings.{Value, Absent, Missing, Truth, Number, Text, Sequence, Table, Slice, Array, Set}
+use Rattle.xr_defs.specs.Meanings.{Value, Absent, Missing, Truth, Number, Text, Sequence, Table, Slice, Array, Set, Times, GroupedArray, GroupedSet}
 use Rattle.xr_defs.specs.Building.{Frame, check_coordinate, check_entry, check_labels, check_place, is_dimension}
 use Rattle.xr_values.specs.declared.value.Value.{Value as Held}
 use Rattle.xr_values.specs.declared.value.Value.TheViews.{out-Value}
@@ -63,6 +63,9 @@ module _ (axes xs : List Axis) (same : (n : List ℕ) → is_dimension axes n �
   place_still (name, Table es) = refl
   place_still (name, Slice a b c) = refl
   place_still (name, Set s) = refl
+  place_still (name, Times coding times) = refl
+  place_still (name, GroupedArray a by) = refl
+  place_still (name, GroupedSet s by) = refl
 
   pub places_still : (kvs : List (List ℕ × Value)) → all_of (check_place axes) kvs ≡ all_of (check_place xs) kvs
   places_still [] = refl

@@ -1,5 +1,5 @@
 -- The steps by which an array is written out come to what the definitions say.
-use Rattle.std.proofs.Common.{◌≡◌, ℕ, ℤ, suc, Bool, true, false, ◌||◌, List, [], ◌∷◌, length, map, Option, Some, None, Result, Ok, Err, refl, sym, ap, ◌∙◌}
+use Rattle.std.proofs.Common.{◌≡◌, ℕ, ℤ, Bool, true, false, ◌||◌, List, [], length, map, Option, Some, None, Result, Ok, Err, refl, sym, ap, ◌∙◌}
 use Rattle.std.proofs.lemmas.List.Folds.{list_all-map}
 use Rattle.std.specs.List.{list_all, list_any}
 use Rattle.std.specs.Prelude.{nat_le, option_map}
@@ -15,7 +15,6 @@ use Rattle.xr_defs.specs.Meanings.{Value}
 use Rattle.xr_types.specs.Results.{◌>>=◌, unless, all_of}
 use Rattle.xr_defs.specs.Selecting.{check_array}
 use Rattle.xr_defs.specs.Values as of
-use Rattle.xr_types.specs.Names.{shape_over}
 use Rattle.xr_defs.specs.Building.{Frame, argument, bare_axes, check_elements, check_numbers, check_place, dims_given, element_cell, elements, entries_given, fits_kind, is_missing, is_nested, is_regular, is_truth_cell, is_whole_cell, kind_for, kind_given, name_given, nested_shape, option, given_value, plain_array, required, suits}
 use Rattle.xr_values.specs.declared.data_array.DataArray.{DataArray}
 use Rattle.xr_values.specs.declared.value.Value.{Value as Held}
@@ -29,6 +28,7 @@ use Rattle.xr_building.specs.Gathered.{gathered, kind_of_all, suits_all}
 use Rattle.xr_building.specs.Outlined.{alike, check_fit, draft_in, header_of, needed, outline_of, outline_over, placed_in, values_placed}
 use Rattle.xr_building.specs.Placed.{limited, with_written}
 use Rattle.xr_building.specs.Written.{built_in, entries_held, values_written}
+use Rattle.xr_building.proofs.Called.{rank as rank_of}
 use Rattle.xr_building.proofs.Described.{nested-length, suits_same}
 use Rattle.xr_building.proofs.Held.{entries_span}
 use Rattle.xr_building.proofs.Tables.{entries_same}
@@ -44,10 +44,6 @@ follows_array nodes (Err NoMemory) means is = tt
 pub cong_then : {A B : Type 0} (r : Result A Fault) (f g : A → Result B CallFault) → ((a : A) → f a ≡ g a) → (refused r >>= f) ≡ (refused r >>= g)
 cong_then (Ok a) f g each = each a
 cong_then (Err e) f g each = refl
-
-shape-length : (axes : List Axis) → length (shape_over axes) ≡ length axes
-shape-length [] = refl
-shape-length (x ∷ axes) = ap suc (shape-length axes)
 
 -- ---- the array of a nested list
 
@@ -101,7 +97,7 @@ module _ (declines : ℕ → Bool) (nodes : List Node) (content : Value) (dims :
 
   as_long : (f : Frame) → entries_in declines nodes [] bare (entries_held coords) ≡ Ok f → length f.axes ≡ length dims
   as_long f told =
-      sym (shape-length f.axes)
+      sym (rank_of f.axes)
       ∙ ap length ((entries_span declines nodes [] bare f (entries_held coords) told).sizes ∙ bare_sizes dims (nested_shape (length dims) content) (sym (nested-length (length dims) content)))
       ∙ nested-length (length dims) content
 

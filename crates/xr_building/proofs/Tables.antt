@@ -5,7 +5,6 @@ use Rattle.std.specs.Prelude.{option_map, find, codes, if◌then◌else◌, Vec,
 use Rattle.std.specs.declared.alloc.Global.{Global}
 use Rattle.std.proofs.lemmas.List.Elements.{All-head, All-tail}
 use Rattle.std.specs.Str.{bytes_eq}
-use Rattle.std.specs.List.{list_all}
 use Rattle.xr_types.specs.declared.text.TextBytes.{TextBytes}
 use Rattle.xr_types.specs.declared.axis.Axis.{Axis}
 use Rattle.xr_types.specs.declared.fault.Fault.{Fault}
@@ -13,9 +12,9 @@ use Rattle.xr_types.specs.declared.fault.Fault.TheVariants.{BadArgument}
 use Rattle.xr_types.specs.declared.fault.CallFault.{CallFault}
 use Rattle.xr_types.specs.declared.fault.CallFault.TheVariants.{Refused, Declined, NoMemory}
 use Rattle.xr_arrays.specs.declared.node.Node.{Node}
-use Rattle.xr_defs.specs.Meanings.{Value, Entries, NoEntry, Entry, Absent, Missing, Truth, Number, Text, Sequence, Table, Slice, Array, Set}
+use Rattle.xr_defs.specs.Meanings.{Value, Entries, NoEntry, Entry, Absent, Missing, Truth, Number, Text, Sequence, Table, Slice, Array, Set, Times, GroupedArray, GroupedSet}
 use Rattle.xr_types.specs.Results.{◌>>=◌, unless, all_of, Answers}
-use Rattle.xr_defs.specs.Building.{argument, bound, check_entry, entries_given, entries_in, given_value, is_named_entry, keyword, parameters}
+use Rattle.xr_defs.specs.Building.{argument, bound, check_entry, check_table_entry, entries_given, entries_in, given_value, is_named_entry, keyword, parameters}
 use Rattle.xr_values.specs.declared.value.Value.{Value as Held}
 use Rattle.xr_values.specs.declared.value.Value.TheVariants as variants
 use Rattle.xr_values.specs.declared.value.Value.TheOpen as held
@@ -26,6 +25,7 @@ use Rattle.xr_values.specs.Meaning.{meaning, layer, with_key, entries, all_entri
 use Rattle.xr_values.proofs.Meaning.{meaning_out, value_out}
 use Rattle.xr_arguments.proofs.Variants.{is_table}
 use Rattle.xr_building.specs.Outlined.{table_entries}
+use Rattle.xr_building.proofs.Framed.{first_passes}
 use Rattle.xr_building.specs.Written.{coords_held, entries_held, entries_of, keyword_held}
 
 listed_on : (es : Entries) (kvs : List (List ℕ × Value)) → entries_in (entries es kvs) ≡ entries_in es ++ kvs
@@ -37,16 +37,15 @@ unfolding all_entries
 listed_all nodes kvs = listed_on NoEntry (map (with_key nodes) kvs)
 
 module _ (nodes : List Node) (axes : List Axis) (es : List (List ℕ × Value)) where
-  table : (a b : Result (Unit {0}) Fault) (xs : List (List ℕ × Value)) → (a >>= λ u. b >>= λ v. Ok xs) ≡ Ok es → es ≡ xs
-  table (Ok u) (Ok v) xs is = cc
-  table (Ok u) (Err e) xs is = absurd cc
-  table (Err e) b xs is = absurd cc
+  table : (a : Result (Unit {0}) Fault) (xs : List (List ℕ × Value)) → (a >>= λ u. Ok xs) ≡ Ok es → es ≡ xs
+  table (Ok u) xs is = cc
+  table (Err e) xs is = absurd cc
 
   by_layer : (x : Value-F Held) → entries_given axes (given_value (Some (layer nodes x))) ≡ Ok es → es ≡ map (with_key nodes) (entries_of x)
   unfolding entries_given
   by_layer held.Absent is = cc
   by_layer (held.Table t) is =
-      table (all_of (check_entry axes) (entries_in (all_entries nodes t.items))) (unless (list_all is_named_entry (entries_in (all_entries nodes t.items))) BadArgument) (entries_in (all_entries nodes t.items)) is ∙ listed_all nodes t.items
+      table (all_of (check_table_entry axes) (entries_in (all_entries nodes t.items))) (entries_in (all_entries nodes t.items)) is ∙ listed_all nodes t.items
   by_layer held.Missing is = absurd cc
   by_layer (held.Truth b) is = absurd cc
   by_layer (held.Number n) is = absurd cc
@@ -55,6 +54,9 @@ module _ (nodes : List Node) (axes : List Axis) (es : List (List ℕ × Value)) 
   by_layer (held.Slice start stop step) is = absurd cc
   by_layer (held.Array a) is = absurd cc
   by_layer (held.Set s) is = absurd cc
+  by_layer (held.Times coding times) is = absurd cc
+  by_layer (held.GroupedArray a by) is = absurd cc
+  by_layer (held.GroupedSet s by) is = absurd cc
 
   -- entries that are given are those of the table
   pub entries_same : (coords : Option Held) → entries_given axes (given_value (option_map (meaning nodes) coords)) ≡ Ok es → es ≡ map (with_key nodes) (entries_held coords)
@@ -62,16 +64,24 @@ module _ (nodes : List Node) (axes : List Axis) (es : List (List ℕ × Value)) 
   entries_same None told = cc
   entries_same (Some v) told = by_layer (out-Value v) (ap (λ w. entries_given axes (given_value (Some w))) (sym (meaning_out nodes v)) ∙ told)
 
+-- an entry that a table may have is labels or a coordinate
+each_passes : (axes : List Axis) (es : List (List ℕ × Value)) → all_of (check_table_entry axes) es ≡ Ok (tt {0}) → all_of (check_entry axes) es ≡ Ok (tt {0})
+unfolding check_table_entry
+each_passes axes [] is = refl
+each_passes axes (kv ∷ kvs) is =
+    let p = first_passes (check_table_entry axes kv) (all_of (check_table_entry axes) kvs) is in
+    let q = first_passes (check_entry axes kv) (unless (is_named_entry kv) BadArgument) p.0 in
+    ap (λ r. r >>= λ u. all_of (check_entry axes) kvs) q.0 ∙ each_passes axes kvs p.1
+
 -- and each of them is labels or a coordinate
 pub entries_checked : (axes : List Axis) (o : Option Value) (es : List (List ℕ × Value)) → entries_given axes o ≡ Ok es → all_of (check_entry axes) es ≡ Ok (tt {0})
 unfolding entries_given
 entries_checked axes None es is = ap (all_of (check_entry axes)) (let same : es ≡ [] = cc in same)
-entries_checked axes (Some (Table t)) es is = by (all_of (check_entry axes) (entries_in t)) (unless (list_all is_named_entry (entries_in t)) BadArgument) refl is
+entries_checked axes (Some (Table t)) es is = by (all_of (check_table_entry axes) (entries_in t)) refl is
   where
-    by : (a b : Result (Unit {0}) Fault) → all_of (check_entry axes) (entries_in t) ≡ a → (a >>= λ u. b >>= λ v. Ok (entries_in t)) ≡ Ok es → all_of (check_entry axes) es ≡ Ok tt
-    by (Ok u) (Ok v) passed told = ap (all_of (check_entry axes)) (let same : es ≡ entries_in t = cc in same) ∙ passed
-    by (Ok u) (Err e) passed told = absurd cc
-    by (Err e) b passed told = absurd cc
+    by : (a : Result (Unit {0}) Fault) → all_of (check_table_entry axes) (entries_in t) ≡ a → (a >>= λ u. Ok (entries_in t)) ≡ Ok es → all_of (check_entry axes) es ≡ Ok tt
+    by (Ok u) passed told = ap (all_of (check_entry axes)) (let same : es ≡ entries_in t = cc in same) ∙ each_passes axes (entries_in t) passed
+    by (Err e) passed told = absurd cc
 entries_checked axes (Some Absent) es is = absurd cc
 entries_checked axes (Some Missing) es is = absurd cc
 entries_checked axes (Some (Truth b)) es is = absurd cc
@@ -81,12 +91,15 @@ entries_checked axes (Some (Sequence vs)) es is = absurd cc
 entries_checked axes (Some (Slice start stop step)) es is = absurd cc
 entries_checked axes (Some (Array a)) es is = absurd cc
 entries_checked axes (Some (Set s)) es is = absurd cc
+entries_checked axes (Some (Times coding times)) es is = absurd cc
+entries_checked axes (Some (GroupedArray a by)) es is = absurd cc
+entries_checked axes (Some (GroupedSet s by)) es is = absurd cc
 
 pub table_means : (nodes : List Node) (axes : List Axis) (v : Held) (t : Vec (TextBytes × Held) Global) → v ≡ variants.Table t → entries_given axes (given_value (Some (meaning nodes v))) ≡ table_entries axes (map (with_key nodes) t.items)
 unfolding entries_given table_entries
 table_means nodes axes v t is =
     ap (λ w. entries_given axes (given_value (Some w))) (is_table nodes v t is)
-    ∙ ap (λ (es : List (List ℕ × Value)). all_of (check_entry axes) es >>= λ u. unless (list_all is_named_entry es) BadArgument >>= λ v. Ok es) (listed_all nodes t.items)
+    ∙ ap (λ (es : List (List ℕ × Value)). all_of (check_table_entry axes) es >>= λ u. Ok es) (listed_all nodes t.items)
 
 pub table_fails : {A B : Type 0} (view : A → B) (r : Result A CallFault) (e : CallFault) (whole : Result B Fault) (b : B) (told : Result B Fault) → r ≡ Err e → whole ≡ told → Answers (λ (u : Unit {0}). b) (Err e) told → Answers view r whole
 table_fails view r e whole b told is same given = subst (λ s. Answers view s whole) (sym is) (subst (Answers view (Err e)) (sym same) (by e given))

@@ -11,6 +11,7 @@ use Rattle.xr_arrays.specs.declared.node.Node.{Node}
 use Rattle.xr_types.specs.Results.{◌>>=◌, unless, all_of}
 use Rattle.xr_defs.specs.Values as of
 use Rattle.xr_defs.specs.Selecting.{check_set}
+use Rattle.xr_defs.specs.Parts.{without_idle}
 use Rattle.xr_defs.specs.Meanings.{Value as Value_of}
 use Rattle.xr_defs.specs.Building.{Frame, check_entry, check_place, check_numbers, with_entry, with_entries, entries_assigned, coords_assigned, assigned_to_array, assigned_to_set, frame_of_array, variable_names}
 use Rattle.xr_values.specs.declared.data_array.DataArray.{DataArray}
@@ -94,18 +95,18 @@ answers_array nodes (Err NoMemory) told means is same = tt
 pub set_all : (declines : ℕ → Bool) (nodes : List Node) (s : Dataset) (args : Args) → ((n : ℕ) → declines n ≡ false) → set_assigned declines nodes s args ≡ refused (assigned_to_set (dataset_in nodes s) (given nodes args))
 unfolding set_assigned assigned_to_set
 set_all declines nodes s args none =
-    ap (λ r. r >>= λ f. Ok (with_frame f) >>= λ t. refused (check_set t) >>= λ u. Ok t) (frame_all declines none nodes (variable_names (dataset_in nodes s)) (record { axes = s.axes; coords = s.coords }) args)
+    ap (λ r. r >>= λ f. Ok (left_by f) >>= λ t. refused (check_set t) >>= λ u. Ok t) (frame_all declines none nodes (variable_names (dataset_in nodes s)) (record { axes = s.axes; coords = s.coords }) args)
     ∙ by (coords_assigned (variable_names (dataset_in nodes s)) (record { axes = s.axes; coords = s.coords }) (given nodes args))
   where
-    with_frame : Frame → of.Dataset
-    with_frame f = record (dataset_in nodes s) { axes = f.axes; coords = f.coords }
+    left_by : Frame → of.Dataset
+    left_by f = without_idle (record (dataset_in nodes s) { axes = f.axes; coords = f.coords })
 
     last : (t : of.Dataset) (r : Result (Unit {0}) Fault) → (refused r >>= λ u. Ok t) ≡ refused (r >>= λ u. Ok t)
     last t (Ok u) = refl
     last t (Err e) = refl
 
-    by : (r : Result Frame Fault) → (refused r >>= λ f. Ok (with_frame f) >>= λ t. refused (check_set t) >>= λ u. Ok t) ≡ refused (r >>= λ f. Ok (with_frame f) >>= λ t. check_set t >>= λ u. Ok t)
-    by (Ok f) = last (with_frame f) (check_set (with_frame f))
+    by : (r : Result Frame Fault) → (refused r >>= λ f. Ok (left_by f) >>= λ t. refused (check_set t) >>= λ u. Ok t) ≡ refused (r >>= λ f. Ok (left_by f) >>= λ t. check_set t >>= λ u. Ok t)
+    by (Ok f) = last (left_by f) (check_set (left_by f))
     by (Err e) = refl
 
 pub answers_set : (nodes : List Node) (r : Result Dataset CallFault) (told : Result of.Dataset CallFault) (means : Result of.Dataset Fault) → FollowsSet nodes r told → told ≡ refused means → AnswersSet nodes r means

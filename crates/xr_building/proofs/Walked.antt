@@ -28,7 +28,8 @@ use Rattle.xr_building.specs.Entries.{refused, computed, entry_in, entries_in, f
 use Rattle.xr_building.specs.Walk.{aligned, check_put, check_taken, coord_computed, coord_given, coord_in, coord_put, entries_put, entry_put, fitting, frame_put, indexed, labels_computed, labels_in, labels_put, put, put_fitting, shown, sized, with_another, IsWhole}
 use Rattle.xr_building.proofs.Called.{dimension_kept}
 use Rattle.xr_building.proofs.Entering.{entry_is, put_axes, put_same, put_shown}
-use Rattle.xr_building.proofs.Fitting.{labels_fit}
+use Rattle.xr_building.proofs.Entering.{fitted as labels_fitted}
+use Rattle.xr_building.proofs.Fitting.{labels_fit, labels_kept}
 use Rattle.xr_building.proofs.Framed.{index_name, index_size}
 
 -- ---- arrays that are given
@@ -44,6 +45,9 @@ whole_layer nodes (held.Table es) is = tt
 whole_layer nodes (held.Slice start stop step) is = tt
 whole_layer nodes (held.Array a) is = is.formed
 whole_layer nodes (held.Set s) is = tt
+whole_layer nodes (held.Times coding times) is = tt
+whole_layer nodes (held.GroupedArray a by) is = tt
+whole_layer nodes (held.GroupedSet s by) is = tt
 
 pub whole_in : (nodes : List Node) (v : Held) → IsValueIn nodes v → IsWhole (meaning nodes v)
 whole_in nodes v is = subst IsWhole (sym (meaning_out nodes v)) (whole_layer nodes (out-Value v) (value_out nodes v is))
@@ -141,7 +145,7 @@ module _ (declines : ℕ → Bool) (nodes : List Node) (variables : List (List �
 
   fitted : (o : Option Labels) (n : ℕ) → MatchOption o ⊤ (IsIndex n) → fitting o ≡ o
   fitted None n is = refl
-  fitted (Some l) n is = ap (λ t. if t then Some l else None) (labels_fit l.list is.range)
+  fitted (Some l) n is = labels_fitted l (labels_fit l.list is.range) (labels_kept l.list is.range)
 
   pub all_shown : (axes : List Axis) → AllByRecursion IsOpenAxis axes → axes ≡ map shown axes
   all_shown [] all = refl

@@ -1,5 +1,5 @@
 -- A dataset that is as it has to be is within the limits, but for the count of its coordinates and variables.
-use Rattle.std.proofs.Common.{◌≡◌, ◌≤◌, ◌&&◌, ◌||◌, ℕ, Bool, true, false, List, [], ◌∷◌, map, refl, sym, ap, subst, ◌∙◌, arith}
+use Rattle.std.proofs.Common.{◌≡◌, ◌≤◌, ◌&&◌, ◌||◌, ℕ, Bool, true, false, List, [], ◌∷◌, length, map, refl, sym, ap, subst, ◌∙◌, arith}
 use Rattle.std.specs.Prelude.{nat_le, if◌then◌else◌}
 use Rattle.std.specs.Str.{bytes_eq}
 use Rattle.std.specs.List.{AllByRecursion, list_all}
@@ -10,7 +10,7 @@ use Rattle.xr_defs.specs.declared.value.Content.{Content}
 use Rattle.xr_defs.specs.declared.value.Content.TheVariants as contents
 use Rattle.xr_defs.specs.declared.value.Coord.{Coord}
 use Rattle.xr_types.specs.Names.{among}
-use Rattle.xr_defs.specs.Limits.{most_cells}
+use Rattle.xr_defs.specs.Limits.{most_cells, most_dimensions}
 use Rattle.xr_types.specs.Points.{size}
 use Rattle.xr_types.specs.Results.{unless}
 use Rattle.xr_types.specs.Names.{axis_names, shape_over}
@@ -23,8 +23,10 @@ use Rattle.xr_building.proofs.Framed.{called_cons}
 within_cell : (n : ℕ) → n ≤ most_cells → nat_le n most_cells ≡ true
 within_cell n few = le-leb n most_cells few
 
-shape_within : (shape : List ℕ) → list_all (λ n. nat_le n most_cells) shape ≡ true → size shape ≤ most_cells → is_within shape ≡ true
-shape_within shape short few = and_from (list_all (λ n. nat_le n most_cells) shape) (nat_le (size shape) most_cells) short (within_cell (size shape) few)
+shape_within : (shape : List ℕ) → length shape ≤ most_dimensions → list_all (λ n. nat_le n most_cells) shape ≡ true → size shape ≤ most_cells → is_within shape ≡ true
+shape_within shape low short few =
+    and_from (nat_le (length shape) most_dimensions) (list_all (λ n. nat_le n most_cells) shape && nat_le (size shape) most_cells) (le-leb (length shape) most_dimensions low)
+    (and_from (list_all (λ n. nat_le n most_cells) shape) (nat_le (size shape) most_cells) short (within_cell (size shape) few))
 
 axes_short : (axes : List Axis) → AllByRecursion IsDimension axes → list_all (λ (x : Axis). nat_le x.size most_cells) axes ≡ true
 axes_short [] each = refl
@@ -60,10 +62,18 @@ content_few shape (contents.Cells a masked) is = is.1.few
 content_few shape (contents.Text text) is = one_cell shape is
 content_few shape (contents.Time coding t) is = one_cell shape is.0
 
+no_dimension : (shape : List ℕ) → shape ≡ [] → length shape ≤ most_dimensions
+no_dimension shape none = subst (λ (s : List ℕ). length s ≤ most_dimensions) (sym none) (omega arith)
+
+content_low : (shape : List ℕ) (content : Content) → IsContent shape content → length shape ≤ most_dimensions
+content_low shape (contents.Cells a masked) is = is.1.low_rank
+content_low shape (contents.Text text) is = no_dimension shape is
+content_low shape (contents.Time coding t) is = no_dimension shape is.0
+
 coords_small : (axes : List Axis) (coords : List Coord) → AllByRecursion IsDimension axes → AllByRecursion (IsCoordinate axes) coords → are_within coords ≡ true
 coords_small axes [] each all = refl
 coords_small axes (c ∷ cs) each all =
-    and_from (is_within (shape_over c.axes)) (are_within cs) (shape_within (shape_over c.axes) (sizes_short axes c.axes each all.0.over) (content_few (shape_over c.axes) c.content all.0.content)) (coords_small axes cs each all.1)
+    and_from (is_within (shape_over c.axes)) (are_within cs) (shape_within (shape_over c.axes) (content_low (shape_over c.axes) c.content all.0.content) (sizes_short axes c.axes each all.0.over) (content_few (shape_over c.axes) c.content all.0.content)) (coords_small axes cs each all.1)
 
 -- ---- data variables
 
@@ -76,7 +86,7 @@ vars_small : (axes : List Axis) (vars : List Variable) → AllByRecursion IsDime
 vars_small axes [] each all = refl
 vars_small axes (v ∷ vs) each all =
     and_from (is_within (variable_array axes v).shape) (list_all (λ w. is_within (variable_array axes w).shape) vs)
-    (shape_within (map (λ d. (axis_called axes d).size) v.dims) (named_short axes v.dims each all.0.over) all.0.cells.few) (vars_small axes vs each all.1)
+    (shape_within (map (λ d. (axis_called axes d).size) v.dims) all.0.cells.low_rank (named_short axes v.dims each all.0.over) all.0.cells.few) (vars_small axes vs each all.1)
 
 pub set_within : (s : Dataset) → AllByRecursion IsDimension s.axes → AllByRecursion (IsCoordinate s.axes) s.coords → AllByRecursion (IsVariable s.axes) s.vars → check_set s ≡ unless (are_few s) TooLarge
 unfolding check_set

@@ -10,7 +10,8 @@ use Rattle.xr_arrays.specs.declared.node.Node.{Node}
 use Rattle.xr_types.specs.Results.{◌>>=◌, unless, all_of}
 use Rattle.xr_defs.specs.Values as of
 use Rattle.xr_defs.specs.Selecting.{check_set}
-use Rattle.xr_defs.specs.Building.{Frame, check_entry, check_place, check_numbers, with_entry, frame_of_array, variable_names}
+use Rattle.xr_defs.specs.Parts.{without_idle}
+use Rattle.xr_defs.specs.Building.{Frame, check_entry, check_place, check_numbers, with_entry, with_frame, frame_of_array, variable_names}
 use Rattle.xr_values.specs.declared.data_array.DataArray.{DataArray}
 use Rattle.xr_values.specs.declared.dataset.Dataset.{Dataset}
 use Rattle.xr_values.specs.declared.value.Value.{Value}
@@ -59,7 +60,7 @@ array_assigned declines nodes a args =
 unfoldable pub set_assigned : (ℕ → Bool) → List Node → Dataset → Args → Result of.Dataset CallFault
 set_assigned declines nodes s args =
     let set = dataset_in nodes s in
-    frame_in declines nodes (variable_names set) (record { axes = set.axes; coords = set.coords }) args >>= λ f. Ok (record set { axes = f.axes; coords = f.coords }) >>= λ t.
+    frame_in declines nodes (variable_names set) (record { axes = set.axes; coords = set.coords }) args >>= λ f. Ok (without_idle (with_frame set f)) >>= λ t.
     refused (check_set t) >>= λ u. Ok t
 
 -- ---- what the calls answer

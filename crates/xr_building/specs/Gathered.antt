@@ -27,7 +27,15 @@ kind_of_all e (Some k) = k
 
 abbrev pub suits_all : DType → Elements → Bool
 suits_all kinds.Bool e = e.truths
-suits_all k e = e.whole
+suits_all kinds.Char e = e.whole
+suits_all kinds.Int8 e = e.whole
+suits_all kinds.Int16 e = e.whole
+suits_all kinds.Int32 e = e.whole
+suits_all kinds.Int64 e = e.whole
+suits_all kinds.UInt8 e = e.whole
+suits_all kinds.UInt16 e = e.whole
+suits_all kinds.UInt32 e = e.whole
+suits_all kinds.UInt64 e = e.whole
 
 -- ---- cells as they are kept
 

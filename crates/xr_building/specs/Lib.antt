@@ -3,6 +3,7 @@ pub mod Found
 pub mod Entries
 pub mod Frames
 pub mod Gathered
+pub mod Idle
 pub mod Listed
 pub mod Nested
 pub mod Outlined

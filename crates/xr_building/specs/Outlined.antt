@@ -11,7 +11,7 @@ use Rattle.xr_arrays.specs.declared.node.Node.{Node}
 use Rattle.xr_defs.specs.Meanings.{Value}
 use Rattle.xr_types.specs.Results.{◌>>=◌, unless, all_of}
 use Rattle.xr_defs.specs.Values.{DataArray}
-use Rattle.xr_defs.specs.Building.{Frame, argument, bare_axes, check_entry, check_numbers, check_place, dims_given, elements, entries_given, fits_kind, given_value, is_named_entry, is_nested, is_regular, kind_given, name_given, nested_shape, option, required}
+use Rattle.xr_defs.specs.Building.{Frame, argument, bare_axes, check_numbers, check_place, check_table_entry, dims_given, elements, entries_given, fits_kind, given_value, is_nested, is_regular, kind_given, name_given, nested_shape, option, required}
 use Rattle.xr_values.specs.declared.value.Value.{Value as Held}
 use Rattle.xr_values.specs.Meaning.{with_key}
 use Rattle.xr_building.specs.declared.elements.Elements.{Elements}
@@ -24,7 +24,7 @@ use Rattle.xr_building.specs.Walk.{entries_put}
 
 -- the entries of a table
 unfoldable pub table_entries : List Axis → List (List ℕ × Value) → Result (List (List ℕ × Value)) Fault
-table_entries axes es = all_of (check_entry axes) es >>= λ u. unless (list_all is_named_entry es) BadArgument >>= λ v. Ok es
+table_entries axes es = all_of (check_table_entry axes) es >>= λ u. Ok es
 
 -- the name, and a kind that the elements can have
 unfoldable pub header_of : Elements → Option Value → Option Value → Result Header Fault

@@ -1,7 +1,8 @@
--- Entries that are put in their places one after the other. Whether their numbers fit is looked at last: until then labels past 64 bits
--- leave their axis bare, and a coordinate of such a number is left out.
-use Rattle.std.specs.Prelude.{◌==◌, ℕ, Bool, true, false, not, List, [], ◌∷◌, map, length, Option, Some, None, Result, Ok, Err, if◌then◌else◌, ⊤}
+-- Entries that are put in their places one after the other. Whether their numbers fit is looked at last: until then labels that no kind
+-- holds leave their axis bare, and a coordinate of a number past 64 bits is left out.
+use Rattle.std.specs.Prelude.{◌==◌, ◌||◌, ℕ, Bool, true, false, not, List, [], ◌∷◌, map, length, Option, Some, None, Result, Ok, Err, if◌then◌else◌, ⊤}
 use Rattle.std.specs.List.{list_all}
+use Rattle.xr_types.specs.Kinds.{in_range}
 use Rattle.xr_types.specs.declared.text.TextBytes.{TextBytes}
 use Rattle.xr_types.specs.declared.axis.Axis.{Axis}
 use Rattle.xr_types.specs.declared.axis.Labels.{Labels}
@@ -17,7 +18,6 @@ use Rattle.xr_defs.specs.declared.value.Content.TheVariants as contents
 use Rattle.xr_defs.specs.declared.value.Coord.{Coord}
 use Rattle.xr_types.specs.Results.{◌>>=◌, unless, all_of}
 use Rattle.xr_types.specs.Names.{among}
-use Rattle.xr_defs.specs.Encoding.{may_fill}
 use Rattle.xr_defs.specs.Arguments.{wrong}
 use Rattle.xr_defs.specs.Selecting.{axis_called}
 use Rattle.xr_arrays.specs.Arrays.{Array as Cells}
@@ -36,16 +36,25 @@ use Rattle.xr_building.specs.Entries.{refused, computed}
 abbrev pub frame_of : Draft → Frame
 frame_of d = record { axes = d.axes; coords = d.coords }
 
--- ---- labels of 64 bits
+-- ---- labels of 64 bits, with a sign or without
 
 abbrev pub fit_list : LabelList → Bool
-fit_list (Numbers kind ns) = list_all (may_fill kinds.Int64) ns
+fit_list (Numbers kind ns) = list_all (in_range kinds.Int64) ns || list_all (in_range kinds.UInt64) ns
 fit_list (Times coding ts) = true
 fit_list (Texts ts) = true
 
+-- numbers past their kind are of kind uint64 for the time being
+abbrev pub held_list : LabelList → LabelList
+held_list (Numbers kind ns) = Numbers (if list_all (in_range kind) ns then kind else kinds.UInt64) ns
+held_list (Times coding ts) = Times coding ts
+held_list (Texts ts) = Texts ts
+
+abbrev pub held_labels : Labels → Labels
+held_labels l = record l { list = held_list l.list }
+
 abbrev pub fitting : Option Labels → Option Labels
 fitting None = None
-fitting (Some l) = if fit_list l.list then Some l else None
+fitting (Some l) = if fit_list l.list then Some (held_labels l) else None
 
 abbrev pub shown : Axis → Axis
 shown x = record x { labels = fitting x.labels }
@@ -63,7 +72,7 @@ coord_given axes name (Array a) = Some (record { name = name; axes = map (λ (x 
 coord_given axes name v = None
 
 abbrev pub coord_fits : Value → Bool
-coord_fits (Number n) = may_fill kinds.Int64 n
+coord_fits (Number n) = in_range kinds.Int64 n
 coord_fits v = true
 
 abbrev pub coord_in : List Axis → List ℕ → Value → Option Coord
@@ -137,8 +146,8 @@ frame_put declines nodes variables f args =
 
 -- whether the numbers of a value fit
 abbrev pub fits_whole : Value → Bool
-fits_whole (Number n) = may_fill kinds.Int64 n
-fits_whole (Sequence vs) = list_all (may_fill kinds.Int64) (numbers_in vs)
+fits_whole (Number n) = in_range kinds.Int64 n
+fits_whole (Sequence vs) = list_all (in_range kinds.Int64) (numbers_in vs)
 fits_whole v = true
 
 -- how many labels a value has

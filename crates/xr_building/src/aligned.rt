@@ -1,21 +1,28 @@
 //! Whether an array's axis has the size and the labels of the one that it stands for.
-ghost use Rattle.std.specs.Prelude.{◌≡◌, ◌&&◌, ◌==◌, map};
+ghost use Rattle.std.specs.Prelude.{◌≡◌, ◌&&◌, ◌==◌, pos, map, get_or};
 ghost use Rattle.xr_types.specs.declared.axis.Label.TheVariants as label;
-ghost use Rattle.xr_arrays.specs.Labels.{labels_of};
+ghost use Rattle.xr_arrays.specs.Labels.{labels_of, same};
 ghost use Rattle.xr_types.specs.Results.{Answers};
 ghost use Rattle.xr_defs.specs.Building as of;
 ghost use Rattle.xr_building.specs.Aligned.{are_aligned, checked_axis};
 
-use xr_types::{Axis, CallFault, Fault, LabelList, Labels, TextBytes};
+use xr_types::{Axis, CallFault, Fault, Integers, LabelList, Labels, TextBytes};
 
-fn same_numbers(a: &[i64], b: &[i64]) -> bool
+fn same_number(a: &Integers, b: &Integers, at: usize) -> bool
+    ensures { result ≡ same (label.Int (get_or a.now at (pos 0))) (label.Int (get_or b.now at (pos 0))) }
+{
+    a.get(at).cmp(&b.get(at)).is_eq()
+}
+
+#[tactic(auto, using(crate::proofs::Same::other_length, crate::proofs::Same::each_by, crate::proofs::Same::one_by))]
+fn same_numbers(a: &Integers, b: &Integers) -> bool
     ensures { result ≡ of.same_labels (map label.Int a.now) (map label.Int b.now) }
 {
     if a.len() != b.len() {
         return false;
     }
-    for i in 0..a.len() {
-        if a[i] != b[i] {
+    for at in 0..a.len() {
+        if !same_number(a, b, at) {
             return false;
         }
     }
@@ -59,11 +66,11 @@ fn are_none(a: usize, b: usize) -> bool
 
 // Labels of two kinds are the same where there are none.
 #[tactic(auto, using(crate::proofs::Same::int_time, crate::proofs::Same::int_text))]
-fn same_as_numbers(a: &[i64], b: &LabelList) -> bool
+fn same_as_numbers(a: &Integers, b: &LabelList) -> bool
     ensures { result ≡ of.same_labels (map label.Int a.now) (labels_of b.now) }
 {
     match b {
-        LabelList::Numbers(_, b) => same_numbers(a, b.as_slice()),
+        LabelList::Numbers(_, b) => same_numbers(a, b),
         LabelList::Times(_, b) => are_none(a.len(), b.as_slice().len()),
         LabelList::Texts(b) => are_none(a.len(), b.as_slice().len()),
     }
@@ -74,7 +81,7 @@ fn same_as_times(a: &[i64], b: &LabelList) -> bool
     ensures { result ≡ of.same_labels (map label.Time a.now) (labels_of b.now) }
 {
     match b {
-        LabelList::Numbers(_, b) => are_none(a.len(), b.as_slice().len()),
+        LabelList::Numbers(_, b) => are_none(a.len(), b.len()),
         LabelList::Times(_, b) => same_times(a, b.as_slice()),
         LabelList::Texts(b) => are_none(a.len(), b.as_slice().len()),
     }
@@ -85,7 +92,7 @@ fn same_as_texts(a: &[TextBytes], b: &LabelList) -> bool
     ensures { result ≡ of.same_labels (map label.Text a.now) (labels_of b.now) }
 {
     match b {
-        LabelList::Numbers(_, b) => are_none(a.len(), b.as_slice().len()),
+        LabelList::Numbers(_, b) => are_none(a.len(), b.len()),
         LabelList::Times(_, b) => are_none(a.len(), b.as_slice().len()),
         LabelList::Texts(b) => same_texts(a, b.as_slice()),
     }
@@ -95,7 +102,7 @@ fn same_labels(a: &LabelList, b: &LabelList) -> bool
     ensures { result ≡ of.same_labels (labels_of a.now) (labels_of b.now) }
 {
     match a {
-        LabelList::Numbers(_, a) => same_as_numbers(a.as_slice(), b),
+        LabelList::Numbers(_, a) => same_as_numbers(a, b),
         LabelList::Times(_, a) => same_as_times(a.as_slice(), b),
         LabelList::Texts(a) => same_as_texts(a.as_slice(), b),
     }

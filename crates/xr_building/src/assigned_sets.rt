@@ -12,6 +12,7 @@ ghost use Rattle.xr_values.specs.Stands.{dataset_in, IsDatasetIn};
 ghost use Rattle.xr_building.specs.Entries.{set_assigned, FollowsSet};
 
 use crate::assigned::assigned;
+use crate::busy::busy_axes;
 use crate::draft::Draft;
 use plan_core::Compute;
 use std::alloc::{AllocError, Global};
@@ -59,13 +60,15 @@ fn set_with<R: Threads + Sync, C: Compute>(
     let draft = draft_of(alloc, on)?;
     let draft = assigned(rt, alloc, cx, on.vars.as_slice(), draft, args)?;
     check_few(&draft, on)?;
+    let axes = busy_axes(alloc, &draft, on)?;
     let mut set = on.deep_copy(alloc)?;
-    set.axes = draft.axes;
+    set.axes = axes;
     set.coords = draft.coords;
     Ok(set)
 }
 
-/// A dataset with these labels and coordinates, as an array has them.
+/// A dataset with these labels and coordinates, as an array has them. A coordinate that is replaced may have been the last along a bare
+/// axis, which is gone then.
 ///
 /// # Errors
 /// Those of an array; `DuplicateName` in its turn for the name of a data variable; `TooLarge` at last for more coordinates

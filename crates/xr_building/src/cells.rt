@@ -1,11 +1,10 @@
 //! Cells of a kind from numbers and holes.
 ghost use Rattle.std.specs.Prelude.{◌≡◌, ◌≢◌, List, map, length, All, IfOk, MatchOption, ⊤};
 ghost use Rattle.std.specs.List.{list_all};
-ghost use Rattle.xr_types.specs.Kinds.{wrap_to};
+ghost use Rattle.xr_types.specs.Kinds.{in_range, wrap_to};
 ghost use Rattle.xr_types.specs.declared.kind.DType.TheVariants as kinds;
 ghost use Rattle.xr_arrays.specs.Arrays.{IsCell, InKind, kind_of, wide};
 ghost use Rattle.xr_defs.specs.Building.{fits_kind};
-ghost use Rattle.xr_defs.specs.Encoding.{may_fill};
 ghost use Rattle.xr_types.specs.Points.{size};
 ghost use Rattle.xr_defs.specs.WellFormed.{AreSeen};
 ghost use Rattle.xr_building.specs.Gathered.{number_or_zero, mask_byte, kind_of_all, suits_all};
@@ -15,21 +14,24 @@ use std::alloc::{AllocError, Global};
 use xr_arrays::{ArrayValue, Cells};
 use xr_types::{DType, Elem, Items};
 
-/// Whether a number is one of the kind. Truth values are taken as bytes.
+/// Whether a number is one of the kind.
 pub fn fits(kind: DType, n: i128) -> bool
-    requires { kind ≢ kinds.Char }
-    ensures { result ≡ may_fill kind n }
+    ensures { result ≡ in_range kind n }
 {
     match kind {
-        DType::Bool | DType::Char | DType::Int8 => -128 <= n && n <= 127,
+        DType::Bool => 0 <= n && n <= 1,
+        DType::Char | DType::UInt8 => 0 <= n && n <= 255,
+        DType::Int8 => -128 <= n && n <= 127,
         DType::Int16 => -32_768 <= n && n <= 32_767,
         DType::Int32 => -2_147_483_648 <= n && n <= 2_147_483_647,
         DType::Int64 => -9_223_372_036_854_775_808 <= n && n <= 9_223_372_036_854_775_807,
+        DType::UInt16 => 0 <= n && n <= 65_535,
+        DType::UInt32 => 0 <= n && n <= 4_294_967_295,
+        DType::UInt64 => 0 <= n && n <= 18_446_744_073_709_551_615,
     }
 }
 
 fn cell_fits(kind: DType, cell: Option<i128>) -> bool
-    requires { kind ≢ kinds.Char }
     ensures { result ≡ fits_kind kind cell }
 {
     match cell {
@@ -40,7 +42,6 @@ fn cell_fits(kind: DType, cell: Option<i128>) -> bool
 
 /// Whether each number is one of the kind.
 pub fn all_fit(kind: DType, cells: &[Option<i128>]) -> bool
-    requires { kind ≢ kinds.Char }
     ensures { result ≡ list_all (fits_kind kind) cells.now }
 {
     for cell in cells {
@@ -75,7 +76,15 @@ pub fn suits(kind: DType, elements: &Elements) -> bool
 {
     match kind {
         DType::Bool => elements.truths,
-        _ => elements.whole,
+        DType::Char
+        | DType::Int8
+        | DType::Int16
+        | DType::Int32
+        | DType::Int64
+        | DType::UInt8
+        | DType::UInt16
+        | DType::UInt32
+        | DType::UInt64 => elements.whole,
     }
 }
 
@@ -122,6 +131,10 @@ fn typed(alloc: Global, kind: DType, cells: &[Option<i128>]) -> Result<Cells, Al
         DType::Int16 => Cells::Int16(numbers(alloc, cells)?),
         DType::Int32 => Cells::Int32(numbers(alloc, cells)?),
         DType::Int64 => Cells::Int64(numbers(alloc, cells)?),
+        DType::UInt8 => Cells::UInt8(numbers(alloc, cells)?),
+        DType::UInt16 => Cells::UInt16(numbers(alloc, cells)?),
+        DType::UInt32 => Cells::UInt32(numbers(alloc, cells)?),
+        DType::UInt64 => Cells::UInt64(numbers(alloc, cells)?),
     })
 }
 

@@ -65,12 +65,13 @@ fn is_integer_kind(kind: DType) -> bool
 {
     match kind {
         DType::Bool | DType::Char => false,
-        _ => true,
+        DType::Int8 | DType::Int16 | DType::Int32 | DType::Int64 => true,
+        DType::UInt8 | DType::UInt16 | DType::UInt32 | DType::UInt64 => true,
     }
 }
 
-// Whether one of the axes has this name.
-fn has_axis(axes: &[Axis], name: &TextBytes) -> bool
+/// Whether one of the axes has this name.
+pub fn has_axis(axes: &[Axis], name: &TextBytes) -> bool
     ensures { result ≡ among (axis_names axes.now) name.now }
 {
     for axis in axes {
@@ -148,8 +149,13 @@ fn check_coordinate(value: &Value) -> Result<(), CallFault>
     }
 }
 
+/// Refuses an entry that is neither labels for a dimension nor a coordinate that is none.
+///
+/// # Errors
+/// `WrongKind` for what can't be labels, or no coordinate; `BadArgument` for an array that is masked or doesn't lie along the dimension
+/// alone, or has more than one where it is no labels.
 #[tactic(auto, unfolding(xr_defs::specs::Building::check_entry))]
-fn check_entry(axes: &[Axis], entry: &(TextBytes, Value)) -> Result<(), CallFault>
+pub fn check_entry(axes: &[Axis], entry: &(TextBytes, Value)) -> Result<(), CallFault>
     ensures { (nodes : List Node) → Answers (λ u. u) result (of.check_entry axes.now (with_key nodes entry.now)) }
 {
     if is_dimension(axes, &entry.0) {

@@ -1,14 +1,13 @@
 //! The entries of the argument `coords`.
 ghost use Rattle.std.specs.Prelude.{◌≡◌, List, Some, All, map, option_map, IfOk, MatchOption, ⊤};
-ghost use Rattle.std.specs.List.{list_all};
 ghost use Rattle.xr_arrays.specs.declared.node.Node.{Node};
-ghost use Rattle.xr_types.specs.Results.{Answers};
+ghost use Rattle.xr_types.specs.Results.{Answers, all_of};
 ghost use Rattle.xr_defs.specs.Building as of;
 ghost use Rattle.xr_values.specs.Meaning.{meaning, with_key, IsEntryIn, IsValueIn};
 ghost use Rattle.xr_building.specs.Outlined.{table_entries};
 ghost use Rattle.xr_building.specs.Written.{coords_held, entries_held, keyword_held};
 
-use crate::check::check_entries;
+use crate::check::check_entry;
 use crate::given::is_named;
 use xr_types::{Axis, CallFault, Fault, TextBytes};
 use xr_values::{Args, Value};
@@ -35,28 +34,35 @@ pub fn coords_argument(args: &Args) -> Option<&Value>
     }
 }
 
-fn are_named(entries: &[(TextBytes, Value)]) -> bool
-    ensures { (nodes : List Node) → result ≡ list_all of.is_named_entry (map (with_key nodes) entries.now) }
+// Refuses what no entry may be, and then an entry without a name.
+#[tactic(auto, unfolding(xr_defs::specs::Building::check_table_entry, xr_types::specs::Results::unless))]
+fn check_table_entry(axes: &[Axis], entry: &(TextBytes, Value)) -> Result<(), CallFault>
+    ensures { (nodes : List Node) → Answers (λ u. u) result (of.check_table_entry axes.now (with_key nodes entry.now)) }
 {
-    for entry in entries {
-        if !is_named(&entry.0) {
-            return false;
-        }
-    }
-    true
-}
-
-// Refuses what no entry may be, and then entries without a name.
-#[tactic(auto, unfolding(crate::specs::Outlined::table_entries, xr_types::specs::Results::unless))]
-fn check_table(axes: &[Axis], entries: &[(TextBytes, Value)]) -> Result<(), CallFault>
-    ensures answers { (nodes : List Node) → Answers (λ u. map (with_key nodes) entries.now) result (table_entries axes.now (map (with_key nodes) entries.now)) }
-{
-    check_entries(axes, entries)?;
-    if are_named(entries) {
+    check_entry(axes, entry)?;
+    if is_named(&entry.0) {
         Ok(())
     } else {
         Err(CallFault::Refused(Fault::BadArgument))
     }
+}
+
+fn check_each(axes: &[Axis], entries: &[(TextBytes, Value)]) -> Result<(), CallFault>
+    ensures { (nodes : List Node) → Answers (λ u. u) result (all_of (of.check_table_entry axes.now) (map (with_key nodes) entries.now)) }
+{
+    for entry in entries {
+        check_table_entry(axes, entry)?;
+    }
+    Ok(())
+}
+
+// Refuses the first entry of a table that can't be one.
+#[tactic(auto, unfolding(crate::specs::Outlined::table_entries))]
+fn check_table(axes: &[Axis], entries: &[(TextBytes, Value)]) -> Result<(), CallFault>
+    ensures answers { (nodes : List Node) → Answers (λ u. map (with_key nodes) entries.now) result (table_entries axes.now (map (with_key nodes) entries.now)) }
+{
+    check_each(axes, entries)?;
+    Ok(())
 }
 
 // The entries of a table; `None` has none.
@@ -80,8 +86,9 @@ fn table_given<'a>(axes: &[Axis], value: &'a Value) -> Result<&'a [(TextBytes, V
 /// The entries of a table; none where no argument is given.
 ///
 /// # Errors
-/// `WrongKind` for another value, and for an entry that can't be labels, or no coordinate; `BadArgument` for an array that is masked
-/// or doesn't lie along the dimension alone, or has more than one where it is no labels; then `BadArgument` for an entry without a name.
+/// `WrongKind` for another value; of the first entry that can't be one `WrongKind` for what can't be labels, or no coordinate,
+/// `BadArgument` for an array that is masked or doesn't lie along the dimension alone, or has more than one where it is no labels, and
+/// then `BadArgument` for no name.
 #[tactic(auto, unfolding(xr_defs::specs::Building::entries_given))]
 pub fn entries_given<'a>(
     axes: &[Axis],

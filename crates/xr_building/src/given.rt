@@ -125,6 +125,14 @@ fn kind_named(text: &str) -> Option<DType>
         Some(DType::Int32)
     } else if "int64" == text {
         Some(DType::Int64)
+    } else if "uint8" == text {
+        Some(DType::UInt8)
+    } else if "uint16" == text {
+        Some(DType::UInt16)
+    } else if "uint32" == text {
+        Some(DType::UInt32)
+    } else if "uint64" == text {
+        Some(DType::UInt64)
     } else {
         None
     }

@@ -6,6 +6,7 @@ mod assigned;
 mod assigned_sets;
 mod axes;
 mod bare;
+mod busy;
 mod cells;
 mod check;
 mod computed;

@@ -7,7 +7,7 @@ ghost use Rattle.xr_types.specs.Names.{shape_over};
 ghost use Rattle.xr_defs.specs.Selecting as of;
 
 use xr_defs::Coord;
-use xr_types::{Axis, MOST_CELLS};
+use xr_types::{Axis, MOST_CELLS, MOST_DIMENSIONS};
 
 // The product of the axes' sizes, as far as 64 bits count.
 #[tactic(auto, using(plan_core::proofs::Products::saturates))]
@@ -30,10 +30,18 @@ fn are_short(axes: &[Axis]) -> bool
 }
 
 // No more positions along an axis than there may be, and no more cells.
+fn is_small(axes: &[Axis]) -> bool
+    ensures { result ≡ (list_all (λ n. nat_le n most_cells) (shape_over axes.now) && nat_le (size (shape_over axes.now)) most_cells) }
+{
+    are_short(axes) && points_over(axes) <= MOST_CELLS
+}
+
+// No more dimensions, positions along an axis and cells than there may be.
+#[tactic(auto, using(crate::proofs::Called::rank))]
 fn is_within(axes: &[Axis]) -> bool
     ensures { result ≡ of.is_within (shape_over axes.now) }
 {
-    are_short(axes) && points_over(axes) <= MOST_CELLS
+    axes.len() <= MOST_DIMENSIONS && is_small(axes)
 }
 
 fn are_within(coords: &[Coord]) -> bool
@@ -42,7 +50,7 @@ fn are_within(coords: &[Coord]) -> bool
     coords.iter().all(|coord| is_within(coord.axes.as_slice()))
 }
 
-/// Whether an array over these axes and its coordinates have no more positions and cells than they may have.
+/// Whether an array over these axes and its coordinates have no more dimensions, positions and cells than they may have.
 pub fn is_frame_within(axes: &[Axis], coords: &[Coord]) -> bool
     ensures { result ≡ (of.is_within (shape_over axes.now) && of.are_within coords.now) }
 {

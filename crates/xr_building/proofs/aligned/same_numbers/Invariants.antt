@@ -1,7 +1,7 @@
-use Rattle.std.proofs.Common.{◌≡◌, map, drop}
-use Rattle.xr_types.specs.declared.axis.Label.TheVariants as label
-use Rattle.xr_defs.specs.Building.{same_labels}
+use Rattle.std.proofs.Common.{◌≡◌, ◌<◌, ℕ, pos, true, get_or}
+use Rattle.xr_types.specs.declared.axis.Label.TheVariants.{Int}
+use Rattle.xr_arrays.specs.Labels.{same}
 use Rattle.xr_building.proofs.aligned.same_numbers.Given as goal
 
-abbrev pub invariant-loop-i : goal.invariant-loop-i
-invariant-loop-i l = same_labels (map label.Int (drop l.i l.a)) (map label.Int (drop l.i l.b)) ≡ same_labels (map label.Int l.a) (map label.Int l.b)
+abbrev pub invariant-loop-at : goal.invariant-loop-at
+invariant-loop-at l = (k : ℕ) → k < l.at → same (Int (get_or l.a k (pos 0))) (Int (get_or l.b k (pos 0))) ≡ true

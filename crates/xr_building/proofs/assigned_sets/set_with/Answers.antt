@@ -1,5 +1,6 @@
 use Rattle.std.proofs.Common.{◌≡◌, List, Ok, Err, sym, ap, subst, ◌∙◌}
 use Rattle.std.proofs.lemmas.Result.{err_from_is_err_and}
+use Rattle.xr_types.specs.declared.axis.Axis.{Axis}
 use Rattle.xr_values.specs.declared.dataset.Dataset.{Dataset}
 use Rattle.xr_values.specs.declared.variable.Variable.{Variable}
 use Rattle.xr_values.specs.Stands.{dataset_in, IsDatasetIn}
@@ -15,8 +16,9 @@ returns-clause-told g c =
     let declines = g.C.Compute.declines c.args.cx.now.compute nodes in
     let d = c.in_ok-draft-2.draft in
     let told = subst (λ (vs : List Variable). frame_in declines nodes (names_of vs) (frame_of c.in_ok-draft.draft) c.args.args.now ≡ Ok (frame_of d)) c.as_slice.ensures.variables c.in_ok-draft-2.ensures.told in
-    subst (λ (b : Dataset). (set_assigned declines nodes c.args.on.now c.args.args.now ≡ Ok (dataset_in nodes (reframed_set b d.axes d.coords))) × IsDatasetIn nodes (reframed_set b d.axes d.coords)) (sym c.in_ok-set.ensures)
-    (set_told declines nodes c.args.on.now c.args.args.now c.in_ok-draft.draft.axes c.in_ok-draft.draft.coords (frame_of d) c.in_ok-draft.ensures.axes c.in_ok-draft.ensures.coords told c.requires.inside c.in_ok-draft-2.ensures.frame c.in_ok-check_few.ensures)
+    subst (λ (b : Dataset). (set_assigned declines nodes c.args.on.now c.args.args.now ≡ Ok (dataset_in nodes (reframed_set b c.in_ok-axes.axes d.coords))) × IsDatasetIn nodes (reframed_set b c.in_ok-axes.axes d.coords)) (sym c.in_ok-set.ensures)
+    (subst (λ (xs : List Axis). (set_assigned declines nodes c.args.on.now c.args.args.now ≡ Ok (dataset_in nodes (reframed_set c.args.on.now xs d.coords))) × IsDatasetIn nodes (reframed_set c.args.on.now xs d.coords)) (sym c.in_ok-axes.ensures)
+    (set_told declines nodes c.args.on.now c.args.args.now c.in_ok-draft.draft.axes c.in_ok-draft.draft.coords (frame_of d) c.in_ok-draft.ensures.axes c.in_ok-draft.ensures.coords told c.requires.inside c.in_ok-draft-2.ensures.frame c.in_ok-check_few.ensures))
 
 pub returns-in_err-draft-2-clause-told : goal.returns-in_err-draft-2-clause-told
 returns-in_err-draft-2-clause-told g c =

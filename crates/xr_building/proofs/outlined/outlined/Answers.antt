@@ -1,7 +1,7 @@
 use Rattle.std.proofs.Common.{Bor, List, ℕ, length, option_map, sym, ap, subst, ◌∙◌}
 use Rattle.xr_types.specs.declared.axis.Axis.{Axis}
 use Rattle.xr_defs.specs.declared.value.Coord.{Coord}
-use Rattle.xr_defs.specs.Values.{shape_over}
+use Rattle.xr_types.specs.Names.{shape_over}
 use Rattle.xr_defs.specs.Building as of
 use Rattle.xr_defs.specs.Building.{Frame}
 use Rattle.xr_values.specs.declared.value.Value.{Value}

@@ -2,8 +2,7 @@ use Rattle.std.proofs.Common.{◌≤◌, length, sym, ap, subst, arith}
 use Rattle.xr_arrays.specs.Arrays.{Array}
 use Rattle.xr_arrays.specs.Nodes.{IsNode, values, Pushes}
 use Rattle.xr_arrays.specs.declared.node.Node.TheVariants.{Source}
-use Rattle.xr_building.proofs.Standing.{fits, stands, within_is, value_is, limits_hold, answered}
-use Rattle.xr_values.proofs.Rooms.{node_added}
+use Rattle.xr_building.proofs.Standing.{fits, stands, within_is, value_is, limits_hold, answered, node_added}
 use Rattle.xr_building.proofs.placed.place.Goals as goal
 
 pub push-requires : goal.push-requires
