@@ -11,3 +11,4 @@ mod DatasetExamples
 mod CallExamples
 mod CarryExamples
 mod OperatorRows
+mod JoinExamples
