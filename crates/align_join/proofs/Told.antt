@@ -1,8 +1,7 @@
 -- The steps of a join one after the other.
-use Rattle.std.proofs.Common.{◌≡◌, ◌<◌, ◌||◌, ℕ, Bool, true, false, List, [], ◌∷◌, map, length, get_or, Option, Some, None, Result, Ok, Err, refl, sym, ap, subst, ◌∙◌, arith}
-use Rattle.std.specs.List.{list_all}
+use Rattle.std.proofs.Common.{cond, ◌≡◌, ◌<◌, ◌||◌, ℕ, Bool, true, false, List, [], ◌∷◌, map, length, get_or, Option, Some, None, Result, Ok, Err, refl, sym, ap, subst, ◌∙◌, arith}
+use Rattle.std.specs.List.{list_all, range_with_len}
 use Rattle.std.specs.Option.{is_some}
-use Rattle.std.proofs.lemmas.List.Folds.{list_all-map}
 use Rattle.xr_types.specs.Results.{◌>>=◌, unless, Answers}
 use Rattle.xr_types.specs.declared.axis.Axis.{Axis}
 use Rattle.xr_types.specs.declared.axis.Labels.{Labels}
@@ -12,8 +11,8 @@ use Rattle.xr_types.specs.declared.fault.Fault.{Fault}
 use Rattle.xr_types.specs.declared.fault.Fault.TheVariants.{LabelKind, SizeConflict, WouldPromote}
 use Rattle.xr_types.specs.declared.operation.How.{How}
 use Rattle.xr_arrays.specs.Labels.{labels_of}
-use Rattle.xr_operations.specs.Alignment.{are_kin, common_kind, has_all, has_size, indexes, join, joined_index, joined_labels, labelled_axis, listed, number_kind, relisted, sources}
-use Rattle.align_join.specs.Joined.{checked, head, indexed, joined_lists}
+use Rattle.xr_operations.specs.Alignment.{each_position, found, sources_by, are_kin, common_kind, has_all, has_size, indexes, join, joined_index, joined_labels, labelled_axis, listed, number_kind, relisted, sources}
+use Rattle.align_join.specs.Joined.{stays, checked, head, indexed, joined_lists}
 
 -- a fault of the first step is that of the whole
 pub fails : {A B C D : Type 0} (v : A → B) (w : C → D) (r : Result C CallFault) (e : CallFault) (told : Result B Fault) (k : B → Result D Fault) (whole : Result D Fault) → r ≡ Err e → whole ≡ (told >>= k) → Answers v (Err e) told → Answers w r whole
@@ -52,8 +51,20 @@ bare_told j x (m ∷ ms) h = cc
 
 -- ---- the checks
 
-pub whole_is : {Y : Type 0} (f : Y → Axis) (joined : Axis) (ys : List Y) (from : List (List (Option ℕ))) → from ≡ map (λ y. sources (f y) joined) ys → list_all (λ s. list_all is_some s) from ≡ list_all (has_all joined) (map f ys)
-whole_is f joined ys from e = ap (list_all (λ s. list_all is_some s)) e ∙ list_all-map (λ s. list_all is_some s) (λ y. sources (f y) joined) ys ∙ sym (list_all-map (has_all joined) f ys)
+all_some : (ns : List ℕ) → list_all is_some (map Some ns) ≡ true
+all_some [] = refl
+all_some (n ∷ ns) = all_some ns
+
+pub stays_each : (old new : Axis) → stays old.labels new.labels ≡ true → sources old new ≡ each_position new.size
+stays_each old new h = by old.labels new.labels h
+  where
+    by : (own joined : Option Labels) → stays own joined ≡ true → sources_by own joined new.size ≡ each_position new.size
+    by None joined h = refl
+    by (Some l) None h = refl
+    by (Some l) (Some m) h = ap (λ b. cond b (each_position new.size) (map (found (labels_of l.list)) (labels_of m.list))) h
+
+pub stays_whole : (old new : Axis) → stays old.labels new.labels ≡ true → has_all new old ≡ true
+stays_whole old new h = ap (list_all is_some) (stays_each old new h) ∙ all_some (range_with_len 0 new.size)
 
 pub missized : (filled : Bool) (joined : Axis) (xs : List Axis) → list_all (has_size joined) xs ≡ false → checked filled joined xs ≡ Err SizeConflict
 unfolding unless

@@ -1,5 +1,5 @@
 -- The join as a function of the lists of labels.
-use Rattle.std.specs.Prelude.{◌≤◌, ◌||◌, Bool, List, [], ◌∷◌, length, map, Option, Some, None, Result, Ok, MatchOption, ⊤}
+use Rattle.std.specs.Prelude.{◌≤◌, ◌||◌, Bool, true, List, [], ◌∷◌, length, map, Option, Some, None, Result, Ok, MatchOption, ⊤}
 use Rattle.std.specs.List.{list_all}
 use Rattle.xr_types.specs.Results.{◌>>=◌, unless}
 use Rattle.xr_types.specs.declared.attr.Attr.{Attr}
@@ -12,6 +12,7 @@ use Rattle.xr_types.specs.declared.fault.Fault.TheVariants.{LabelKind, SizeConfl
 use Rattle.xr_types.specs.declared.kind.DType.{DType}
 use Rattle.xr_types.specs.declared.operation.How.{How}
 use Rattle.xr_arrays.specs.Labels.{labels_of}
+use Rattle.xr_defs.specs.Building.{same_labels}
 use Rattle.xr_operations.specs.Alignment.{are_kin, common_kind, has_all, has_size, joined_by, joined_labels, number_kind, relisted}
 
 -- labels that can be looked up
@@ -49,3 +50,9 @@ indexed x attrs list = record x { size = length (labels_of list); labels = Some 
 -- the checks of a joined axis
 abbrev pub checked : Bool → Axis → List Axis → Result (Unit {0}) Fault
 checked filled joined xs = unless (list_all (has_size joined) xs) SizeConflict >>= λ u. unless (filled || list_all (has_all joined) xs) WouldPromote
+
+-- whether the positions of an old axis with these labels stay those of a new one with others
+abbrev pub stays : Option Labels → Option Labels → Bool
+stays None new = true
+stays (Some l) None = true
+stays (Some l) (Some m) = same_labels (labels_of l.list) (labels_of m.list)

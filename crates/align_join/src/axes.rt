@@ -5,7 +5,7 @@ ghost use Rattle.std.specs.Option.{option_map};
 ghost use Rattle.xr_types.specs.Results.{Answers};
 ghost use Rattle.xr_arrays.specs.Labels.{labels_of};
 ghost use Rattle.xr_defs.specs.Values.{no_axis};
-ghost use Rattle.xr_operations.specs.Alignment.{has_size, indexes, labelled_axis, listed, sources};
+ghost use Rattle.xr_operations.specs.Alignment.{has_all, has_size, indexes, labelled_axis, listed, sources};
 ghost use Rattle.align_join.specs.Joined.{HasFew, IsFew, head, indexed};
 
 use crate::{label, lists, source};
@@ -96,6 +96,32 @@ pub fn all_sized(joined: &Axis, axes: &[&Axis]) -> bool
         }
     }
     true
+}
+
+/// Whether an axis has each label of the joined one.
+#[tactic(auto, using(crate::proofs::Told::stays_whole))]
+fn has_all(alloc: Global, joined: &Axis, axis: &Axis) -> Result<bool, NoMemory>
+    requires { HasFew axis.now }
+    ensures { IfOk result (λ b. b ≡ has_all joined.now axis.now) }
+{
+    if source::stays(axis, joined) {
+        return Ok(true);
+    }
+    let from = source::sources(alloc, axis, joined)?;
+    Ok(from.as_slice().iter().all(|at| at.is_some()))
+}
+
+/// Whether all axes have each label of the joined one.
+pub fn all_have(alloc: Global, joined: &Axis, axes: &[&Axis]) -> Result<bool, NoMemory>
+    requires { All (λ x. HasFew x.now) axes.now }
+    ensures { IfOk result (λ b. b ≡ list_all (has_all joined.now) (map (λ x. x.now) axes.now)) }
+{
+    for axis in axes {
+        if !has_all(alloc, joined, axis)? {
+            return Ok(false);
+        }
+    }
+    Ok(true)
 }
 
 /// For each axis the positions that stand for those of the joined one.

@@ -10,5 +10,7 @@ mod lists;
 mod ordered;
 mod relist;
 mod source;
+mod values;
 
-pub use alignment::{Joined, join};
+pub use alignment::{Joined, join, joined_axis};
+pub use source::{sources, stays};

@@ -1,7 +1,8 @@
 //! The positions of an old axis that stand for those of a new one.
-ghost use Rattle.std.specs.Prelude.{◌≡◌, ◌≤◌, ⊤, map, filter, length, IfOk, MatchOption};
+ghost use Rattle.std.specs.Prelude.{◌≡◌, ◌≤◌, true, map, filter, length, IfOk};
 ghost use Rattle.xr_arrays.specs.Labels.{labels_of};
 ghost use Rattle.xr_operations.specs.Alignment.{each_position, found, holds_label, sources};
+ghost use Rattle.align_join.specs.Joined.{HasFew, stays};
 
 use crate::key::Key;
 use crate::label;
@@ -77,9 +78,22 @@ fn by_labels(alloc: Global, old: &LabelList, new: &LabelList) -> Result<Sources,
     Ok(all)
 }
 
+/// Whether the positions of an old axis stay: it is bare, or has the labels of the new one. Of an old axis with labels and a new
+/// one without, which no join gives, they stay too.
+#[tactic(auto, using(crate::proofs::Told::stays_each))]
+pub fn stays(old: &Axis, new: &Axis) -> bool
+    ensures stays { result ≡ stays old.now.labels new.now.labels }
+    ensures each { result ≡ true → sources old.now new.now ≡ each_position new.now.size }
+{
+    match (&old.labels, &new.labels) {
+        (Some(own), Some(joined)) => label::same_labels(&own.list, &joined.list),
+        (None, _) | (Some(_), None) => true,
+    }
+}
+
 /// The position of an old axis that stands for each position of a new one.
 pub fn sources(alloc: Global, old: &Axis, new: &Axis) -> Result<Sources, NoMemory>
-    requires { MatchOption old.now.labels ⊤ (λ l. length (labels_of l.list) ≤ 33554432) }
+    requires { HasFew old.now }
     ensures { IfOk result (λ s. s ≡ sources old.now new.now) }
 {
     if let (Some(own), Some(joined)) = (&old.labels, &new.labels) {

@@ -177,15 +177,23 @@ join j filled (x ∷ xs) =
 
 -- ---- the axes of several values together
 
+-- the axis of a name, if there is one
+abbrev pub axis_of : List ℕ → List Axis → Option Axis
+axis_of name [] = None
+axis_of name (x ∷ xs) = if bytes_eq x.name name then Some x else axis_of name xs
+
 -- those of one name, of each value that has one
 abbrev pub axes_named : List ℕ → List (List Axis) → List Axis
 axes_named name [] = []
-axes_named name (xs ∷ lists) = if among (axis_names xs) name then axis_called xs name ∷ axes_named name lists else axes_named name lists
+axes_named name (xs ∷ lists) = elim (axis_of name xs) [ None ↦ axes_named name lists | Some x ↦ x ∷ axes_named name lists ]
+
+-- a name behind others, unless it is one of them
+abbrev pub add_name : List (List ℕ) → List ℕ → List (List ℕ)
+add_name names n = if among names n then names else names ++ n ∷ []
 
 -- each name once, in the order of first appearance
 abbrev pub names_once : List (List ℕ) → List (List ℕ)
-names_once [] = []
-names_once (n ∷ ns) = n ∷ filter (λ m. not (bytes_eq m n)) (names_once ns)
+names_once names = fold add_name [] names
 
 abbrev pub all_names : List (List Axis) → List (List ℕ)
 all_names [] = []
