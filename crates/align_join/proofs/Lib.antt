@@ -3,3 +3,4 @@ pub mod Found
 pub mod Relisted
 pub mod Keeping
 pub mod Told
+pub mod Each

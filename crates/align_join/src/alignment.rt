@@ -19,12 +19,7 @@ pub struct Joined {
 }
 
 /// Whether there is a fill, or each axis has each joined label.
-fn are_covered(
-    alloc: Global,
-    joined: &Axis,
-    axes: &[&Axis],
-    filled: bool,
-) -> Result<bool, NoMemory>
+fn are_covered(alloc: Global, joined: &Axis, axes: &[&Axis], filled: bool) -> Result<bool, NoMemory>
     requires { All (λ x. HasFew x.now) axes.now }
     ensures { IfOk result (λ b. b ≡ (filled || list_all (has_all joined.now) (map (λ x. x.now) axes.now))) }
 {
@@ -56,12 +51,7 @@ fn check(alloc: Global, joined: &Axis, axes: &[&Axis], filled: bool) -> Result<(
 /// lists of labels that differ `NotAligned` with `How::Exact`, else `NotUnique` where one holds a label twice. Then
 /// `SizeConflict` for a bare axis of another size than the joined one, and `WouldPromote` where an axis lacks a joined label and
 /// there is no fill.
-pub fn joined_axis(
-    alloc: Global,
-    axes: &[&Axis],
-    how: How,
-    filled: bool,
-) -> Result<Axis, CallFault>
+pub fn joined_axis(alloc: Global, axes: &[&Axis], how: How, filled: bool) -> Result<Axis, CallFault>
     requires some { 0 < length axes.now }
     requires few { All (λ x. HasFew x.now) axes.now }
     ensures { Answers (λ x. x) result (join how filled (map (λ x. x.now) axes.now)) }

@@ -14,3 +14,4 @@ mod values;
 
 pub use alignment::{Joined, join, joined_axis};
 pub use source::{sources, stays};
+pub use values::aligned;
