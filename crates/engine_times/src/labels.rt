@@ -7,7 +7,7 @@ use label_index::Index;
 use std::alloc::{AllocError, Global};
 use std::rt::Clock;
 use std::time::Instant;
-use xr_types::{Axis, DType, Items, Label, LabelList, Labels, TextBytes};
+use xr_types::{Axis, DType, Integers, Items, Label, LabelList, Labels, TextBytes};
 
 // The whole number at a position: ascending, or scattered by an odd factor over the numbers of 32 bits.
 fn number_at(ascending: bool, i: u32) -> i64 {
@@ -35,11 +35,12 @@ fn axis_of(alloc: Global, list: Vec<i64>) -> std::result::Result<Axis, AllocErro
     ensures { IfOk result (λ axis. IsLabelled axis × (axis.size ≡ length list.items)) }
 {
     let size = list.len() as u64;
+    let list = Integers::signed(alloc, Items::of(list))?;
     Ok(Axis {
         name: TextBytes::from_str(alloc, "x")?,
         size,
         labels: Some(Labels {
-            list: LabelList::Numbers(DType::Int64, Items::of(list)),
+            list: LabelList::Numbers(DType::Int64, list),
             attrs: Items::new(alloc),
         }),
     })
