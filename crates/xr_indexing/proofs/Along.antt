@@ -9,11 +9,11 @@ use Rattle.xr_defs.specs.declared.value.Coord.{Coord}
 use Rattle.xr_types.specs.Names.{shape_over}
 use Rattle.xr_defs.specs.Values.{axis_position, no_axis, chosen_axis, chosen_axes}
 use Rattle.xr_indexing.specs.Labels.{HasShape, HasPositions, IsAlong}
-use Rattle.xr_indexing.proofs.Places.{position_at, size_at, shape-length}
+use Rattle.xr_indexing.proofs.Places.{position_at, size_at, shape_rank}
 
 shaped : (axes : List Axis) (k n : ℕ) (content : Content) → k < length axes → (get_or axes k no_axis).size ≡ n → HasShape (shape_over axes) content → HasPositions k n content
 shaped axes k n (contents.Cells a masked) lt is shape =
-    let rank : length a.shape ≡ length axes = ap length shape ∙ shape-length axes in
+    let rank : length a.shape ≡ length axes = ap length shape ∙ shape_rank axes in
     (omega arith, ap (λ s. get_or s k 0) shape ∙ size_at axes k ∙ is)
 shaped axes k n (contents.Text text) lt is shape = tt
 shaped axes k n (contents.Time coding t) lt is shape = tt

@@ -11,7 +11,7 @@ use Rattle.xr_defs.specs.declared.value.Content.{Content}
 use Rattle.xr_defs.specs.declared.value.Content.TheVariants as contents
 use Rattle.xr_defs.specs.declared.value.Coord.{Coord}
 use Rattle.xr_types.specs.Points.{size}
-use Rattle.xr_defs.specs.Limits.{most_cells, most_variables}
+use Rattle.xr_defs.specs.Limits.{most_cells, most_dimensions, most_variables}
 use Rattle.xr_defs.specs.Values as of
 use Rattle.xr_types.specs.Names.{axis_names, shape_over}
 use Rattle.xr_types.specs.Names.{are_distinct}
@@ -65,6 +65,7 @@ long_set nodes s is =
         frame = long_frame s.axes s.coords f.axes f.coords f.coords_distinct;
         vars = each_weaker (IsVariable s.axes) (IsLongVariable s.axes) (map (variable_in nodes) s.vars) (long_variable s.axes) f.vars;
         vars_distinct = f.vars_distinct;
+        busy = f.busy;
         attrs = f.attrs;
       };
     }
@@ -81,7 +82,10 @@ axes_within (x ∷ xs) within each =
     (record { name = each.0.name; few = few_from x.size most_cells parts.0; index = each.0.index }, axes_within xs parts.1 each.1)
 
 within_parts : (shape : List ℕ) → is_within shape ≡ true → (list_all (λ n. nat_le n most_cells) shape ≡ true) × (size shape ≤ most_cells)
-within_parts shape is = let parts = and_parts (list_all (λ n. nat_le n most_cells) shape) (nat_le (size shape) most_cells) is in (parts.0, few_from (size shape) most_cells parts.1)
+within_parts shape is =
+    let most = and_parts (nat_le (length shape) most_dimensions) (list_all (λ n. nat_le n most_cells) shape && nat_le (size shape) most_cells) is in
+    let parts = and_parts (list_all (λ n. nat_le n most_cells) shape) (nat_le (size shape) most_cells) most.1 in
+    (parts.0, few_from (size shape) most_cells parts.1)
 
 pub cells_within : (shape : List ℕ) (kind : DType) (masked : Bool) (cells : List (Option ℤ)) → is_within shape ≡ true → AreManyCells shape kind masked cells → AreCells shape kind masked cells
 cells_within shape kind masked cells within is = record { whole = is.whole; range = is.range; seen = is.seen; low_rank = is.low_rank; few = (within_parts shape within).1 }
@@ -143,6 +147,7 @@ set_within nodes s is checked =
         vars = vars_within nodes s.axes s.vars last.0 f.vars;
         coords_distinct = f.frame.distinct;
         vars_distinct = f.vars_distinct;
+        busy = f.busy;
         attrs = f.attrs;
         few = subst (λ n. length s.coords + n ≤ most_variables) (sym same) counted;
       };

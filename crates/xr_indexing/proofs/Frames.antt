@@ -23,7 +23,7 @@ use Rattle.xr_defs.specs.WellFormed.{IsIndex, AreLabels, names_of}
 use Rattle.xr_indexing.specs.Unbounded.{IsLongAxis, AreManyCells, IsLongContent, IsThere, IsLongCoordinate, IsLongFrame}
 use Rattle.xr_values.proofs.Named.{bytes_eq_swap}
 use Rattle.xr_indexing.proofs.Names.{distinct_out, distinct_end}
-use Rattle.xr_indexing.proofs.Places.{nowhere, position_at, position_name, names_without, shape_without, called_without, among_without, name_at, size_at, names-length, shape-length, names_set, shape_set, called_set, called_at}
+use Rattle.xr_indexing.proofs.Places.{nowhere, position_at, position_name, names_without, shape_without, called_without, among_without, name_at, size_at, names-length, shape_rank, names_set, shape_set, called_set, called_at}
 use Rattle.xr_indexing.proofs.CellsAt.{picked_many, chosen_many}
 use Rattle.xr_indexing.proofs.Lists.{each_map, each_append, each_without, each_at, parted}
 
@@ -82,7 +82,7 @@ no_place (y ∷ ys) j is lt = absurd cc
 content_one : (ys : List Axis) (j p : ℕ) (content : Content) → j < length ys → p < (get_or ys j no_axis).size → IsLongContent (shape_over ys) content → IsLongContent (shape_over (without j ys)) (content_at content j p)
 content_one ys j p (contents.Cells a masked) lt below is =
     let left : without j a.shape ≡ shape_over (without j ys) = ap (without j) is.0 ∙ sym (shape_without ys j) in
-    let rank : length a.shape ≡ length ys = ap length is.0 ∙ shape-length ys in
+    let rank : length a.shape ≡ length ys = ap length is.0 ∙ shape_rank ys in
     let size : get_or a.shape j 0 ≡ (get_or ys j no_axis).size = ap (λ s. get_or s j 0) is.0 ∙ size_at ys j in
     let many : AreManyCells a.shape a.kind masked a.cells = subst (λ s. AreManyCells s a.kind masked a.cells) (sym is.0) is.1 in
     (left, subst (λ s. AreManyCells s a.kind masked (picked_from a j (Some p) None).cells) left (picked_many a masked j p many (omega arith) (omega arith)))
@@ -93,7 +93,7 @@ pub content_several : (ys : List Axis) (j : ℕ) (ps : List ℕ) (x : Axis) (con
     → IsLongContent (shape_over (set ys j x)) (chosen_content content j ps)
 content_several ys j ps x (contents.Cells a masked) lt sized below is =
     let left : set a.shape j (length ps) ≡ shape_over (set ys j x) = ap (λ s. set s j (length ps)) is.0 ∙ ap (set (shape_over ys) j) (sym sized) ∙ sym (shape_set ys j x) in
-    let rank : length a.shape ≡ length ys = ap length is.0 ∙ shape-length ys in
+    let rank : length a.shape ≡ length ys = ap length is.0 ∙ shape_rank ys in
     let size : get_or a.shape j 0 ≡ (get_or ys j no_axis).size = ap (λ s. get_or s j 0) is.0 ∙ size_at ys j in
     let many : AreManyCells a.shape a.kind masked a.cells = subst (λ s. AreManyCells s a.kind masked a.cells) (sym is.0) is.1 in
     (left, subst (λ s. AreManyCells s a.kind masked (chosen_cells a j ps).cells) left (chosen_many a masked j ps many (omega arith) (subst (λ n. All (λ p. p < n) ps) (sym size) below)))

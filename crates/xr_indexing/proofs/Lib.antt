@@ -23,3 +23,7 @@ pub mod TookSet
 pub mod VarCells
 pub mod SetSpanned
 pub mod Rooms
+pub mod ChosenLabels
+pub mod Busy
+pub mod NamedSpans
+pub mod NodeCells

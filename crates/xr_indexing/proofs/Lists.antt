@@ -1,5 +1,5 @@
 -- What holds of each item of a list, with one of them taken away or changed.
-use Rattle.std.proofs.Common.{◌≡◌, ◌<◌, ℕ, zero, suc, List, [], ◌∷◌, ◌++◌, length, map, take, drop, set, get_or, refl, ap, arith}
+use Rattle.std.proofs.Common.{◌≡◌, ◌<◌, ◌≤◌, ℕ, zero, suc, List, [], ◌∷◌, ◌++◌, length, map, take, drop, set, get_or, refl, ap, arith}
 use Rattle.std.specs.List.{AllByRecursion}
 use Rattle.xr_arrays.specs.Nodes.{without}
 
@@ -30,6 +30,11 @@ pub each_at : {X : Type 0} (P : X → Type 0) (xs : List X) (k : ℕ) (d : X) �
 each_at P [] k d all lt = absurd (omega arith)
 each_at P (x ∷ xs) zero d all lt = all.0
 each_at P (x ∷ xs) (suc k) d all lt = each_at P xs k d all.1 (omega arith)
+
+pub without_rank : {X : Type 0} (xs : List X) (k : ℕ) → k < length xs → length (without k xs) ≤ length xs
+without_rank [] k lt = absurd (omega arith)
+without_rank (x ∷ xs) zero lt = omega arith
+without_rank (x ∷ xs) (suc k) lt = let rest = without_rank xs k (omega arith) in omega arith
 
 -- a list with the item at a place
 pub parted : {X : Type 0} (xs : List X) (k : ℕ) (d : X) → k < length xs → xs ≡ take k xs ++ get_or xs k d ∷ drop (suc k) xs

@@ -118,9 +118,9 @@ pub names-length : (axes : List Axis) → length (axis_names axes) ≡ length ax
 names-length [] = refl
 names-length (x ∷ xs) = ap suc (names-length xs)
 
-pub shape-length : (axes : List Axis) → length (shape_over axes) ≡ length axes
-shape-length [] = refl
-shape-length (x ∷ xs) = ap suc (shape-length xs)
+pub shape_rank : (axes : List Axis) → length (shape_over axes) ≡ length axes
+shape_rank [] = refl
+shape_rank (x ∷ xs) = ap suc (shape_rank xs)
 
 -- ---- one axis changed
 

@@ -33,7 +33,7 @@ use Rattle.xr_values.specs.Stands.{array_in, dataset_in, IsArrayIn, IsDatasetIn}
 use Rattle.xr_values.proofs.Named.{bytes_eq_swap}
 use Rattle.xr_indexing.specs.Taken.{array_cells, dims_in, keywords, set_cells, total}
 use Rattle.xr_indexing.proofs.Names.{same_text}
-use Rattle.xr_indexing.proofs.Places.{absent_at, names-length, position_at, shape-length}
+use Rattle.xr_indexing.proofs.Places.{absent_at, names-length, position_at, shape_rank}
 use Rattle.xr_indexing.proofs.Spanned.{bound_ok, names_given, spanned}
 use Rattle.xr_indexing.proofs.SetSpanned.{set_spanned, used, used_few}
 
@@ -79,7 +79,7 @@ array_room old new nodes on b keyed is there each adds distinct =
     let few = no_more_names (names_given kvs) (axis_names on.axes) differ (dimensions_there on.axes kvs there) in
     let long : length (names_given kvs) ≡ length kvs = length-map kvs (λ (kv : List ℕ × given.Value). kv.0) in
     let names = names-length on.axes in
-    let rank = shape-length on.axes in
+    let rank = shape_rank on.axes in
     let low = is.formed.cells.low_rank in
     let all = spanned (array_in old on) (array_in new b) kvs each differ is.formed.axes.distinct in
     in_room old new (of_array (array_in old on)) (of_array (array_in new b)) (length kvs) (omega arith) (adds_up old new (array_cells (array_in old on) kvs) (length kvs * span ((array_in old on).axes ++ (array_in new b).axes)) all.cells adds)

@@ -21,6 +21,7 @@ use Rattle.xr_values.proofs.Named.{bytes_eq_swap}
 use Rattle.xr_indexing.proofs.Names.{distinct_parts, distinct_cons, distinct_out}
 use Rattle.xr_indexing.proofs.Frames.{frame_one, names_one}
 use Rattle.xr_indexing.proofs.FramesChosen.{frame_several, names_several}
+use Rattle.xr_indexing.proofs.Busy.{some_map, busy_one, busy_several}
 use Rattle.xr_indexing.proofs.Lists.{each_map}
 use Rattle.xr_indexing.proofs.VarsAt.{var_one, var_several}
 
@@ -48,10 +49,6 @@ names_cons y ys = by (is_some y.labels)
     by : (b : Bool) → axis_names (cond b (y ∷ labelled ys) (labelled ys)) ≡ cond b (y.name ∷ axis_names (labelled ys)) (axis_names (labelled ys))
     by true = refl
     by false = refl
-
-some_map : (o : Option Labels) (f : Labels → Labels) → is_some (option_map f o) ≡ is_some o
-some_map None f = refl
-some_map (Some l) f = refl
 
 pub labelled_set : (axes : List Axis) (k : ℕ) (ps : List ℕ) → axis_names (labelled (chosen_axes axes k ps)) ≡ axis_names (labelled axes)
 labelled_set [] k ps = refl
@@ -126,6 +123,7 @@ set_one s k p is lt below =
       vars_distinct = ap (λ ns. are_distinct (axis_names (labelled (without k s.axes)) ++ (ns ++ variables_named (map (variable_at s.axes (get_or s.axes k no_axis).name (One p)) s.vars)))) names
           ∙ ap (λ ns. are_distinct (axis_names (labelled (without k s.axes)) ++ ((names_of s.coords ++ names_of (label_coord (get_or s.axes k no_axis) p)) ++ ns))) (var_names s.axes (get_or s.axes k no_axis).name (One p) s.vars)
           ∙ by (get_or s.axes k no_axis).labels refl;
+      busy = busy_one s.axes s.coords s.vars k p lt is.frame.axes_distinct is.busy;
       attrs = is.attrs;
     }
   where
@@ -146,5 +144,6 @@ set_several s k ps is lt few below =
       vars_distinct = ap (λ ns. are_distinct (ns ++ (names_of (map (chosen_coord name ps) s.coords) ++ variables_named (map (variable_at s.axes name (Several ps)) s.vars)))) (labelled_set s.axes k ps)
           ∙ ap (λ ns. are_distinct (axis_names (labelled s.axes) ++ (ns ++ variables_named (map (variable_at s.axes name (Several ps)) s.vars)))) (names_several name ps s.coords)
           ∙ ap (λ ns. are_distinct (axis_names (labelled s.axes) ++ (names_of s.coords ++ ns))) (var_names s.axes name (Several ps) s.vars) ∙ is.vars_distinct;
+      busy = busy_several s.axes s.coords s.vars k ps is.busy;
       attrs = is.attrs;
     }

@@ -1,6 +1,6 @@
 -- What a node that takes positions means for an array of a plan.
 use Rattle.std.proofs.Common.{◌≡◌, ◌<◌, ◌≤◌, ◌^◌, ◌-◌, min, ℕ, Bool, true, false, List, [], ◌∷◌, length, map, set, get_or, Option, Some, None, All, refl, sym, ap, subst, ◌∙◌, arith}
-use Rattle.std.proofs.lemmas.List.{get_or_default}
+use Rattle.std.proofs.lemmas.List.{get_or_default, length-set}
 use Rattle.std.proofs.lemmas.List.Elements.{All-cons}
 use Rattle.std.specs.List.{AllByRecursion}
 use Rattle.std.specs.Prelude.{MatchOption, ⊤}
@@ -13,7 +13,7 @@ use Rattle.xr_defs.specs.declared.value.Content.TheVariants as contents
 use Rattle.xr_defs.specs.declared.value.Coord.{Coord}
 use Rattle.xr_types.specs.Points.{size}
 use Rattle.xr_arrays.specs.Arrays.{Array}
-use Rattle.xr_arrays.specs.Nodes.{without, picked_from, taken_from, taken_or_picked, node_value, values, value, IsNode, IsBelow, Pushes, most_node_cells}
+use Rattle.xr_arrays.specs.Nodes.{without, picked_from, taken_from, taken_or_picked, node_value, values, value, IsNode, IsBelow, Pushes, most_axes, most_node_cells}
 use Rattle.xr_types.specs.Names.{axis_names, shape_over}
 use Rattle.xr_defs.specs.Values.{array_of, axis_position, no_axis, chosen_axis, chosen_axes, chosen_cells, chosen_coord}
 use Rattle.xr_defs.specs.Selecting.{One, Several, array_at, coords_at}
@@ -26,10 +26,10 @@ use Rattle.xr_values.proofs.Grown.{pushed_node, pushed_cells}
 use Rattle.xr_indexing.specs.Labels.{HasShape, IsAlong}
 use Rattle.xr_indexing.specs.Selections.{IsLeft}
 use Rattle.xr_indexing.specs.Unbounded.{IsLongContent, IsLongCoordinate, IsLongFrame, IsLongAxis, IsLongArray, IsLongArrayIn}
-use Rattle.xr_indexing.proofs.Places.{size_at, shape-length, shape_without, shape_set}
+use Rattle.xr_indexing.proofs.Places.{size_at, shape_rank, shape_without, shape_set}
 use Rattle.xr_indexing.proofs.CellsAt.{taken_is_chosen, some_below, some_length}
 use Rattle.xr_indexing.proofs.Frames.{same_axis}
-use Rattle.xr_indexing.proofs.Lists.{each_at}
+use Rattle.xr_indexing.proofs.Lists.{each_at, without_rank}
 use Rattle.xr_indexing.proofs.Selected.{array_one, array_several}
 
 -- ---- coordinates along a dimension
@@ -75,16 +75,22 @@ long_value nodes n shape kind is =
 few_is_small : (s : List ℕ) (counted : ℕ) → counted ≡ min (size s) (2 ^ 64 - 1) → counted ≤ 2 ^ 50 → size s ≤ most_node_cells
 few_is_small s counted is few = omega arith
 
-pub take_fits : (old : List Node) (n k : ℕ) (shape : List ℕ) (kind : DType) (from : List (Option ℕ)) (drops : Bool) (counted : ℕ) → IsNodeOf old n shape kind → k < length shape → All (IsBelow (get_or shape k 0)) from → (drops ≡ true → length from ≡ 1)
+-- one dimension less, or as many
+rank_left : (drops : Bool) (a : Array) (k : ℕ) (from : List (Option ℕ)) → k < length a.shape → length a.shape ≤ most_axes → length (taken_or_picked drops a k from None).shape ≤ most_axes
+rank_left true a k from lt low = let less = without_rank a.shape k lt in omega arith
+rank_left false a k from lt low = let same = length-set a.shape k (length from) in omega arith
+
+pub take_fits : (old : List Node) (n k : ℕ) (shape : List ℕ) (kind : DType) (from : List (Option ℕ)) (drops : Bool) (counted : ℕ) → IsNodeOf old n shape kind → k < length shape → length shape ≤ most_axes → All (IsBelow (get_or shape k 0)) from → (drops ≡ true → length from ≡ 1)
     → counted ≡ min (size (taken_or_picked drops (value old n) k from None).shape) (2 ^ 64 - 1) → counted ≤ 2 ^ 50 → IsNode (values old) (Take n k from None drops)
 unfolding node_value
-take_fits old n k shape kind from drops counted is lt inside one counts few =
+take_fits old n k shape kind from drops counted is lt low inside one counts few =
     let long : length (values old) ≡ length old = values-length old in
     let placed : n < length old = is.placed in
     let rank : length (value old n).shape ≡ length shape = ap length is.has_shape in
     record {
       fits = (omega arith, omega arith, subst (λ s. All (IsBelow (get_or s k 0)) from) (sym is.has_shape) inside, tt, one);
       small = few_is_small (taken_or_picked drops (value old n) k from None).shape counted counts few;
+      low_rank = rank_left drops (value old n) k from (omega arith) (omega arith);
     }
 
 -- ---- one position
@@ -95,10 +101,10 @@ one_below n p from is lt = subst (λ f. All (IsBelow n) f) (sym is) (All-cons (I
 pub one_fits : (old : List Node) (a : DataArray) (k p counted : ℕ) (axes : List Axis) (from : List (Option ℕ)) → IsLongArrayIn old a → k < length a.axes → p < (get_or a.axes k no_axis).size → from ≡ map Some (p ∷ []) → axes ≡ without k a.axes
     → counted ≡ min (size (shape_over axes)) (2 ^ 64 - 1) → counted ≤ 2 ^ 50 → IsNode (values old) (Take a.node k from None true)
 one_fits old a k p counted axes from is lt below is_from is_axes counts few =
-    let rank = shape-length a.axes in
+    let rank = shape_rank a.axes in
     let s = size_at a.axes k in
     let left : without k (value old a.node).shape ≡ shape_over axes = ap (without k) is.node.has_shape ∙ sym (shape_without a.axes k) ∙ ap shape_over (sym is_axes) in
-    take_fits old a.node k (shape_over a.axes) a.kind from true counted is.node (omega arith) (one_below (get_or (shape_over a.axes) k 0) p from is_from (omega arith)) (λ e. ap length is_from)
+    take_fits old a.node k (shape_over a.axes) a.kind from true counted is.node (omega arith) is.formed.cells.low_rank (one_below (get_or (shape_over a.axes) k 0) p from is_from (omega arith)) (λ e. ap length is_from)
     (counts ∙ ap (λ t. min (size t) (2 ^ 64 - 1)) (sym left)) few
 
 picked_value : (old : List Node) (a : DataArray) (k p : ℕ) (from : List (Option ℕ)) → IsLongArrayIn old a → from ≡ map Some (p ∷ []) → node_value (values old) (Take a.node k from None true) ≡ picked_from (array_of (array_in old a)) k (Some p) None
@@ -128,16 +134,16 @@ took_one old new a k p id axes coords from is lt below is_from is_axes is_coords
 pub several_fits : (old : List Node) (a : DataArray) (k counted : ℕ) (ps : List ℕ) (axes : List Axis) (from : List (Option ℕ)) → IsLongArrayIn old a → k < length a.axes → All (λ p. p < (get_or a.axes k no_axis).size) ps → from ≡ map Some ps → axes ≡ chosen_axes a.axes k ps
     → counted ≡ min (size (shape_over axes)) (2 ^ 64 - 1) → counted ≤ 2 ^ 50 → IsNode (values old) (Take a.node k from None false)
 several_fits old a k counted ps axes from is lt below is_from is_axes counts few =
-    let rank = shape-length a.axes in
+    let rank = shape_rank a.axes in
     let inside : All (IsBelow (get_or (shape_over a.axes) k 0)) from = subst (λ f. All (IsBelow (get_or (shape_over a.axes) k 0)) f) (sym is_from) (some_below (get_or (shape_over a.axes) k 0) ps (subst (λ n. All (λ p. p < n) ps) (sym (size_at a.axes k)) below)) in
     let left : set (value old a.node).shape k (length from) ≡ shape_over axes =
     ap (λ s. set s k (length from)) is.node.has_shape ∙ ap (set (shape_over a.axes) k) (ap length is_from ∙ some_length ps) ∙ sym (shape_set a.axes k (chosen_axis (get_or a.axes k no_axis) ps)) ∙ ap shape_over (sym is_axes) in
-    take_fits old a.node k (shape_over a.axes) a.kind from false counted is.node (omega arith) inside (λ e. absurd cc) (counts ∙ ap (λ t. min (size t) (2 ^ 64 - 1)) (sym left)) few
+    take_fits old a.node k (shape_over a.axes) a.kind from false counted is.node (omega arith) is.formed.cells.low_rank inside (λ e. absurd cc) (counts ∙ ap (λ t. min (size t) (2 ^ 64 - 1)) (sym left)) few
 
 chosen_value : (old : List Node) (a : DataArray) (k : ℕ) (ps : List ℕ) (from : List (Option ℕ)) → IsLongArrayIn old a → k < length a.axes → from ≡ map Some ps → node_value (values old) (Take a.node k from None false) ≡ chosen_cells (array_of (array_in old a)) k ps
 unfolding node_value
 chosen_value old a k ps from is lt is_from =
-    let rank = shape-length a.axes in
+    let rank = shape_rank a.axes in
     ap (λ f. taken_from (value old a.node) k f None) is_from ∙ ap (λ v. taken_from v k (map Some ps) None) (long_value old a.node (shape_over a.axes) a.kind is.node) ∙ taken_is_chosen (array_of (array_in old a)) k ps (omega arith)
 
 pub took_several : (old new : List Node) (a : DataArray) (k id : ℕ) (ps : List ℕ) (axes : List Axis) (coords : List Coord) (from : List (Option ℕ)) → IsLongArrayIn old a → k < length a.axes → length ps < 2 ^ 32 → All (λ p. p < (get_or a.axes k no_axis).size) ps → from ≡ map Some ps

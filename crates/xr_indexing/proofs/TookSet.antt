@@ -39,7 +39,7 @@ use Rattle.xr_indexing.proofs.SetSelected.{set_one, set_several, var_name}
 -- one that hasn't the dimension stays
 pub var_left : (old : List Node) (axes : List Axis) (k : ℕ) (c : choices.Choice) (v : Variable) → k < length axes → are_distinct (axis_names axes) ≡ true → IsNodeOf old v.node (sizes_called axes v.dims) v.kind → place_of (get_or axes k no_axis).name v.dims ≡ None
     → IsVarLeft old (axes_at axes k c) (variable_at axes (get_or axes k no_axis).name c (variable_in old v)) v
-var_left old axes k c v lt d node absent = record { is = sym (var_stays old axes k v lt d node (get_or axes k no_axis).name c absent); node = subst (λ s. IsNodeOf old v.node s v.kind) (sym (same c)) node }
+var_left old axes k c v lt d node absent = record { is = sym (var_stays old axes v (get_or axes k no_axis).name c absent); node = subst (λ s. IsNodeOf old v.node s v.kind) (sym (same c)) node }
   where
     same : (c : choices.Choice) → sizes_called (axes_at axes k c) v.dims ≡ sizes_called axes v.dims
     same (choices.One p) = sizes_same axes (axes_at axes k (choices.One p)) v.dims (get_or axes k no_axis).name (called_other axes k lt d) (no_place (get_or axes k no_axis).name v.dims absent)
@@ -75,7 +75,7 @@ var_here P vs i v all lt is = subst P (sym is) (all i v lt)
 pub var_now : (old mid : List Node) (axes : List Axis) (vs : List Variable) (i : ℕ) (v : Variable) → Grows old mid → All (IsVariableOf old axes) vs → i < length vs → v ≡ get_or vs i v → IsVariableOf mid axes v
 var_now old mid axes vs i v g all lt is =
     let here = var_here (IsVariableOf old axes) vs i v all lt is in
-    record { node = node_kept old mid v.node (sizes_called axes v.dims) v.kind g here.node; distinct = here.distinct }
+    record { node = node_kept old mid v.node (sizes_called axes v.dims) v.kind g here.node; distinct = here.distinct; low_rank = here.low_rank }
 
 names_end : (vs : List Variable) (v : Variable) → names_of (vs ++ v ∷ []) ≡ names_of vs ++ v.name ∷ []
 names_end vs v = map-append (λ (v : Variable). v.name) vs (v ∷ [])
@@ -136,7 +136,7 @@ vars_of : (nodes : List Node) (axes : List Axis) (vs : List Variable) → All (�
 vars_of nodes axes [] all each = All-nil (IsVariableOf nodes axes)
 vars_of nodes axes (v ∷ vs) all each =
     let Of = λ (v : Variable). IsNodeOf nodes v.node (sizes_called axes v.dims) v.kind in
-    All-cons (IsVariableOf nodes axes) v vs (record { node = All-head Of v vs all; distinct = each.0.distinct }) (vars_of nodes axes vs (All-tail Of v vs all) each.1)
+    All-cons (IsVariableOf nodes axes) v vs (record { node = All-head Of v vs all; distinct = each.0.distinct; low_rank = each.0.cells.low_rank }) (vars_of nodes axes vs (All-tail Of v vs all) each.1)
 
 pub set_vars : (nodes : List Node) (s : Dataset) → IsLongSetIn nodes s → All (IsVariableOf nodes s.axes) s.vars
 set_vars nodes s is = vars_of nodes s.axes s.vars is.nodes_of is.formed.vars

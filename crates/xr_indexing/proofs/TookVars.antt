@@ -6,7 +6,7 @@ use Rattle.xr_arrays.specs.declared.node.Node.TheVariants.{Take}
 use Rattle.xr_types.specs.Names.{are_distinct}
 use Rattle.xr_types.specs.Points.{size}
 use Rattle.xr_arrays.specs.Arrays.{Array}
-use Rattle.xr_arrays.specs.Nodes.{without, picked_from, taken_from, node_value, values, value, IsNode, IsBelow, Pushes}
+use Rattle.xr_arrays.specs.Nodes.{without, picked_from, taken_from, node_value, values, value, IsNode, IsBelow, Pushes, most_axes}
 use Rattle.xr_defs.specs.Values as of
 use Rattle.xr_types.specs.Names.{axis_names}
 use Rattle.xr_defs.specs.Values.{no_axis, chosen_axes, chosen_cells}
@@ -18,7 +18,7 @@ use Rattle.xr_indexing.specs.Unbounded.{sizes_called}
 use Rattle.xr_indexing.specs.Selections.{IsVarLeft}
 use Rattle.xr_indexing.proofs.CellsAt.{taken_is_chosen, some_below, size_without}
 use Rattle.xr_indexing.proofs.Took.{take_fits, long_value, one_below}
-use Rattle.xr_indexing.proofs.VarsAt.{sizes-length, sizes_one, sizes_several, size_there, place_at, IsPlace}
+use Rattle.xr_indexing.proofs.VarsAt.{sizes_rank, sizes_one, sizes_several, size_there, place_at, IsPlace}
 
 abbrev var_at : List Axis → Choice → of.Variable → Option ℕ → of.Variable
 var_at axes c v o = elim o [ None ↦ v | Some k ↦ variable_along axes v k c ]
@@ -26,16 +26,16 @@ var_at axes c v o = elim o [ None ↦ v | Some k ↦ variable_along axes v k c ]
 abbrev of_cells : Variable → List (List ℕ) → List (Option ℤ) → of.Variable
 of_cells v dims cells = record { name = v.name; dims = dims; kind = v.kind; masked = v.masked; attrs = v.attrs; cells = cells }
 
-module _ (old : List Node) (axes : List Axis) (k : ℕ) (v : Variable) (lt : k < length axes) (d : are_distinct (axis_names axes) ≡ true) (node : IsNodeOf old v.node (sizes_called axes v.dims) v.kind) where
-  pub var_stays : (name : List ℕ) (c : Choice) → place_of name v.dims ≡ None → variable_at axes name c (variable_in old v) ≡ variable_in old v
-  var_stays name c e = ap (var_at axes c (variable_in old v)) e
+pub var_stays : (old : List Node) (axes : List Axis) (v : Variable) (name : List ℕ) (c : Choice) → place_of name v.dims ≡ None → variable_at axes name c (variable_in old v) ≡ variable_in old v
+var_stays old axes v name c e = ap (var_at axes c (variable_in old v)) e
 
+module _ (old : List Node) (axes : List Axis) (k : ℕ) (v : Variable) (lt : k < length axes) (d : are_distinct (axis_names axes) ≡ true) (node : IsNodeOf old v.node (sizes_called axes v.dims) v.kind) (low : length (sizes_called axes v.dims) ≤ most_axes) where
   module _ (j : ℕ) (place : place_of (get_or axes k no_axis).name v.dims ≡ Some j) where
     at : IsPlace (get_or axes k no_axis).name v.dims j
     at = place_at (get_or axes k no_axis).name v.dims j place
 
     inside : j < length (sizes_called axes v.dims)
-    inside = let rank = sizes-length axes v.dims in let here = (place_at (get_or axes k no_axis).name v.dims j place).inside in omega arith
+    inside = let rank = sizes_rank axes v.dims in let here = (place_at (get_or axes k no_axis).name v.dims j place).inside in omega arith
 
     sized : get_or (sizes_called axes v.dims) j 0 ≡ (get_or axes k no_axis).size
     sized = size_there axes k lt d v.dims j (place_at (get_or axes k no_axis).name v.dims j place)
@@ -44,7 +44,7 @@ module _ (old : List Node) (axes : List Axis) (k : ℕ) (v : Variable) (lt : k <
         → IsNode (values old) (Take v.node j from None true)
     var_fits_one p counted shape from below is_from is_shape counts few =
         let left : size (without j (value old v.node).shape) ≡ size (set shape j 1) = ap (λ s. size (without j s)) node.has_shape ∙ size_without (sizes_called axes v.dims) j inside ∙ ap (λ s. size (set s j 1)) (sym is_shape) in
-        take_fits old v.node j (sizes_called axes v.dims) v.kind from true counted node inside (one_below (get_or (sizes_called axes v.dims) j 0) p from is_from (subst (λ n. p < n) (sym sized) below)) (λ e. ap length is_from)
+        take_fits old v.node j (sizes_called axes v.dims) v.kind from true counted node inside low (one_below (get_or (sizes_called axes v.dims) j 0) p from is_from (subst (λ n. p < n) (sym sized) below)) (λ e. ap length is_from)
         (counts ∙ ap (λ n. min n (2 ^ 64 - 1)) (sym left)) few
 
     pub var_fits_several : (counted : ℕ) (ps shape : List ℕ) (from : List (Option ℕ)) → All (λ p. p < (get_or axes k no_axis).size) ps → from ≡ map Some ps → shape ≡ sizes_called axes v.dims → counted ≡ min (size (set shape j (length from))) (2 ^ 64 - 1) → counted ≤ 2 ^ 50
@@ -53,7 +53,7 @@ module _ (old : List Node) (axes : List Axis) (k : ℕ) (v : Variable) (lt : k <
         let left : size (set (value old v.node).shape j (length from)) ≡ size (set shape j (length from)) = ap (λ s. size (set s j (length from))) (node.has_shape ∙ sym is_shape) in
         let n = get_or (sizes_called axes v.dims) j 0 in
         let fits : All (IsBelow n) from = subst (λ f. All (IsBelow n) f) (sym is_from) (some_below n ps (subst (λ m. All (λ p. p < m) ps) (sym sized) below)) in
-        take_fits old v.node j (sizes_called axes v.dims) v.kind from false counted node inside fits (λ e. absurd cc) (counts ∙ ap (λ n. min n (2 ^ 64 - 1)) (sym left)) few
+        take_fits old v.node j (sizes_called axes v.dims) v.kind from false counted node inside low fits (λ e. absurd cc) (counts ∙ ap (λ n. min n (2 ^ 64 - 1)) (sym left)) few
 
     picked_is : (p : ℕ) (from : List (Option ℕ)) → from ≡ map Some (p ∷ []) → node_value (values old) (Take v.node j from None true) ≡ picked_from (variable_array axes (variable_in old v)) j (Some p) None
     unfolding node_value

@@ -24,7 +24,7 @@ use Rattle.xr_indexing.proofs.Listed.{take_one}
 use Rattle.xr_indexing.proofs.Names.{itself}
 use Rattle.xr_indexing.proofs.Places.{position_name}
 use Rattle.xr_indexing.proofs.VarsAt.{place_at}
-use Rattle.xr_values.proofs.Rooms.{named_within}
+use Rattle.xr_indexing.proofs.NamedSpans.{named_within}
 
 -- ---- one variable
 

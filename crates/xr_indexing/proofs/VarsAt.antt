@@ -20,9 +20,9 @@ use Rattle.xr_indexing.proofs.CellsAt.{picked_many, chosen_many}
 use Rattle.xr_indexing.proofs.Frames.{out_at}
 use Rattle.xr_indexing.proofs.Lists.{each_without}
 
-pub sizes-length : (axes : List Axis) (dims : List (List ℕ)) → length (sizes_called axes dims) ≡ length dims
-sizes-length axes [] = refl
-sizes-length axes (d ∷ ds) = ap suc (sizes-length axes ds)
+pub sizes_rank : (axes : List Axis) (dims : List (List ℕ)) → length (sizes_called axes dims) ≡ length dims
+sizes_rank axes [] = refl
+sizes_rank axes (d ∷ ds) = ap suc (sizes_rank axes ds)
 
 pub sizes_at : (axes : List Axis) (dims : List (List ℕ)) (j : ℕ) → j < length dims → get_or (sizes_called axes dims) j 0 ≡ (axis_called axes (get_or dims j [])).size
 sizes_at axes [] j lt = absurd (omega arith)
@@ -138,7 +138,7 @@ module _ (axes : List Axis) (k : ℕ) (lt : k < length axes) (d : are_distinct (
           let at = place_at (get_or axes k no_axis).name v.dims j e in
           let out = out_dims v.dims j at.inside is.distinct in
           let absent : among (without j v.dims) (get_or axes k no_axis).name ≡ false = ap (among (without j v.dims)) (sym at.named) ∙ out.1 in
-          let rank = sizes-length axes v.dims in
+          let rank = sizes_rank axes v.dims in
           let inside = at.inside in
           let size = size_there v.dims j at in
           record {
@@ -192,7 +192,7 @@ module _ (axes : List Axis) (k : ℕ) (lt : k < length axes) (d : are_distinct (
       }
       by (Some j) e =
           let at = place_at (get_or axes k no_axis).name v.dims j e in
-          let rank = sizes-length axes v.dims in
+          let rank = sizes_rank axes v.dims in
           let inside = at.inside in
           record {
             name = is.name;

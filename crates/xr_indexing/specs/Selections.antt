@@ -1,9 +1,10 @@
 -- What a selection leaves of an array of a plan.
-use Rattle.std.specs.Prelude.{◌≡◌, true, List, map, All, Result, Ok, Err}
+use Rattle.std.specs.Prelude.{◌≡◌, ◌≤◌, true, List, length, map, All, Result, Ok, Err}
 use Rattle.xr_types.specs.declared.axis.Axis.{Axis}
 use Rattle.xr_types.specs.declared.fault.CallFault.{CallFault}
 use Rattle.xr_types.specs.declared.fault.Fault.{Fault}
 use Rattle.xr_arrays.specs.declared.node.Node.{Node}
+use Rattle.xr_defs.specs.Limits.{most_dimensions}
 use Rattle.xr_defs.specs.Values as of
 use Rattle.xr_types.specs.Names.{are_distinct}
 use Rattle.xr_values.specs.declared.data_array.DataArray.{DataArray}
@@ -35,6 +36,7 @@ AnswersSetLeft nodes (Err e) means = Fails e means
 pub record IsVariableOf (nodes : List Node) (axes : List Axis) (v : Variable) : Type 0 where
   pub node : IsNodeOf nodes v.node (sizes_called axes v.dims) v.kind
   pub distinct : are_distinct v.dims ≡ true
+  pub low_rank : length (sizes_called axes v.dims) ≤ most_dimensions
 
 -- this variable, over these axes
 pub record IsVarLeft (nodes : List Node) (axes : List Axis) (means : of.Variable) (v : Variable) : Type 0 where

@@ -1,7 +1,7 @@
 -- Arrays and datasets as selection leaves them before it looks at the limits: as they have to be, but with more positions and cells
 -- than one may have.
 use Rattle.std.specs.Prelude.{◌≡◌, ◌≤◌, ◌<◌, ◌++◌, ◌^◌, ℕ, ℤ, Bool, true, List, [], length, map, Option, MatchOption, All, ⊤}
-use Rattle.std.specs.List.{AllByRecursion}
+use Rattle.std.specs.List.{list_all, AllByRecursion}
 use Rattle.xr_types.specs.declared.axis.Axis.{Axis}
 use Rattle.xr_types.specs.declared.kind.DType.{DType}
 use Rattle.xr_arrays.specs.declared.node.Node.{Node}
@@ -14,6 +14,7 @@ use Rattle.xr_types.specs.Names.{among}
 use Rattle.xr_files.specs.Classic.{is_name}
 use Rattle.xr_types.specs.Names.{are_distinct}
 use Rattle.xr_defs.specs.Limits.{most_dimensions}
+use Rattle.xr_defs.specs.Decoding.{is_kept}
 use Rattle.xr_defs.specs.Values as of
 use Rattle.xr_types.specs.Names.{axis_names, shape_over}
 use Rattle.xr_defs.specs.Selecting.{axis_called}
@@ -83,6 +84,7 @@ pub record IsLongSet (s : of.Dataset) : Type 0 where
   pub frame : IsLongFrame s.axes s.coords
   pub vars : AllByRecursion (IsLongVariable s.axes) s.vars
   pub vars_distinct : are_distinct (axis_names (labelled s.axes) ++ (names_of s.coords ++ variables_named s.vars)) ≡ true
+  pub busy : list_all (is_kept s.coords s.vars) s.axes ≡ true
   pub attrs : AreAttributes s.attrs
 
 -- of a plan

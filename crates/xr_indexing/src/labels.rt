@@ -12,10 +12,12 @@ ghost use Rattle.xr_types.specs.declared.axis.Labels.{Labels as Index};
 use std::alloc::{AllocError, Global};
 use xr_arrays::{ArrayValue, Cells};
 use xr_defs::Content;
-use xr_types::{Axis, DType, DeepCopy, Items, LabelList, Labels, TextBytes};
+use xr_types::{
+    Axis, DType, DeepCopy, Integers, IntegersForm, Items, LabelList, Labels, Shared, TextBytes,
+};
 
 /// An array without dimensions.
-pub fn scalar(alloc: Global, kind: DType, n: i64) -> Result<ArrayValue, AllocError>
+pub fn scalar(alloc: Global, kind: DType, n: i128) -> Result<ArrayValue, AllocError>
     requires integer { is_integer_kind kind ≡ true }
     requires range { InRange kind n }
     ensures { IfOk result (λ a. a ≡ scalar kind n) }
@@ -26,7 +28,11 @@ pub fn scalar(alloc: Global, kind: DType, n: i64) -> Result<ArrayValue, AllocErr
         DType::Int8 => Cells::Int8(Items::of(vec![in alloc; n as i8]?)),
         DType::Int16 => Cells::Int16(Items::of(vec![in alloc; n as i16]?)),
         DType::Int32 => Cells::Int32(Items::of(vec![in alloc; n as i32]?)),
-        DType::Int64 => Cells::Int64(Items::of(vec![in alloc; n]?)),
+        DType::Int64 => Cells::Int64(Items::of(vec![in alloc; n as i64]?)),
+        DType::UInt8 => Cells::UInt8(Items::of(vec![in alloc; n as u8]?)),
+        DType::UInt16 => Cells::UInt16(Items::of(vec![in alloc; n as u16]?)),
+        DType::UInt32 => Cells::UInt32(Items::of(vec![in alloc; n as u32]?)),
+        DType::UInt64 => Cells::UInt64(Items::of(vec![in alloc; n as u64]?)),
     };
     Ok(ArrayValue::of(Items::new(alloc), cells, None))
 }
@@ -38,10 +44,9 @@ pub fn label_content(alloc: Global, list: &LabelList, p: u32) -> Result<Content,
     ensures { IfOk result (λ c. c ≡ label_content list.now p) }
 {
     Ok(match list {
-        LabelList::Numbers(kind, numbers) => Content::Cells(
-            scalar(alloc, *kind, numbers.as_slice()[p as usize])?,
-            false,
-        ),
+        LabelList::Numbers(kind, numbers) => {
+            Content::Cells(scalar(alloc, *kind, numbers.get(p as usize))?, false)
+        }
         LabelList::Times(coding, times) => {
             Content::Time(coding.deep_copy(alloc)?, times.as_slice()[p as usize])
         }
@@ -49,15 +54,28 @@ pub fn label_content(alloc: Global, list: &LabelList, p: u32) -> Result<Content,
     })
 }
 
-fn chosen_numbers(alloc: Global, list: &[i64], ps: &[u32]) -> Result<Items<i64>, AllocError>
+fn chosen_numbers<T: Copy>(alloc: Global, list: &[T], ps: &[u32]) -> Result<Items<T>, AllocError>
     requires { All (λ p. p < length list.now) ps.now }
-    ensures { IfOk result (λ s. s ≡ chosen (pos 0) list.now ps.now) }
+    ensures { (d : T) → IfOk result (λ s. s ≡ chosen d list.now ps.now) }
 {
-    let mut out = Items::new(alloc);
+    let mut out = Vec::new(alloc);
     for p in ps {
         out.push(list[*p as usize])?;
     }
-    Ok(out)
+    Ok(Items::of(out))
+}
+
+#[tactic(auto, using(crate::proofs::ChosenLabels::chosen_naturals, crate::proofs::ChosenLabels::naturals_inside))]
+fn chosen_integers(alloc: Global, numbers: &Integers, ps: &[u32]) -> Result<Integers, AllocError>
+    requires { All (λ p. p < length numbers.now) ps.now }
+    ensures { IfOk result (λ s. s ≡ chosen (pos 0) numbers.now ps.now) }
+{
+    match numbers.form() {
+        IntegersForm::Signed(list) => Integers::signed(alloc, chosen_numbers(alloc, list, ps)?),
+        IntegersForm::Unsigned(list) => {
+            Integers::unsigned(alloc, chosen_numbers(alloc, list, ps)?)
+        }
+    }
 }
 
 fn chosen_texts(
@@ -81,13 +99,15 @@ fn chosen_list(alloc: Global, list: &LabelList, ps: &[u32]) -> Result<LabelList,
 {
     Ok(match list {
         LabelList::Numbers(kind, numbers) => {
-            LabelList::Numbers(*kind, chosen_numbers(alloc, numbers.as_slice(), ps)?)
+            LabelList::Numbers(*kind, chosen_integers(alloc, numbers, ps)?)
         }
         LabelList::Times(coding, times) => LabelList::Times(
             coding.deep_copy(alloc)?,
-            chosen_numbers(alloc, times.as_slice(), ps)?,
+            Shared::of(alloc, chosen_numbers(alloc, times.as_slice(), ps)?)?,
         ),
-        LabelList::Texts(texts) => LabelList::Texts(chosen_texts(alloc, texts.as_slice(), ps)?),
+        LabelList::Texts(texts) => {
+            LabelList::Texts(Shared::of(alloc, chosen_texts(alloc, texts.as_slice(), ps)?)?)
+        }
     })
 }
 

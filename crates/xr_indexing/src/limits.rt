@@ -11,7 +11,7 @@ ghost use Rattle.xr_indexing.specs.Unbounded.{sizes_called};
 use crate::axes::size_called;
 use crate::points::{points_named, points_over};
 use xr_defs::Coord;
-use xr_types::{Axis, MOST_CELLS, MOST_VARIABLES, Name};
+use xr_types::{Axis, MOST_CELLS, MOST_DIMENSIONS, MOST_VARIABLES, Name};
 use xr_values::{DataArray, Dataset, Variable};
 
 fn are_short(axes: &[Axis]) -> bool
@@ -24,11 +24,12 @@ fn are_short(axes: &[Axis]) -> bool
     }
 }
 
-// No more positions along an axis than there may be, and no more cells.
+// No more dimensions, no more positions along an axis and no more cells than there may be.
+#[tactic(auto, using(crate::proofs::Places::shape_rank))]
 fn is_within(axes: &[Axis]) -> bool
     ensures { result ≡ of.is_within (shape_over axes.now) }
 {
-    are_short(axes) && points_over(axes) <= MOST_CELLS
+    axes.len() <= MOST_DIMENSIONS && are_short(axes) && points_over(axes) <= MOST_CELLS
 }
 
 fn are_within(coords: &[Coord]) -> bool
@@ -37,7 +38,7 @@ fn are_within(coords: &[Coord]) -> bool
     coords.iter().all(|coord| is_within(coord.axes.as_slice()))
 }
 
-/// Whether an array and its coordinates have no more positions and cells than they may have.
+/// Whether an array and its coordinates have no more dimensions, positions and cells than they may have.
 pub fn is_array_within(a: &DataArray) -> bool
     ensures { result ≡ (of.is_within (shape_over a.now.axes) && of.are_within a.now.coords) }
 {
@@ -53,11 +54,14 @@ fn are_short_named(axes: &[Axis], dims: &[Name]) -> bool
     }
 }
 
+#[tactic(auto, using(crate::proofs::VarsAt::sizes_rank))]
 fn is_variable_within(axes: &[Axis], variable: &Variable) -> bool
     ensures { result ≡ of.is_within (sizes_called axes.now variable.now.dims) }
 {
     let dims = variable.dims.as_slice();
-    are_short_named(axes, dims) && points_named(axes, dims) <= MOST_CELLS
+    dims.len() <= MOST_DIMENSIONS
+        && are_short_named(axes, dims)
+        && points_named(axes, dims) <= MOST_CELLS
 }
 
 fn are_vars_within(axes: &[Axis], variables: &[Variable]) -> bool
@@ -68,8 +72,8 @@ fn are_vars_within(axes: &[Axis], variables: &[Variable]) -> bool
         .all(|variable| is_variable_within(axes, variable))
 }
 
-/// Whether a dataset, its coordinates and its variables have no more positions and cells than they may have, and whether there
-/// are no more coordinates and variables than a dataset may have.
+/// Whether a dataset, its coordinates and its variables have no more dimensions, positions and cells than they may have, and
+/// whether there are no more coordinates and variables than a dataset may have.
 pub fn is_set_within(s: &Dataset) -> bool
     ensures { result ≡ is_set_within s.now }
 {

@@ -3,7 +3,7 @@ use Rattle.xr_types.specs.declared.axis.Axis.{Axis}
 use Rattle.xr_arrays.specs.Nodes.{without}
 use Rattle.xr_defs.specs.Values.{no_axis}
 use Rattle.xr_defs.specs.Selecting.{coords_at}
-use Rattle.xr_values.proofs.Rooms.{node_cells}
+use Rattle.xr_indexing.proofs.NodeCells.{node_cells}
 use Rattle.xr_arrays.specs.declared.node.Node.TheVariants.{Take}
 use Rattle.xr_indexing.proofs.Took.{along_here, axis_here, one_fits, took_one}
 use Rattle.xr_indexing.proofs.array_at.one_of.Goals as goal

@@ -2,7 +2,7 @@ use Rattle.std.proofs.Common.{None, false, ◌<◌, ◌^◌, ◌∙◌, ap, map,
 use Rattle.xr_types.specs.declared.axis.Axis.{Axis}
 use Rattle.xr_defs.specs.declared.value.Coord.{Coord}
 use Rattle.xr_defs.specs.Values.{chosen_axis, chosen_coord, no_axis}
-use Rattle.xr_values.proofs.Rooms.{node_cells}
+use Rattle.xr_indexing.proofs.NodeCells.{node_cells}
 use Rattle.xr_arrays.specs.declared.node.Node.TheVariants.{Take}
 use Rattle.xr_indexing.proofs.Took.{along_here, axis_here, several_fits, took_several}
 use Rattle.xr_indexing.proofs.array_at.several_of.Goals as goal
