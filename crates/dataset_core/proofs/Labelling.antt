@@ -91,6 +91,9 @@ module _ (declines : ℕ → Bool) (nodes : List Node) (args : Args) (v : Value)
   other_layer (held.Slice start stop step) not_array not_set = refl
   other_layer (held.Array a) not_array not_set = absurd (not_array a refl)
   other_layer (held.Set s) not_array not_set = absurd (not_set s refl)
+  other_layer (held.Times coding times) not_array not_set = refl
+  other_layer (held.GroupedArray a by) not_array not_set = refl
+  other_layer (held.GroupedSet s by) not_array not_set = refl
 
   pub coords_of_others : ((a : Rc DataArray Global) → v ≡ variants.Array a → ⊥) → ((s : Rc Dataset Global) → v ≡ variants.Set s → ⊥) → coords_told declines nodes v args ≡ Err (Refused WrongKind)
   unfolding coords_told roll-Value denote.Hole.Carrier.roll

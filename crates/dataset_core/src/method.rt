@@ -1,12 +1,13 @@
 //! The methods of arrays and datasets, found by their names.
-ghost use Rattle.std.specs.Prelude.{◌≡◌, ◌++◌, ℕ, List, false, true, IfOk};
+ghost use Rattle.std.specs.Prelude.{◌≡◌, ◌++◌, ◌||◌, ℕ, List, false, true, IfOk};
 ghost use denote.Param.Send.{IsSync};
 ghost use Rattle.xr_arrays.specs.declared.node.Node.{Node};
 ghost use Rattle.xr_types.specs.Names.{are_distinct};
 ghost use Rattle.xr_arrays.specs.Added.{AddsAtMost};
 ghost use Rattle.xr_defs.specs.Room.{portions, room};
 ghost use Rattle.xr_types.specs.Names.{among};
-ghost use Rattle.xr_runs.specs.Calls.{method_called, uncomputed_method as uncomputed, other_method as other_method_called, is_grouped as is_in_groups, is_labelled_data as is_labelled, promoting};
+ghost use Rattle.xr_runs.specs.Calls as calls;
+ghost use Rattle.xr_runs.specs.Calls.{method_called, uncomputed_method as uncomputed, other_method as other_method_called, is_labelled_data as is_labelled, promoting};
 ghost use Rattle.plan_core.specs.Plans.{Grows};
 ghost use Rattle.xr_values.specs.Meaning.{meaning, given, IsValueIn, AreArgsIn};
 ghost use Rattle.xr_indexing.specs.Taken.{keywords};
@@ -46,16 +47,23 @@ pub(crate) fn is_labelled_data(value: &Value) -> bool
     }
 }
 
-// Whether a value is an array or a dataset in groups.
+// Whether a value is an array or a dataset with its positions in groups.
 #[tactic(auto, using(xr_arguments::proofs::Variants::is_grouped_array, xr_arguments::proofs::Variants::is_grouped_set, xr_values::proofs::Meaning::meaning_out))]
 fn is_grouped(value: &Value) -> bool
-    ensures { (nodes : List Node) → result ≡ is_in_groups (meaning nodes value.now) }
+    ensures { (nodes : List Node) → result ≡ calls.is_grouped (meaning nodes value.now) }
 {
     match value {
-        Value::GroupedArray(_, _) => true,
-        Value::GroupedSet(_, _) => true,
+        Value::GroupedArray(..) => true,
+        Value::GroupedSet(..) => true,
         _ => false,
     }
+}
+
+// Whether the answers of methods on a value may be other than whole numbers.
+fn has_promoting(value: &Value) -> bool
+    ensures { (nodes : List Node) → result ≡ (is_labelled (meaning nodes value.now) || calls.is_grouped (meaning nodes value.now)) }
+{
+    is_labelled_data(value) || is_grouped(value)
 }
 
 // Why there is no other method of this name.
@@ -64,7 +72,7 @@ fn other_method(alloc: Global, on: &Value, name: &TextBytes) -> CallFault
     ensures { (nodes : List Node) → RefusesValue result (other_method_called (meaning nodes on.now) name.now) }
 {
     if is_promoting(name) {
-        if is_labelled_data(on) || is_grouped(on) {
+        if has_promoting(on) {
             CallFault::Refused(Fault::WouldPromote)
         } else {
             CallFault::Refused(Fault::WrongKind)
@@ -116,8 +124,8 @@ fn uncomputed_method(
 /// `transpose`, `rename`, `to_dataset` and `sum` of arrays.
 ///
 /// # Errors
-/// `UnknownName` for any other method, but `WouldPromote` for those of arrays and datasets whose answers aren't whole
-/// numbers, `mean` and its like; then `WrongKind` for a receiver that hasn't the method; then those of the method. Where
+/// `UnknownName` for any other method, but `WouldPromote` for those of arrays and datasets, grouped or not, whose answers
+/// aren't whole numbers, `mean` and its like; then `WrongKind` for a receiver that hasn't the method; then those of the method. Where
 /// cells that the call needs are declined, it is that: `assign_coords` needs those of each array that it makes a coordinate.
 #[tactic(auto, using(plan_core::proofs::Plans::grows_by_none, plan_core::proofs::Added::adds_none, crate::proofs::Labelling::follows_value), unfolding(xr_runs::specs::Calls::method_called, crate::specs::Assigned::method_told))]
 pub fn call_method<R: Threads + Sync, C: Compute>(

@@ -148,7 +148,7 @@ fn as_dataset(alloc: Global, on: &Value) -> Result<Rc<Dataset>, CallFault>
 /// # Errors
 /// `WrongKind` for a receiver that is no array or dataset; then `BadArgument` for arguments that fit no parameter, and where
 /// there is no name; then, for each argument in turn, `WrongKind` for a value of another kind, and `BadArgument` for a format
-/// that isn't one of the two; then `BadArgument` for an array that has no name, and the faults of a dataset of it.
+/// that isn't one of the three; then `BadArgument` for an array that has no name, and the faults of a dataset of it.
 #[tactic(auto, unfolding(xr_runs::specs::Calls::write_asked, xr_types::specs::Results::unless))]
 pub fn write_request(alloc: Global, on: &Value, args: &Args) -> Result<WriteRequest, CallFault>
     ensures { (nodes : List Node) → IsValueIn nodes on.now → AnswersRequest nodes result (write_asked (meaning nodes on.now) (given nodes args.now)) }
