@@ -165,3 +165,6 @@ other_receiver nodes v f h not_array not_set = ap (of_both f h) (meaning_out nod
     by (held.Slice start stop step) other neither = refl
     by (held.Array a) other neither = absurd (other a refl)
     by (held.Set s) other neither = absurd (neither s refl)
+    by (held.Times coding times) other neither = refl
+    by (held.GroupedArray a g) other neither = refl
+    by (held.GroupedSet s g) other neither = refl
