@@ -1,6 +1,7 @@
 -- The datasets of the tests fit together.
-use Rattle.std.proofs.Common.{◌≡◌, ◌≤◌, sym, subst, ℕ, ℤ, pos, Bool, true, false, List, [], ◌∷◌, ◌++◌, length, Option, Some, None, All, refl, arith}
+use Rattle.std.proofs.Common.{◌≡◌, ◌≤◌, sym, subst, ℕ, ℤ, pos, Bool, true, false, List, [], ◌∷◌, ◌++◌, length, map, Option, Some, None, All, refl, arith}
 use Rattle.std.specs.Prelude.{MatchOption, ⊤, is_some}
+use Rattle.std.specs.List.{list_all}
 use Rattle.std.specs.Str.{is_utf8, chars}
 use Rattle.std.proofs.lemmas.List.Elements.{All-from_recursion}
 use Rattle.std.proofs.lemmas.Int.{ints}
@@ -16,13 +17,14 @@ use Rattle.xr_types.specs.Names.{axis_names}
 use Rattle.xr_arrays.specs.declared.node.Node.TheVariants.{Source}
 use Rattle.xr_values.specs.declared.dataset.Dataset.{Dataset}
 use Rattle.xr_values.specs.declared.variable.Variable.{Variable}
-use Rattle.xr_values.specs.Stands.{shape_named, IsNodeOf, IsDatasetIn}
+use Rattle.xr_values.specs.Stands.{shape_named, variable_in, IsNodeOf, IsDatasetIn}
+use Rattle.xr_defs.specs.Decoding.{is_kept}
 use Rattle.xr_defs.specs.WellFormed.{AreAttributes, IsIndex, IsDimension, AreCells, AreSeen, labelled}
 
 -- a plan's one source
 pub is_source : (a : Array) → a.shape ≡ length a.cells ∷ [] → length a.cells ≤ most_cells → All (IsCell a.kind) a.cells → IsNode [] (Source a)
 unfolding node_value
-is_source a shape few range = record { fits = record { whole = rw shape (omega arith); range = range }; small = rw shape (omega arith) }
+is_source a shape few range = record { fits = record { whole = rw shape (omega arith); range = range }; small = rw shape (omega arith); low_rank = rw shape (omega arith) }
 
 -- ---- one variable over one axis
 
@@ -58,6 +60,7 @@ alone_is n labels kind masked cells few index whole range seen =
         vars = (record { name = refl; over = (refl, tt); distinct = refl; attrs = no_attrs; cells = cells_are n kind masked cells few whole range seen }, tt);
         coords_distinct = refl;
         vars_distinct = differ labels;
+        busy = busy labels;
         attrs = no_attrs;
         few = omega arith;
       };
@@ -66,6 +69,10 @@ alone_is n labels kind masked cells few index whole range seen =
     differ : (l : Option Labels) → are_distinct (axis_names (labelled (record { name = 120 ∷ []; size = n; labels = l } ∷ [])) ++ (118 ∷ []) ∷ []) ≡ true
     differ None = refl
     differ (Some l) = refl
+
+    busy : (l : Option Labels) → list_all (is_kept [] (map (variable_in (Source (record { kind = kind; shape = n ∷ []; cells = cells }) ∷ [])) (alone n l kind masked).vars)) (alone n l kind masked).axes ≡ true
+    busy None = refl
+    busy (Some l) = refl
 
 pub alone_in : (a : Array) (n : ℕ) (labels : Option Labels) (masked : Bool) → n ≤ most_cells → MatchOption labels ⊤ (IsIndex n) → a.shape ≡ n ∷ [] → length a.cells ≡ n → All (IsCell a.kind) a.cells → AreSeen masked a.cells
     → IsDatasetIn (Source a ∷ []) (alone n labels a.kind masked)

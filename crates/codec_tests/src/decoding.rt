@@ -10,9 +10,9 @@ use plan_core::{Compute, Plan};
 use std::alloc::Global;
 use std::test::*;
 use std::thread::Threads;
+use xr_arrays::{ArrayValue, Form, Node};
 use xr_decode::{decode_bytes, decode_into, decode_set};
 use xr_files::CdfFile;
-use xr_arrays::{ArrayValue, Form, Node};
 use xr_types::{ComputeFault, NodeId};
 use xr_values::{Cx, Variable};
 
@@ -56,6 +56,32 @@ const FILLS: [u8; 496] = [
     0, 0, 1, 0, 2, 0, 3, 0, 4, 7, 0, 0, 0, 0, 0, 0, 0, 0, 0, 0, 0, 0, 0, 0, 0, 0, 0, 0, 0,
 ];
 
+// A file of version 5: an index of type `uint64`, and variables of the types `ubyte`, `ushort`, `uint` and `int64`, of which two have
+// fill numbers.
+const UNSIGNED: [u8; 496] = [
+    67, 68, 70, 5, 0, 0, 0, 0, 0, 0, 0, 0, 0, 0, 0, 10, 0, 0, 0, 0, 0, 0, 0, 1, 0, 0, 0, 0, 0, 0,
+    0, 1, 120, 0, 0, 0, 0, 0, 0, 0, 0, 0, 0, 2, 0, 0, 0, 0, 0, 0, 0, 0, 0, 0, 0, 0, 0, 0, 0, 11, 0,
+    0, 0, 0, 0, 0, 0, 5, 0, 0, 0, 0, 0, 0, 0, 1, 120, 0, 0, 0, 0, 0, 0, 0, 0, 0, 0, 1, 0, 0, 0, 0,
+    0, 0, 0, 0, 0, 0, 0, 0, 0, 0, 0, 0, 0, 0, 0, 0, 0, 0, 0, 11, 0, 0, 0, 0, 0, 0, 0, 16, 0, 0, 0,
+    0, 0, 0, 1, 192, 0, 0, 0, 0, 0, 0, 0, 1, 98, 0, 0, 0, 0, 0, 0, 0, 0, 0, 0, 1, 0, 0, 0, 0, 0, 0,
+    0, 0, 0, 0, 0, 0, 0, 0, 0, 0, 0, 0, 0, 0, 0, 0, 0, 7, 0, 0, 0, 0, 0, 0, 0, 4, 0, 0, 0, 0, 0, 0,
+    1, 208, 0, 0, 0, 0, 0, 0, 0, 1, 104, 0, 0, 0, 0, 0, 0, 0, 0, 0, 0, 1, 0, 0, 0, 0, 0, 0, 0, 0,
+    0, 0, 0, 12, 0, 0, 0, 0, 0, 0, 0, 1, 0, 0, 0, 0, 0, 0, 0, 10, 95, 70, 105, 108, 108, 86, 97,
+    108, 117, 101, 0, 0, 0, 0, 0, 8, 0, 0, 0, 0, 0, 0, 0, 1, 255, 255, 0, 0, 0, 0, 0, 8, 0, 0, 0,
+    0, 0, 0, 0, 4, 0, 0, 0, 0, 0, 0, 1, 212, 0, 0, 0, 0, 0, 0, 0, 1, 119, 0, 0, 0, 0, 0, 0, 0, 0,
+    0, 0, 1, 0, 0, 0, 0, 0, 0, 0, 0, 0, 0, 0, 0, 0, 0, 0, 0, 0, 0, 0, 0, 0, 0, 0, 9, 0, 0, 0, 0, 0,
+    0, 0, 8, 0, 0, 0, 0, 0, 0, 1, 216, 0, 0, 0, 0, 0, 0, 0, 1, 110, 0, 0, 0, 0, 0, 0, 0, 0, 0, 0,
+    1, 0, 0, 0, 0, 0, 0, 0, 0, 0, 0, 0, 12, 0, 0, 0, 0, 0, 0, 0, 1, 0, 0, 0, 0, 0, 0, 0, 13, 109,
+    105, 115, 115, 105, 110, 103, 95, 118, 97, 108, 117, 101, 0, 0, 0, 0, 0, 0, 11, 0, 0, 0, 0, 0,
+    0, 0, 1, 255, 255, 255, 255, 255, 255, 255, 255, 0, 0, 0, 10, 0, 0, 0, 0, 0, 0, 0, 16, 0, 0, 0,
+    0, 0, 0, 1, 224, 0, 0, 0, 0, 0, 0, 0, 1, 255, 255, 255, 255, 255, 255, 255, 255, 255, 1, 0, 0,
+    255, 255, 156, 64, 255, 255, 255, 255, 0, 0, 0, 0, 255, 255, 255, 255, 255, 255, 255, 255, 0,
+    0, 0, 0, 0, 0, 0, 2,
+];
+
+const UNSIGNED_SHOWN: &str =
+    "Dataset\ndim x: 2\ncoord x uint64 (x): 1 18446744073709551615\nvar b uint8 (x)\nvar h uint16 (x) masked\nvar w uint32 (x)\nvar n int64 (x) masked\n";
+
 // How the cells of each variable are kept: as the file stores them, or at the width of their kind.
 fn forms(alloc: Global, bytes: &[u8]) -> Result<String, Fail> {
     let mut plan = Plan::new(alloc);
@@ -89,6 +115,8 @@ fn whole_numbers_stay_as_they_stand_in_the_file(rt: HostRuntime) -> Result<(), F
     assert_eq!(rt; shared.as_str(), "v stored w stored y stored f typed ");
     let in_records = forms(alloc, &RECORDS)?;
     assert_eq!(rt; in_records.as_str(), "t stored ");
+    let unsigned = forms(alloc, &UNSIGNED)?;
+    assert_eq!(rt; unsigned.as_str(), "b stored h stored w stored n stored ");
     Ok(())
 }
 
@@ -139,5 +167,17 @@ fn a_file_gives_the_dataset_of_its_bytes(rt: HostRuntime) -> Result<(), Fail> {
         .ok()
         .ok_or("no dataset")?;
     assert!(rt; prints_set(alloc, &set, SHOWN));
+    Ok(())
+}
+
+#[test]
+fn types_of_version_5_keep_their_kinds(rt: HostRuntime) -> Result<(), Fail> {
+    let alloc = rt.alloc();
+    let mut plan = Plan::new(alloc);
+    let bytes = Bytes::copy_from_slice(alloc, &UNSIGNED)?;
+    let set = decode_bytes(alloc, &mut plan, &bytes, true)
+        .ok()
+        .ok_or("no dataset")?;
+    assert!(rt; prints_set(alloc, &set, UNSIGNED_SHOWN));
     Ok(())
 }

@@ -10,8 +10,8 @@ use xr_arrays::{ArrayValue, Cells};
 use xr_defs::{Content, Coord};
 use xr_print::{array_text, set_text};
 use xr_types::{
-    Attr, Axis, DType, Items, LabelList, Labels, Name, NcType, TextBytes, TimeCoding, TimeUnit,
-    Units,
+    Attr, Axis, Calendar, DType, Items, LabelList, Labels, Name, NcType, Shared, TextBytes,
+    TimeCoding, TimeUnit, Units,
 };
 use xr_values::{DataArray, Dataset};
 
@@ -137,6 +137,7 @@ fn coding(alloc: Global) -> Result<TimeCoding, AllocError> {
         units: Units {
             unit: TimeUnit::Days,
             reference: -2_208_988_800,
+            calendar: Calendar::Civil,
             early: false,
         },
         units_text: name(alloc, "days since 1900-01-01")?,
@@ -201,14 +202,14 @@ fn texts(alloc: Global) -> Result<LabelList, AllocError> {
     let mut labels = Items::new(alloc);
     add_name(alloc, &mut labels, "ab")?;
     add_name(alloc, &mut labels, "c")?;
-    Ok(LabelList::Texts(labels))
+    Ok(LabelList::Texts(Shared::of(alloc, labels)?))
 }
 
 // ---- the monthly maximum
 
 fn two_months(alloc: Global) -> Result<LabelList, AllocError> {
     let times = Items::from_slice(alloc, &[-2_208_988_800, -2_206_310_400])?;
-    Ok(LabelList::Times(coding(alloc)?, times))
+    Ok(LabelList::Times(coding(alloc)?, Shared::of(alloc, times)?))
 }
 
 fn monthly_axes(alloc: Global, axes: &mut Items<Axis>) -> Result<(), AllocError> {
