@@ -1,9 +1,10 @@
 -- When a plan of the tests takes a node.
-use Rattle.std.proofs.Common.{◌≡◌, ◌≤◌, ◌*◌, ◌∙◌, ℕ, List, [], ◌∷◌, length, refl, sym, ap, subst}
-use Rattle.xr_types.specs.declared.kind.DType.TheVariants.{Int16}
+use Rattle.std.proofs.Common.{◌≡◌, ◌≤◌, ◌*◌, ◌∙◌, ℕ, List, [], ◌∷◌, length, refl, sym, ap, subst, arith}
+use Rattle.xr_types.specs.declared.kind.DType.{DType}
+use Rattle.xr_types.specs.declared.kind.DType.TheVariants.{Bool as Truths, Int16}
 use Rattle.xr_arrays.specs.Arrays.{Array, IsArray}
 use Rattle.xr_types.specs.Points.{size}
-use Rattle.xr_arrays.specs.Nodes.{values, node_value, IsNode, most_node_cells}
+use Rattle.xr_arrays.specs.Nodes.{values, node_value, IsNode, most_axes, most_node_cells}
 use Rattle.xr_arrays.specs.declared.node.Node.{Node}
 use Rattle.xr_arrays.specs.declared.node.Node.TheVariants.{Source}
 use Rattle.plan_core.proofs.Fitting.{source_fits, source_values}
@@ -27,9 +28,21 @@ one_value a = refl
 pub on_source : (nodes : List Node) (a : Array) (node : Node) → nodes ≡ Source a ∷ [] → IsNode (a ∷ []) node → IsNode (values nodes) node
 on_source nodes a node is fits = subst (λ (ns : List Node). IsNode (values ns) node) (sym is) (subst (λ (vs : List Array). IsNode vs node) (sym (one_value a)) fits)
 
-pub source_behind : (nodes : List Node) (a : Array) → IsArray a → size a.shape ≤ most_node_cells → IsNode (values nodes) (Source a)
-source_behind nodes a array few = source_fits (values nodes) a array few
+pub source_behind : (nodes : List Node) (a : Array) → IsArray a → size a.shape ≤ most_node_cells → length a.shape ≤ most_axes → IsNode (values nodes) (Source a)
+source_behind nodes a array few rank = source_fits (values nodes) a array few rank
 
 -- an array of two axes is small enough where the product of its sizes is
 pub few : (s : List ℕ) (m n : ℕ) → s ≡ m ∷ n ∷ [] → m * (n * 1) ≤ most_node_cells → size s ≤ most_node_cells
 few s m n is small = subst (λ (t : List ℕ). size t ≤ most_node_cells) (sym is) small
+
+pub low : (s : List ℕ) (m n : ℕ) → s ≡ m ∷ n ∷ [] → length s ≤ most_axes
+low s m n is = subst (λ (t : List ℕ). length t ≤ most_axes) (sym is) (omega arith)
+
+pub two_axes : 2 ≤ most_axes
+two_axes = omega arith
+
+pub no_truths : (t : DType) → t ≡ Int16 → t ≡ Truths → ⊥
+no_truths t is e = differ (sym is ∙ e)
+  where
+    differ : Int16 ≡ Truths → ⊥
+    differ e = cc

@@ -7,7 +7,8 @@ ghost use Rattle.xr_arrays.specs.Arrays.{cell, hidden, IsArray, IsCell};
 ghost use Rattle.xr_types.specs.Widths.{width};
 ghost use Rattle.xr_arrays.specs.Numbers.{is_whole};
 ghost use Rattle.xr_arrays.specs.Stored.{stored_array, IsStored};
-ghost use Rattle.xr_arrays.specs.Nodes.{kept, values, IsBelow, IsNode, most_node_cells};
+ghost use Rattle.xr_arrays.specs.Nodes.{folded_axes, is_positional, kept, values, AreFed, IsBelow, IsNode, most_axes, most_node_cells};
+ghost use Rattle.xr_arrays.specs.declared.node.Feed.TheVariants.{By};
 ghost use Rattle.xr_arrays.specs.declared.node.Node.TheVariants.{Source};
 ghost use Rattle.plan_tests.specs.Sources.{AreSources};
 ghost use Rattle.plan_core.specs.Takes.{taking_sizes};
@@ -19,9 +20,8 @@ use std::alloc::{AllocError, Global};
 use std::test::Fail;
 use std::thread::Threads;
 use stored_cells::{Typed, as_typed};
-use xr_types::FoldKind;
-use xr_arrays::{ArrayValue, Cells, Feed, Form, Node, StoredArray};
-use xr_types::{Elem, Items, NcType, NoMemory, NodeId, Shape};
+use xr_arrays::{ArrayValue, Cells, Feed, Feeds, Form, Node, StoredArray};
+use xr_types::{DType, Elem, FoldKind, Items, NcType, NoMemory, NodeId, OpKind, Shape};
 
 // A number, unless its byte in the mask isn't 0.
 fn shown<T: Elem>(x: T, byte: u8) -> Option<i128>
@@ -78,6 +78,10 @@ fn typed_numbers(alloc: Global, typed: &Typed) -> Result<Vec<Option<i128>>, Allo
         Cells::Int16(v) => numbers_in(alloc, v.as_slice(), mask),
         Cells::Int32(v) => numbers_in(alloc, v.as_slice(), mask),
         Cells::Int64(v) => numbers_in(alloc, v.as_slice(), mask),
+        Cells::UInt8(v) => numbers_in(alloc, v.as_slice(), mask),
+        Cells::UInt16(v) => numbers_in(alloc, v.as_slice(), mask),
+        Cells::UInt32(v) => numbers_in(alloc, v.as_slice(), mask),
+        Cells::UInt64(v) => numbers_in(alloc, v.as_slice(), mask),
     }
 }
 
@@ -136,9 +140,10 @@ fn width_of(kind: NcType) -> Option<usize>
     ensures whole { IfSome result (λ w. is_whole kind ≡ true) }
 {
     match kind {
-        NcType::Byte | NcType::Char => Some(1),
-        NcType::Short => Some(2),
-        NcType::Int => Some(4),
+        NcType::Byte | NcType::Char | NcType::UByte => Some(1),
+        NcType::Short | NcType::UShort => Some(2),
+        NcType::Int | NcType::UInt => Some(4),
+        NcType::Int64 | NcType::UInt64 => Some(8),
         NcType::Float | NcType::Double => None,
     }
 }
@@ -148,7 +153,7 @@ fn stored(
     shape: &[u64],
     kind: NcType,
     bytes: &[u8],
-    fills: &[i64],
+    fills: &[i128],
 ) -> Result<ArrayValue, AllocError>
     requires { IsStored shape.now kind bytes.now }
     ensures { IfOk result (λ a. a ≡ stored_array shape.now kind bytes.now fills.now) }
@@ -166,7 +171,7 @@ fn in_file(
     count: usize,
     kind: NcType,
     bytes: &[u8],
-    fills: &[i64],
+    fills: &[i128],
 ) -> Result<ArrayValue, Fail>
     requires count { size shape.now ≡ count }
     requires few { count ≤ 8 }
@@ -205,6 +210,7 @@ fn push(plan: &mut Plan, node: Node) -> Result<(), AllocError>
 fn source(alloc: Global, a: ArrayValue) -> Result<Plan, AllocError>
     requires array { IsArray a }
     requires few { size a.shape ≤ most_node_cells }
+    requires rank { length a.shape ≤ most_axes }
     ensures { IfOk result (λ plan. plan ≡ Source a ∷ []) }
 {
     let mut plan = Plan::new(alloc);
@@ -363,23 +369,34 @@ fn arrays_stand_one_after_the_other(rt: HostRuntime) -> Result<(), Fail> {
     shows(&rt, alloc, plan, node, 2, &[2, 4], &rows)
 }
 
-// Fails unless the fold of the first array along these axes, or the source that is asked for, is such an array.
+fn feeds_of(alloc: Global, first: Feed, second: Feed) -> Result<Items<Feed>, AllocError>
+    ensures { IfOk result (λ feeds. feeds ≡ first ∷ second ∷ []) }
+{
+    let mut feeds = Vec::new(alloc);
+    feeds.push(first)?;
+    feeds.push(second)?;
+    Ok(Items::of(feeds))
+}
+
+// Fails unless the fold of the first array by these feeds, or the source that is asked for, is such an array.
 fn folds_to<R: Threads + Sync>(
     rt: &R,
     alloc: Global,
     fold: FoldKind,
-    feeds: &[Feed],
+    first: Feed,
+    second: Feed,
     asked: NodeId,
     shape: &[u64],
     cells: &[Option<i128>],
 ) -> Result<(), Fail>
     requires sync { IsSync R.row }
-    requires feeds { length feeds.now ≡ 2 }
-    requires small { size (kept feeds.now (2 ∷ 3 ∷ [])) ≤ most_node_cells }
+    requires fed { AreFed (first ∷ second ∷ []) (2 ∷ 3 ∷ []) }
+    requires one { is_positional fold ≡ true → folded_axes (first ∷ second ∷ []) ≡ 1 }
+    requires small { size (kept (first ∷ second ∷ []) (2 ∷ 3 ∷ [])) ≤ most_node_cells }
     requires asked { asked ≤ 2 }
 {
     let plan = sources(alloc)?;
-    let feeds = Items::from_slice(alloc, feeds)?;
+    let feeds = feeds_of(alloc, first, second)?;
     let node = Node::Fold {
         fold,
         input: 0,
@@ -405,10 +422,9 @@ fn columns_are_folded(rt: HostRuntime) -> Result<(), Fail> {
         (FoldKind::Any, [1, 1, 1]),
         (FoldKind::All, [1, 1, 1]),
     ];
-    let columns = [Feed::All, Feed::Keep];
     for (fold, want) in table {
         let row = want.map(Some);
-        folds_to(&rt, alloc, fold, &columns, 2, &[3], &row)?;
+        folds_to(&rt, alloc, fold, Feed::All, Feed::Keep, 2, &[3], &row)?;
     }
     Ok(())
 }
@@ -416,17 +432,88 @@ fn columns_are_folded(rt: HostRuntime) -> Result<(), Fail> {
 #[test]
 fn all_cells_are_summed_and_sources_are_shown(rt: HostRuntime) -> Result<(), Fail> {
     let alloc = rt.alloc();
-    let all = [Feed::All, Feed::All];
-    folds_to(&rt, alloc, FoldKind::Sum, &all, 2, &[], &[Some(12)])?;
     folds_to(
         &rt,
         alloc,
         FoldKind::Sum,
-        &all,
+        Feed::All,
+        Feed::All,
+        2,
+        &[],
+        &[Some(12)],
+    )?;
+    folds_to(
+        &rt,
+        alloc,
+        FoldKind::Sum,
+        Feed::All,
+        Feed::All,
         1,
         &[2, 1],
         &[Some(7), None],
     )
+}
+
+// The first column, and behind it the other two.
+fn runs(alloc: Global) -> Result<Feed, AllocError>
+    ensures { IfOk result (λ feed. feed ≡ By ((0 ∷ []) ∷ (1 ∷ 2 ∷ []) ∷ [])) }
+{
+    let ends = Items::from_slice(alloc, &[1, 3])?;
+    Ok(Feed::By(Feeds::runs(ends)))
+}
+
+#[test]
+fn columns_are_folded_by_runs(rt: HostRuntime) -> Result<(), Fail> {
+    let alloc = rt.alloc();
+    let table = [
+        (FoldKind::Sum, [3, 1, 2, 6]),
+        (FoldKind::ArgMax, [0, 1, 0, 1]),
+    ];
+    for (fold, want) in table {
+        let by = runs(alloc)?;
+        let cells = want.map(Some);
+        folds_to(&rt, alloc, fold, Feed::Keep, by, 2, &[2, 2], &cells)?;
+    }
+    Ok(())
+}
+
+#[test]
+fn cells_are_negated(rt: HostRuntime) -> Result<(), Fail> {
+    let alloc = rt.alloc();
+    let plan = sources(alloc)?;
+    let node = Node::Unary {
+        op: OpKind::Negate,
+        kind: DType::Int16,
+        input: 0,
+    };
+    let rows = [Some(-3), Some(-1), None, Some(-2), Some(-5), Some(-1)];
+    shows(&rt, alloc, plan, node, 2, &[2, 3], &rows)
+}
+
+#[test]
+fn cells_of_two_arrays_are_added(rt: HostRuntime) -> Result<(), Fail> {
+    let alloc = rt.alloc();
+    let plan = sources(alloc)?;
+    let node = Node::Binary {
+        op: OpKind::Add,
+        a: 0,
+        b: 0,
+    };
+    let rows = [Some(6), Some(2), None, Some(4), Some(10), Some(2)];
+    shows(&rt, alloc, plan, node, 2, &[2, 3], &rows)
+}
+
+#[test]
+fn rows_are_summed_up(rt: HostRuntime) -> Result<(), Fail> {
+    let alloc = rt.alloc();
+    let plan = sources(alloc)?;
+    let node = Node::Scan {
+        fold: FoldKind::Sum,
+        input: 0,
+        axis: 1,
+    };
+    let rows = [Some(3), Some(4), Some(4), Some(2), Some(7), Some(8)];
+    shows(&rt, alloc, plan, node, 2, &[2, 3], &rows)
 }
 
 // Fails unless this is the sum of an array of two rows and three columns that is kept as a file has it.
@@ -435,14 +522,14 @@ fn stored_sum<R: Threads + Sync>(
     alloc: Global,
     kind: NcType,
     bytes: &[u8],
-    fills: &[i64],
+    fills: &[i128],
     want: i128,
 ) -> Result<(), Fail>
     requires { IsSync R.row }
 {
     let a = in_file(alloc, &[2, 3], 6, kind, bytes, fills)?;
     let plan = source(alloc, a)?;
-    let feeds = Items::from_slice(alloc, &[Feed::All, Feed::All])?;
+    let feeds = feeds_of(alloc, Feed::All, Feed::All)?;
     let node = Node::Fold {
         fold: FoldKind::Sum,
         input: 0,
@@ -455,7 +542,7 @@ fn stored_sum<R: Threads + Sync>(
 fn stored_bytes_are_summed(rt: HostRuntime) -> Result<(), Fail> {
     let alloc = rt.alloc();
     let bytes = [1, 2, 3, 255, 254, 128];
-    let table: [(NcType, &[i64], i128); 5] = [
+    let table: [(NcType, &[i128], i128); 5] = [
         (NcType::Byte, &[], -125),
         (NcType::Byte, &[-1], -124),
         (NcType::Byte, &[-1, 7, 3], -127),
@@ -477,13 +564,41 @@ fn stored_shorts_are_summed(rt: HostRuntime) -> Result<(), Fail> {
 }
 
 #[test]
+fn stored_unsigned_shorts_are_summed(rt: HostRuntime) -> Result<(), Fail> {
+    let alloc = rt.alloc();
+    let bytes = [0, 1, 1, 0, 255, 255, 128, 0, 127, 255, 0, 0];
+    stored_sum(&rt, alloc, NcType::UShort, &bytes, &[], 131327)?;
+    stored_sum(&rt, alloc, NcType::UShort, &bytes, &[65535, -1], 65792)
+}
+
+#[test]
+fn stored_unsigned_longs_are_summed(rt: HostRuntime) -> Result<(), Fail> {
+    let alloc = rt.alloc();
+    let bytes = [
+        255, 255, 255, 255, 255, 255, 255, 255, 0, 0, 0, 0, 0, 0, 0, 2, 0, 0, 0, 0, 0, 0, 0, 0,
+        255, 255, 255, 255, 255, 255, 255, 254, 0, 0, 0, 0, 0, 0, 0, 0, 0, 0, 0, 0, 0, 0, 0, 0,
+    ];
+    let fills = [18446744073709551615];
+    stored_sum(
+        &rt,
+        alloc,
+        NcType::UInt64,
+        &bytes,
+        &[],
+        18446744073709551615,
+    )?;
+    stored_sum(&rt, alloc, NcType::UInt64, &bytes, &fills, 0)?;
+    stored_sum(&rt, alloc, NcType::Int64, &bytes, &[], -1)
+}
+
+#[test]
 fn stored_ints_are_summed(rt: HostRuntime) -> Result<(), Fail> {
     let alloc = rt.alloc();
     let bytes = [
         0, 0, 0, 1, 127, 255, 255, 255, 127, 255, 255, 255, 255, 255, 255, 254, 128, 0, 0, 0, 0, 0,
         1, 0,
     ];
-    let table: [(&[i64], i128); 3] = [
+    let table: [(&[i128], i128); 3] = [
         (&[], 2147483901),
         (&[2147483647], -2147483393),
         (&[2147483647, -2], -2147483391),
@@ -535,7 +650,7 @@ const ROWS: [u8; 12] = [0, 1, 0, 2, 0, 3, 0, 4, 0, 5, 0, 6];
 // The same of those rows, where these numbers are missing.
 fn takes_of_rows(
     alloc: Global,
-    fills: &[i64],
+    fills: &[i128],
     axis: usize,
     from: &[Option<u32>],
     drops: bool,

@@ -9,7 +9,7 @@ fits a b kind kinds left right =
     let there : 1 < 2 = omega arith in
     let axis : 1 ≤ 2 = omega arith in
     let small : 6 ≤ 2 ^ 50 = omega arith in
-    widen_fits (a ∷ b ∷ []) 1 1 3 (2 ∷ 1 ∷ []) there right axis small
+    widen_fits (a ∷ b ∷ []) 1 1 3 (2 ∷ 1 ∷ []) there right axis small (omega arith)
 
 pub shows-requires-clause-node : goal.shows-requires-clause-node
 shows-requires-clause-node g c _ = on_sources c.in_ok-plan.plan _ c.in_ok-plan.ensures fits
