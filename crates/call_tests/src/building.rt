@@ -10,8 +10,8 @@ use std::alloc::{AllocError, Global};
 use std::rc::Rc;
 use std::test::Fail;
 use std::thread::Threads;
-use xr_building::{array_written_out, assign_to_array};
 use xr_arrays::ArrayValue;
+use xr_building::{array_written_out, assign_to_array};
 use xr_types::{CallFault, ComputeFault, DeepCopy, NodeId, TextBytes};
 use xr_values::{Args, Cx, DataArray, Value};
 

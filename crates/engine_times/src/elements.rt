@@ -14,8 +14,7 @@ use std::alloc::{AllocError, Global};
 use std::rt::Clock;
 use std::time::Instant;
 use strided_block::{Block, CellBlock, CellWin, TypedBlock};
-use xr_types::{FoldKind, OpKind};
-use xr_types::{DType, NoMemory, Shape};
+use xr_types::{DType, FoldKind, NoMemory, OpKind, Shape};
 
 /// The operands of a job in blocks of so many rows and columns, of which the first columns are read.
 #[derive(Drop)]

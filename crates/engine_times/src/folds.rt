@@ -2,8 +2,7 @@
 use crate::Job;
 use fold_kernel::{Partial, scan_run};
 use std::alloc::{AllocError, Global};
-use xr_types::FoldKind;
-use xr_types::DType;
+use xr_types::{DType, FoldKind};
 
 // Numbers from -504 to 504.
 fn numbers(alloc: Global, count: u32) -> Result<Vec<i32>, AllocError> {

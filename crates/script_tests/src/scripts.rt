@@ -3,10 +3,9 @@
 //! Each table comes from a function with no contract, so that no proof reads it.
 use std::alloc::{AllocError, Global};
 use std::test::Fail;
-use xr_types::OpKind;
-use xr_syntax::{Argument, Expr, Script, Statement};
 use xr_script::{ParseFault, parse};
-use xr_types::{MOST_SCRIPT_BYTES, ScriptKind};
+use xr_syntax::{Argument, Expr, Script, Statement};
+use xr_types::{MOST_SCRIPT_BYTES, OpKind, ScriptKind};
 
 /// Scripts, written by hand from the rules, and how many statements they have.
 const SCRIPTS: [(&str, usize); 13] = [

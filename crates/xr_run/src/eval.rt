@@ -22,8 +22,8 @@ use plan_core::Plan;
 use plan_whole::Whole;
 use std::alloc::{AllocError, Global};
 use std::thread::Threads;
-use xr_syntax::{Argument, Constant, Expr};
 use xr_outside::Store;
+use xr_syntax::{Argument, Constant, Expr};
 use xr_types::{DeepCopy, Fault, TextBytes};
 use xr_values::{Args, Cx, Value};
 

@@ -12,8 +12,8 @@ use plan_core::Plan;
 use plan_whole::Whole;
 use std::alloc::Global;
 use std::thread::Threads;
-use xr_syntax::Statement;
 use xr_outside::{Sink, Store};
+use xr_syntax::Statement;
 use xr_types::Status;
 use xr_values::Cx;
 

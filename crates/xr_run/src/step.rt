@@ -17,8 +17,8 @@ use crate::writing::written;
 use plan_whole::Whole;
 use std::alloc::Global;
 use std::thread::Threads;
-use xr_syntax::{Argument, Expr, Statement};
 use xr_outside::{Sink, Store, StoreFault, write_all};
+use xr_syntax::{Argument, Expr, Statement};
 use xr_types::{DeepCopy, Fault, TextBytes};
 use xr_values::Cx;
 

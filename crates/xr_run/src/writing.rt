@@ -16,9 +16,9 @@ use dataset_core::write_request;
 use plan_whole::Whole;
 use std::alloc::Global;
 use std::thread::Threads;
-use xr_files::CdfFile;
 use xr_defs::WriteOptions;
 use xr_encode::encode_set;
+use xr_files::CdfFile;
 use xr_types::TextBytes;
 use xr_values::{Args, Cx, Dataset, Value};
 

@@ -1,6 +1,5 @@
 //! The syntax trees of scripts.
-use xr_types::OpKind;
-use xr_types::{Items, Name, TextBytes};
+use xr_types::{Items, Name, OpKind, TextBytes};
 
 /// A value that a reserved word names.
 #[derive(Clone, Copy, PartialEq, Eq)]
