@@ -13,21 +13,41 @@ use xr_types::{
 };
 
 /// An axis `x` with these numbers.
+fn axis_of(alloc: Global, kind: DType, numbers: Integers) -> Result<Axis, AllocError>
+    requires { length numbers ≤ 1000 }
+    ensures labelled { IfOk result IsLabelled }
+    ensures size { IfOk result (λ a. a.size ≤ 1000) }
+{
+    let size = numbers.len() as u64;
+    let labels = Labels {
+        list: LabelList::Numbers(kind, numbers),
+        attrs: Items::new(alloc),
+    };
+    Ok(Axis {
+        name: TextBytes::from_str(alloc, "x")?,
+        size,
+        labels: Some(labels),
+    })
+}
+
+/// An axis `x` with these numbers of the kind `int64`.
 fn number_axis(alloc: Global, numbers: &[i64]) -> Result<Axis, AllocError>
     requires { length numbers.now ≤ 1000 }
     ensures labelled { IfOk result IsLabelled }
     ensures size { IfOk result (λ a. a.size ≤ 1000) }
 {
-    let list = Integers::signed(alloc, Items::from_slice(alloc, numbers)?)?;
-    let labels = Labels {
-        list: LabelList::Numbers(DType::Int64, list),
-        attrs: Items::new(alloc),
-    };
-    Ok(Axis {
-        name: TextBytes::from_str(alloc, "x")?,
-        size: numbers.len() as u64,
-        labels: Some(labels),
-    })
+    let numbers = Integers::signed(alloc, Items::from_slice(alloc, numbers)?)?;
+    axis_of(alloc, DType::Int64, numbers)
+}
+
+/// An axis `x` with these numbers of the kind `uint64`.
+fn natural_axis(alloc: Global, numbers: &[u64]) -> Result<Axis, AllocError>
+    requires { length numbers.now ≤ 1000 }
+    ensures labelled { IfOk result IsLabelled }
+    ensures size { IfOk result (λ a. a.size ≤ 1000) }
+{
+    let numbers = Integers::unsigned(alloc, Items::from_slice(alloc, numbers)?)?;
+    axis_of(alloc, DType::UInt64, numbers)
 }
 
 /// An axis `time` with these times, as days since 2000-01-01.
@@ -257,6 +277,59 @@ fn ascending(rt: HostRuntime) -> Result<(), Fail> {
     ];
     let numbers = [10, 20];
     try_numbers(&rt, rt.alloc(), &numbers, &questions)
+}
+
+fn try_naturals(
+    rt: &impl Abort,
+    alloc: Global,
+    numbers: &[u64],
+    questions: &[Ask<'_>],
+) -> Result<(), Fail> {
+    if numbers.len() > 1000 {
+        return Err("too many numbers".into());
+    }
+    let axis = natural_axis(alloc, numbers)?;
+    try_axis(rt, alloc, &axis, questions)
+}
+
+#[test]
+fn past_signed_numbers(rt: HostRuntime) -> Result<(), Fail> {
+    let last = At::Int((1 << 64) - 1);
+    let questions = [
+        Ask::Order(Direction::Ascending, true),
+        Ask::Find(last, Ok(2)),
+        Ask::Find(At::Int(-1), Err(6)),
+        Ask::Find(At::Int(1 << 63), Ok(1)),
+        Ask::Slice(Some(At::Int(8)), Some(last), Ok((1, 2))),
+        Ask::Near(At::Int(1 << 64), Near::Nearest, Some(1), Ok(2)),
+    ];
+    let numbers = [7, 1 << 63, u64::MAX];
+    try_naturals(&rt, rt.alloc(), &numbers, &questions)
+}
+
+#[test]
+fn scattered_past_signed_numbers(rt: HostRuntime) -> Result<(), Fail> {
+    let questions = [
+        Ask::Order(Direction::Neither, true),
+        Ask::Find(At::Int((1 << 64) - 1), Ok(0)),
+        Ask::Find(At::Int(7), Ok(1)),
+        Ask::Find(At::Int(1 << 63), Ok(2)),
+        Ask::Find(At::Int(-1), Err(6)),
+    ];
+    let numbers = [u64::MAX, 7, 1 << 63];
+    try_naturals(&rt, rt.alloc(), &numbers, &questions)
+}
+
+#[test]
+fn repeated_past_signed_numbers(rt: HostRuntime) -> Result<(), Fail> {
+    let questions = [
+        Ask::Order(Direction::Neither, false),
+        Ask::Find(At::Int((1 << 64) - 1), Err(8)),
+        Ask::Find(At::Int(1 << 63), Ok(2)),
+        Ask::Find(At::Int(7), Ok(1)),
+    ];
+    let numbers = [u64::MAX, 7, 1 << 63, u64::MAX];
+    try_naturals(&rt, rt.alloc(), &numbers, &questions)
 }
 
 #[test]

@@ -4,6 +4,8 @@
 #[cfg(test)]
 mod blocks;
 #[cfg(test)]
+mod calendars;
+#[cfg(test)]
 mod folds;
 #[cfg(test)]
 mod indexes;
