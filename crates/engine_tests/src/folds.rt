@@ -380,14 +380,11 @@ fn running_sums(rt: HostRuntime) {
 #[test]
 fn running_sums_without_a_sign(rt: HostRuntime) {
     let mut before = Partial::empty(FoldKind::Sum, DType::UInt8);
-    before.absorb(0, Some(55));
-    for i in 0..4 {
-        before.absorb(i + 1, Some(255));
-    }
+    before.absorb(0, Some(255));
     let mut sums = [0u64; 3];
     let after = scan_run(before, &[200u8, 0, 255], &mut sums);
-    for (sum, wanted) in sums.iter().zip([1275, 1275, 1530]) {
+    for (sum, wanted) in sums.iter().zip([455, 455, 710]) {
         assert_eq!(rt; *sum, wanted);
     }
-    assert_eq!(rt; after.finish(), Some(1530));
+    assert_eq!(rt; after.finish(), Some(710));
 }
