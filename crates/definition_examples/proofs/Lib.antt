@@ -12,3 +12,6 @@ mod CallExamples
 mod CarryExamples
 mod OperatorRows
 mod JoinExamples
+mod ReductionRows
+mod SelectionRows
+mod MoveRows
