@@ -1,0 +1,13 @@
+pub mod Chains
+pub mod Mades
+pub mod Rooms
+pub mod Cells
+pub mod Changes
+pub mod Answered
+pub mod Points
+pub mod Spread
+pub mod Pairs
+pub mod Compared
+pub mod Operands
+pub mod Sorts
+pub mod Told

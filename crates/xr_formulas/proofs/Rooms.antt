@@ -1,0 +1,55 @@
+-- What a call makes, as a value of the plan.
+use Rattle.std.proofs.Common.{◌≡◌, ◌≤◌, ◌+◌, ◌*◌, List, [], ◌∷◌, ◌++◌, ap, sym, subst, ◌∙◌, arith}
+use Rattle.std.proofs.lemmas.Nat.{mul-le}
+use Rattle.std.proofs.lemmas.Grind.{flat_map-append}
+use Rattle.std.proofs.lemmas.List.Sums.{sum_by-append}
+use Rattle.std.specs.List.{flat_map, sum_by}
+use Rattle.std.specs.declared.alloc.Global.{Global}
+use Rattle.std.specs.declared.rc.Rc.{Rc}
+use Rattle.xr_types.specs.declared.axis.Axis.{Axis}
+use Rattle.xr_arrays.specs.declared.node.Node.{Node}
+use Rattle.xr_arrays.specs.Added.{AddsAtMost}
+use Rattle.xr_defs.specs.Meanings as of
+use Rattle.xr_defs.specs.Room.{count, of_array, portions, room, span, AddsForAny, Portion}
+use Rattle.xr_defs.specs.Values as values
+use Rattle.xr_defs.proofs.Spans.{back_among, greatest_both, span_up}
+use Rattle.xr_arguments.proofs.Inside.{array_inside}
+use Rattle.xr_arguments.proofs.Variants.{is_array}
+use Rattle.plan_core.proofs.Added.{adds_up}
+use Rattle.xr_values.specs.declared.data_array.DataArray.{DataArray}
+use Rattle.xr_values.specs.declared.value.Value.{Value}
+use Rattle.xr_values.specs.declared.value.Value.TheVariants as variants
+use Rattle.xr_values.specs.Meaning.{meaning}
+use Rattle.xr_values.specs.Stands.{array_in, IsArrayIn}
+use Rattle.xr_formulas.specs.Called.{AddsBeside, StandsFor}
+use Rattle.xr_formulas.specs.Mades.{IsArrayOf}
+
+-- ---- room beside any operands
+
+abbrev none : Portion
+none = record { variables = 0; axes = []; coords = [] }
+
+pub room_beside : (old new : List Node) (b : values.DataArray) → AddsForAny old new b → (ps : List Portion) → AddsAtMost old new (room (ps ++ of_array b ∷ []))
+unfolding room
+room_beside old new b adds ps =
+    let q : Portion = of_array b in
+    let own : List Axis = flat_map (λ (p : Portion). p.axes) (none ∷ q ∷ []) in
+    let all : List Axis = flat_map (λ (p : Portion). p.axes) ps ++ own in
+    let more : span own ≤ span all = span_up own all (back_among (flat_map (λ (p : Portion). p.axes) ps) own) (λ k. let both = greatest_both (flat_map (λ (p : Portion). p.axes) ps) own k in omega arith) in
+    let same : span (flat_map (λ (p : Portion). p.axes) (ps ++ q ∷ [])) ≡ span all = ap span (flat_map-append (λ (p : Portion). p.axes) ps (q ∷ [])) in
+    let counts : sum_by count (ps ++ q ∷ []) ≡ sum_by count ps + sum_by count (q ∷ []) = sum_by-append count ps (q ∷ []) in
+    let few : sum_by count (none ∷ q ∷ []) ≤ sum_by count (ps ++ q ∷ []) = omega arith in
+    let up = mul-le (256 * sum_by count (none ∷ q ∷ [])) (span own) (256 * sum_by count (ps ++ q ∷ [])) (span (flat_map (λ (p : Portion). p.axes) (ps ++ q ∷ []))) (omega arith) (omega arith) in
+    adds_up old new (256 * sum_by count (none ∷ q ∷ []) * span own) (256 * sum_by count (ps ++ q ∷ []) * span (flat_map (λ (p : Portion). p.axes) (ps ++ q ∷ []))) up (adds none)
+
+-- ---- an array as a value
+
+module _ (new : List Node) (v : Value) (r : Rc DataArray Global) (a : DataArray) (is : v ≡ variants.Array r) (same : r.value ≡ a) where
+  meaning_is : meaning new v ≡ of.Array (array_in new a)
+  meaning_is = is_array new v r is ∙ ap (λ (x : DataArray). of.Array (array_in new x)) same
+
+  pub array_placed : (means : values.DataArray) → IsArrayOf new means a → StandsFor new (of.Array means) v
+  array_placed means made = record { is = meaning_is ∙ ap of.Array made.is; inside = array_inside new v r is (subst (IsArrayIn new) (sym same) made.inside) }
+
+  pub array_room : (old : List Node) → AddsForAny old new (array_in new a) → AddsBeside old new (meaning new v)
+  array_room old adds ps = subst (λ qs. AddsAtMost old new (room (ps ++ qs))) (sym (ap portions meaning_is)) (room_beside old new (array_in new a) adds ps)

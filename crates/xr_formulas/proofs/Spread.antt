@@ -1,0 +1,136 @@
+-- A number at all points of some axes.
+use Rattle.std.proofs.Common.{◌≡◌, ◌<◌, ◌≤◌, ◌+◌, ◌*◌, ◌==◌, ◌||◌, cond, ℕ, ℤ, suc, Bool, true, false, List, [], ◌∷◌, ◌++◌, length, Some, refl, sym, ap, subst, ◌∙◌, arith, lit<}
+use Rattle.std.proofs.lemmas.Bool.{or_parts}
+use Rattle.std.proofs.lemmas.Bool.Decides.{nat_tests}
+use Rattle.std.proofs.lemmas.List.{length-map, nil_from_length}
+use Rattle.std.proofs.lemmas.Nat.{mul-le}
+use Rattle.xr_types.specs.Kinds.{InRange}
+use Rattle.xr_types.specs.Names.{shape_over}
+use Rattle.xr_types.specs.Points.{size, tab, IsPoint}
+use Rattle.xr_types.specs.declared.axis.Axis.{Axis}
+use Rattle.xr_types.specs.declared.kind.DType.{DType}
+use Rattle.xr_arrays.specs.declared.node.Node.{Node}
+use Rattle.xr_arrays.specs.Arrays.{Array, at, made}
+use Rattle.xr_arrays.specs.Nodes.{widened, without}
+use Rattle.xr_defs.specs.Limits.{most_cells, most_dimensions}
+use Rattle.plan_core.proofs.Tabs.{tab-length, tab_same}
+use Rattle.xr_formulas.specs.declared.chain.Start.TheVariants as starts
+use Rattle.xr_formulas.specs.declared.chain.Step.{Step}
+use Rattle.xr_formulas.specs.declared.chain.Step.TheVariants.{Widen}
+use Rattle.xr_formulas.specs.Chains.{chain_cells, chain_value, one_cell, step_value, steps_cells, steps_value, ChainFits, StepFits, StepsFit}
+use Rattle.xr_formulas.specs.Spread.{has_none, literal, widens}
+use Rattle.xr_formulas.proofs.Points.{made_at}
+
+-- ---- steps one after the other
+
+pub steps_both : (ss ts : List Step) (a : Array) → steps_value (ss ++ ts) a ≡ steps_value ts (steps_value ss a)
+steps_both [] ts a = refl
+steps_both (s ∷ ss) ts a = steps_both ss ts (step_value s a)
+
+pub fit_both : (ss ts : List Step) (a : Array) → StepsFit ss a → StepsFit ts (steps_value ss a) → StepsFit (ss ++ ts) a
+fit_both [] ts a first second = second
+fit_both (s ∷ ss) ts a first second = (first.0, fit_both ss ts (step_value s a) first.1 second)
+
+pub cells_both : (ss ts : List Step) (a : Array) → steps_cells (ss ++ ts) a ≡ steps_cells ss a + steps_cells ts (steps_value ss a)
+cells_both [] ts a = omega arith
+cells_both (s ∷ ss) ts a = let rest = cells_both ss ts (step_value s a) in omega arith
+
+-- ---- no axis without positions
+
+some_here : (x : Axis) (xs : List Axis) → has_none (x ∷ xs) ≡ false → (1 ≤ x.size) × (has_none xs ≡ false)
+some_here x xs some = let parts = or_parts (x.size == 0) (has_none xs) some in (grind (arith, nat_tests, parts.0), parts.1)
+
+rest_below : (x : Axis) (xs : List Axis) → has_none (x ∷ xs) ≡ false → size (shape_over xs) ≤ size (shape_over (x ∷ xs))
+rest_below x xs some = let up = mul-le 1 (size (shape_over xs)) x.size (size (shape_over xs)) (some_here x xs some).0 (omega arith) in omega arith
+
+pub some_points : (axes : List Axis) → has_none axes ≡ false → 1 ≤ size (shape_over axes)
+some_points [] some = omega arith
+some_points (x ∷ xs) some = let rest = some_points xs (some_here x xs some).1 in let up = rest_below x xs some in omega arith
+
+no_points : (axes : List Axis) → has_none axes ≡ true → size (shape_over axes) ≡ 0
+no_points [] none = absurd cc
+no_points (x ∷ xs) none = by (x.size == 0) refl none (no_points xs)
+  where
+    zero_first : (m n : ℕ) → m ≡ 0 → m * n ≡ 0
+    zero_first m n e = grind (arith, e)
+
+    zero_last : (m n : ℕ) → n ≡ 0 → m * n ≡ 0
+    zero_last m n e = grind (arith, e)
+
+    by : (b : Bool) → (x.size == 0) ≡ b → (b || has_none xs) ≡ true → (has_none xs ≡ true → size (shape_over xs) ≡ 0) → x.size * size (shape_over xs) ≡ 0
+    by true is e rest = zero_first x.size (size (shape_over xs)) (grind (arith, nat_tests, is))
+    by false is e rest = zero_last x.size (size (shape_over xs)) (rest e)
+
+-- ---- the chain
+
+module _ (kind : DType) (n : ℤ) where
+  abbrev pub spread : List ℕ → Array
+  spread s = made kind s (λ p. Some n)
+
+  one_more : (m : ℕ) (s : List ℕ) → widened (spread s) 0 m ≡ spread (m ∷ s)
+  one_more m s = ap (λ cells. record { kind = kind; shape = m ∷ s; cells = cells }) (tab_same (m ∷ s) (λ p. at (spread s) (without 0 p)) (λ p. Some n) each)
+    where
+      each : (p : List ℕ) → IsPoint (m ∷ s) p → at (spread s) (without 0 p) ≡ Some n
+      each [] here = absurd here
+      each (i ∷ p) here = made_at kind s (λ q. Some n) p here.1
+
+  spread_is : (axes : List Axis) → steps_value (widens axes) (one_cell kind n) ≡ spread (shape_over axes)
+  spread_is [] = refl
+  spread_is (x ∷ xs) = steps_both (widens xs) (Widen 0 x.size ∷ []) (one_cell kind n) ∙ ap (λ a. widened a 0 x.size) (spread_is xs) ∙ one_more x.size (shape_over xs)
+
+  widen_fits : (m : ℕ) (s : List ℕ) → m * size s ≤ most_cells → length s < most_dimensions → StepFits (Widen 0 m) (spread s)
+  widen_fits m s few low = record { fits = (lit< tt, omega arith); small = omega arith; low_rank = omega arith }
+
+  spread_fits : (axes : List Axis) → has_none axes ≡ false → size (shape_over axes) ≤ most_cells → length axes ≤ most_dimensions → StepsFit (widens axes) (one_cell kind n)
+  spread_fits [] some few low = tt
+  spread_fits (x ∷ xs) some few low =
+      let up = rest_below x xs some in
+      let long = length-map xs (λ (y : Axis). y.size) in
+      fit_both (widens xs) (Widen 0 x.size ∷ []) (one_cell kind n) (spread_fits xs (some_here x xs some).1 (omega arith) (omega arith))
+      (subst (StepFits (Widen 0 x.size)) (sym (spread_is xs)) (widen_fits x.size (shape_over xs) few (omega arith)), tt)
+
+  spread_cells : (axes : List Axis) → has_none axes ≡ false → steps_cells (widens axes) (one_cell kind n) ≤ length axes * size (shape_over axes)
+  spread_cells [] some = omega arith
+  spread_cells (x ∷ xs) some =
+      let up = rest_below x xs some in
+      let rest = spread_cells xs (some_here x xs some).1 in
+      let both = cells_both (widens xs) (Widen 0 x.size ∷ []) (one_cell kind n) in
+      let last : size (widened (steps_value (widens xs) (one_cell kind n)) 0 x.size).shape ≡ size (shape_over (x ∷ xs)) = ap (λ a. size (widened a 0 x.size).shape) (spread_is xs) in
+      let most = mul-le (length xs) (size (shape_over xs)) (length xs) (size (shape_over (x ∷ xs))) (omega arith) up in
+      let all : suc (length xs) * size (shape_over (x ∷ xs)) ≡ length xs * size (shape_over (x ∷ xs)) + size (shape_over (x ∷ xs)) = more (length xs) (size (shape_over (x ∷ xs))) in
+      omega arith
+    where
+      more : (a b : ℕ) → suc a * b ≡ a * b + b
+      more a b = grind arith
+
+  -- ---- with and without points
+
+  pub literal_is : (nodes : List Node) (axes : List Axis) → chain_value nodes (literal axes kind n) ≡ spread (shape_over axes)
+  literal_is nodes axes = by (has_none axes) refl
+    where
+      none : has_none axes ≡ true → tab (shape_over axes) (λ p. Some n) ≡ []
+      none e = nil_from_length (tab (shape_over axes) (λ p. Some n)) (tab-length (shape_over axes) (λ p. Some n) ∙ no_points axes e)
+
+      by : (b : Bool) → has_none axes ≡ b
+          → chain_value nodes (cond b (record { start = starts.Empty kind (shape_over axes); steps = [] }) (record { start = starts.Cell kind n; steps = widens axes })) ≡ spread (shape_over axes)
+      by true e = ap (λ cells. record { kind = kind; shape = shape_over axes; cells = cells }) (sym (none e))
+      by false e = spread_is axes
+
+  pub literal_fits : (nodes : List Node) (axes : List Axis) → InRange kind n → size (shape_over axes) ≤ most_cells → length axes ≤ most_dimensions → ChainFits nodes (literal axes kind n)
+  literal_fits nodes axes range few low = by (has_none axes) refl
+    where
+      by : (b : Bool) → has_none axes ≡ b
+          → ChainFits nodes (cond b (record { start = starts.Empty kind (shape_over axes); steps = [] }) (record { start = starts.Cell kind n; steps = widens axes }))
+      by true e = record { start = (no_points axes e, let long = length-map axes (λ (y : Axis). y.size) in omega arith); steps = tt }
+      by false e = record { start = range; steps = spread_fits axes e few low }
+
+  pub literal_cells : (nodes : List Node) (axes : List Axis) → length axes ≤ most_dimensions → chain_cells nodes (literal axes kind n) ≤ 1 + 16 * size (shape_over axes)
+  literal_cells nodes axes low = by (has_none axes) refl
+    where
+      by : (b : Bool) → has_none axes ≡ b
+          → chain_cells nodes (cond b (record { start = starts.Empty kind (shape_over axes); steps = [] }) (record { start = starts.Cell kind n; steps = widens axes })) ≤ 1 + 16 * size (shape_over axes)
+      by true e = omega arith
+      by false e =
+          let all = spread_cells axes e in
+          let most = mul-le (length axes) (size (shape_over axes)) 16 (size (shape_over axes)) (omega arith) (omega arith) in
+          omega arith

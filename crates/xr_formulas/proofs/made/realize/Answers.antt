@@ -1,0 +1,9 @@
+use Rattle.std.proofs.Common.{refl}
+use Rattle.xr_arrays.specs.Nodes.{value}
+use Rattle.xr_formulas.specs.Mades.{formula_cells, made_with}
+use Rattle.xr_formulas.proofs.Mades.{in_its_room}
+use Rattle.xr_formulas.proofs.made.realize.Goals as goal
+
+pub returns-clause-room : goal.returns-clause-room
+returns-clause-room c =
+    in_its_room c.args.plan.now c.push_formula.new.plan (formula_cells c.args.plan.now c.args.made.cells) c.args.made (made_with c.args.made (value c.push_formula.new.plan c.in_ok-node.node).cells) refl c.requires.room c.in_ok-node.ensures.cells

@@ -1,0 +1,162 @@
+//! Methods of one array that work cell by cell.
+ghost use Rattle.std.specs.Prelude.{◌≡◌, not, List};
+ghost use Rattle.xr_types.specs.Results.{unless, Answers};
+ghost use Rattle.xr_types.specs.declared.fault.Fault.TheVariants.{WrongKind};
+ghost use Rattle.xr_types.specs.declared.operation.OpKind.TheVariants as ops;
+ghost use Rattle.xr_arrays.specs.declared.node.Node.{Node};
+ghost use Rattle.xr_operations.specs.CellMethods as calls;
+ghost use Rattle.xr_operations.specs.Methods as methods;
+ghost use Rattle.xr_values.specs.Meaning.{meaning, given};
+ghost use Rattle.xr_values.specs.Stands.{array_in, IsArrayIn};
+ghost use Rattle.xr_formulas.specs.Mades.{AnswersMade};
+
+use crate::cellwise::{changed, of_method};
+use crate::kinds::{fits, is_chars, is_truths, kind_named, truth_number};
+use crate::made::Made;
+use crate::numbers::filled;
+use std::alloc::Global;
+use xr_arguments::{as_text, nothing_given, only};
+use xr_types::{CallFault, DType, DeepCopy, Fault, OpKind, TextBytes};
+use xr_values::{Args, DataArray, Value};
+
+// `isnull()`
+#[tactic(auto, using(crate::proofs::Answered::answered, crate::proofs::Answered::tests_missing), unfolding(xr_operations::specs::CellMethods::tested))]
+fn is_null(alloc: Global, on: &DataArray, args: &Args) -> Result<Made, CallFault>
+    ensures { (nodes : List Node) → IsArrayIn nodes on.now → AnswersMade nodes result (calls.tested ops.IsNull (array_in nodes on.now) (given nodes args.now)) }
+{
+    nothing_given(args)?;
+    let made = of_method(alloc, on, OpKind::IsNull, DType::Bool)?;
+    Ok(made)
+}
+
+// `notnull()`
+#[tactic(auto, using(crate::proofs::Answered::answered, crate::proofs::Answered::tests_present), unfolding(xr_operations::specs::CellMethods::tested))]
+fn not_null(alloc: Global, on: &DataArray, args: &Args) -> Result<Made, CallFault>
+    ensures { (nodes : List Node) → IsArrayIn nodes on.now → AnswersMade nodes result (calls.tested ops.NotNull (array_in nodes on.now) (given nodes args.now)) }
+{
+    nothing_given(args)?;
+    let made = of_method(alloc, on, OpKind::NotNull, DType::Bool)?;
+    Ok(made)
+}
+
+#[tactic(auto, unfolding(xr_operations::specs::CellMethods::kind_called))]
+fn kind_called(name: &TextBytes) -> Result<DType, CallFault>
+    ensures { Answers (λ k. k) result (calls.kind_called name.now) }
+{
+    match kind_named(name.as_str()) {
+        Some(kind) => Ok(kind),
+        None => Err(CallFault::Refused(Fault::BadArgument)),
+    }
+}
+
+#[tactic(auto, unfolding(xr_types::specs::Results::unless))]
+fn check_kind(fits: bool) -> Result<(), CallFault>
+    ensures { Answers (λ u. u) result (unless fits WrongKind) }
+{
+    if fits {
+        Ok(())
+    } else {
+        Err(CallFault::Refused(Fault::WrongKind))
+    }
+}
+
+// `astype(kind)`
+#[tactic(auto, using(crate::proofs::Answered::answered, crate::proofs::Answered::casts), unfolding(xr_operations::specs::CellMethods::cast_called))]
+fn cast_called(alloc: Global, on: &DataArray, args: &Args) -> Result<Made, CallFault>
+    ensures { (nodes : List Node) → IsArrayIn nodes on.now → AnswersMade nodes result (calls.cast_called (array_in nodes on.now) (given nodes args.now)) }
+{
+    check_kind(!is_chars(on.kind))?;
+    let kind = kind_called(as_text(only(args, "kind")?)?)?;
+    let attrs = on.attrs.deep_copy(alloc)?;
+    let made = changed(alloc, on, OpKind::Cast, kind, attrs)?;
+    Ok(made)
+}
+
+// The one plain argument.
+#[tactic(auto, unfolding(xr_operations::specs::CellMethods::one_of, xr_values::specs::Meaning::given))]
+fn the_one(args: &Args) -> Result<&Value, CallFault>
+    ensures { (nodes : List Node) → Answers (λ v. meaning nodes v.now) result (calls.the_one (given nodes args.now)) }
+{
+    match args.plain.as_slice() {
+        [] => Err(CallFault::Refused(Fault::BadArgument)),
+        [argument] => match args.keyed.as_slice() {
+            [] => Ok(argument),
+            [_, ..] => Err(CallFault::Refused(Fault::BadArgument)),
+        },
+        [_, _, ..] => Err(CallFault::Refused(Fault::BadArgument)),
+    }
+}
+
+/// A literal for cells of a kind: a truth value for truth values, and a whole number for the others.
+///
+/// # Errors
+/// `WrongKind` for any other value.
+#[tactic(auto, using(xr_arguments::proofs::Variants::is_number, xr_arguments::proofs::Variants::is_truth, xr_values::proofs::Meaning::meaning_out), unfolding(xr_operations::specs::CellMethods::literal_for))]
+pub fn literal_for(kind: DType, value: &Value) -> Result<i128, CallFault>
+    ensures { (nodes : List Node) → Answers (λ n. n) result (calls.literal_for kind (meaning nodes value.now)) }
+{
+    match value {
+        Value::Number(n) => {
+            check_kind(!is_truths(kind))?;
+            Ok(*n)
+        }
+        Value::Truth(truth) => {
+            check_kind(is_truths(kind))?;
+            Ok(truth_number(*truth))
+        }
+        _ => Err(CallFault::Refused(Fault::WrongKind)),
+    }
+}
+
+/// Refuses a number that a kind doesn't have.
+///
+/// # Errors
+/// `DoesNotFit`.
+#[tactic(auto, unfolding(xr_operations::specs::CellMethods::check_fits, xr_types::specs::Results::unless))]
+pub fn check_fits(kind: DType, n: i128) -> Result<(), CallFault>
+    ensures { Answers (λ u. u) result (calls.check_fits kind n) }
+{
+    if fits(kind, n) {
+        Ok(())
+    } else {
+        Err(CallFault::Refused(Fault::DoesNotFit))
+    }
+}
+
+// `fillna(literal)`
+#[tactic(auto, using(crate::proofs::Answered::answered), unfolding(xr_operations::specs::CellMethods::fill_called))]
+fn fill_called(alloc: Global, on: &DataArray, args: &Args) -> Result<Made, CallFault>
+    ensures { (nodes : List Node) → IsArrayIn nodes on.now → AnswersMade nodes result (calls.fill_called (array_in nodes on.now) (given nodes args.now)) }
+{
+    let n = literal_for(on.kind, the_one(args)?)?;
+    check_fits(on.kind, n)?;
+    let made = filled(alloc, on, n)?;
+    Ok(made)
+}
+
+/// What a method that works cell by cell makes of an array: `isnull`, `notnull`, `astype` and `fillna`.
+///
+/// # Errors
+/// `UnknownName` for any other; then those of the method.
+#[tactic(auto, unfolding(xr_operations::specs::Methods::array_method))]
+pub fn array_method(
+    alloc: Global,
+    name: &TextBytes,
+    on: &DataArray,
+    args: &Args,
+) -> Result<Made, CallFault>
+    ensures { (nodes : List Node) → IsArrayIn nodes on.now → AnswersMade nodes result (methods.array_method name.now (array_in nodes on.now) (given nodes args.now)) }
+{
+    let called = name.as_str();
+    if called == "isnull" {
+        is_null(alloc, on, args)
+    } else if called == "notnull" {
+        not_null(alloc, on, args)
+    } else if called == "astype" {
+        cast_called(alloc, on, args)
+    } else if called == "fillna" {
+        fill_called(alloc, on, args)
+    } else {
+        Err(CallFault::Refused(Fault::UnknownName(name.deep_copy(alloc)?)))
+    }
+}
