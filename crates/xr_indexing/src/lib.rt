@@ -17,6 +17,8 @@ mod set_at;
 mod slices;
 mod variables;
 
+pub use axes::position_of;
 pub use choice::{Choice, Positions, Selector, choice_of};
 pub use isel_arrays::isel_array;
 pub use isel_sets::isel_set;
+pub use selectors::{as_selector, check_dimension, check_selector};

@@ -70,16 +70,18 @@ pub fn as_selector(alloc: Global, value: &Value) -> Result<Selector, CallFault>
     }
 }
 
+/// Refuses an argument that is no selector.
 #[tactic(auto, unfolding(xr_defs::specs::Selecting::check_selector))]
-fn check_selector(alloc: Global, argument: &(TextBytes, Value)) -> Result<(), CallFault>
+pub fn check_selector(alloc: Global, argument: &(TextBytes, Value)) -> Result<(), CallFault>
     ensures { (nodes : List Node) → Answers (λ u. u) result (of.check_selector (with_key nodes argument.now)) }
 {
     as_selector(alloc, &argument.1)?;
     Ok(())
 }
 
+/// Refuses an argument whose name is no dimension.
 #[tactic(auto, unfolding(xr_defs::specs::Arguments::check_dimension))]
-fn check_dimension(
+pub fn check_dimension(
     alloc: Global,
     axes: &[Axis],
     argument: &(TextBytes, Value),

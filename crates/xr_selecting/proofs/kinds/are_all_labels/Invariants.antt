@@ -1,0 +1,9 @@
+use Rattle.std.proofs.Common.{◌≡◌, List, map, drop}
+use Rattle.std.specs.List.{list_all}
+use Rattle.xr_arrays.specs.declared.node.Node.{Node}
+use Rattle.xr_operations.specs.Selection.{is_label}
+use Rattle.xr_values.specs.Meaning.{meaning}
+use Rattle.xr_selecting.proofs.kinds.are_all_labels.Given as goal
+
+abbrev pub invariant-loop-value : goal.invariant-loop-value
+invariant-loop-value l = (nodes : List Node) → list_all is_label (map (meaning nodes) (drop l.value-index l.list)) ≡ list_all is_label (map (meaning nodes) l.list)

@@ -1,0 +1,67 @@
+//! Labels that a call is given.
+ghost use Rattle.std.specs.Prelude.{List};
+ghost use Rattle.xr_arrays.specs.declared.node.Node.{Node};
+ghost use Rattle.xr_types.specs.Results.{Answers};
+ghost use Rattle.xr_operations.specs.Selection as of;
+ghost use Rattle.xr_values.specs.Meaning.{all_values, meaning};
+
+use cf_time::read_date;
+use std::alloc::Global;
+use xr_types::{CallFault, DeepCopy, Fault, Items, Label, LabelList, TextBytes};
+use xr_values::Value;
+
+// The time of a full date and time.
+#[tactic(auto, unfolding(xr_operations::specs::Selection::as_time))]
+fn as_time(text: &TextBytes) -> Result<Label, CallFault>
+    ensures { Answers (λ l. l) result (of.as_time text.now) }
+{
+    let text = text.as_bytes();
+    if text.len() != 19 {
+        return Err(CallFault::Refused(Fault::BadArgument));
+    }
+    match read_date(text) {
+        Some(period) => Ok(Label::Time(period.first)),
+        None => Err(CallFault::Refused(Fault::BadArgument)),
+    }
+}
+
+#[tactic(auto, unfolding(xr_operations::specs::Selection::as_text_label))]
+fn as_text_label(alloc: Global, list: &LabelList, text: &TextBytes) -> Result<Label, CallFault>
+    ensures { Answers (λ l. l) result (of.as_text_label list.now text.now) }
+{
+    match list {
+        LabelList::Times(_, _) => as_time(text),
+        LabelList::Numbers(_, _) => Ok(Label::Text(text.deep_copy(alloc)?)),
+        LabelList::Texts(_) => Ok(Label::Text(text.deep_copy(alloc)?)),
+    }
+}
+
+/// The label that a value is among these.
+///
+/// # Errors
+/// `WrongKind` unless it is a number or a text; `BadArgument` for a text among times that is no full date and time.
+#[tactic(auto, using(xr_arguments::proofs::Variants::is_number, xr_arguments::proofs::Variants::is_text, xr_values::proofs::Meaning::meaning_out), unfolding(xr_operations::specs::Selection::as_label))]
+pub fn as_label(alloc: Global, list: &LabelList, value: &Value) -> Result<Label, CallFault>
+    ensures { (nodes : List Node) → Answers (λ l. l) result (of.as_label list.now (meaning nodes value.now)) }
+{
+    match value {
+        Value::Number(n) => Ok(Label::Int(*n)),
+        Value::Text(text) => as_text_label(alloc, list, text),
+        _ => Err(CallFault::Refused(Fault::WrongKind)),
+    }
+}
+
+/// The labels of a list.
+pub fn as_labels(
+    alloc: Global,
+    list: &LabelList,
+    values: &[Value],
+) -> Result<Items<Label>, CallFault>
+    ensures { (nodes : List Node) → Answers (λ ls. ls) result (of.as_labels list.now (all_values nodes values.now)) }
+{
+    let mut out = Items::new(alloc);
+    for value in values {
+        out.push(as_label(alloc, list, value)?)?;
+    }
+    Ok(out)
+}
