@@ -1,0 +1,10 @@
+pub mod Products
+pub mod Folded
+pub mod Staying
+pub mod Reduced
+pub mod Idle
+pub mod Growing
+pub mod Placing
+pub mod OneVariable
+pub mod AllVariables
+pub mod RunningSums

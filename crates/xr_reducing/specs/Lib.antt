@@ -1,0 +1,4 @@
+pub mod Mades
+pub mod Sets
+pub mod Reduced
+pub mod Running

@@ -1,0 +1,19 @@
+//! Reductions of dimensions of arrays and datasets.
+#![tactic(auto)]
+
+mod arrays;
+mod chars;
+mod checks;
+mod dims;
+mod folds;
+mod left;
+mod realized;
+mod running;
+mod sets;
+
+pub use arrays::reduced_array;
+pub use chars::{Frame, without_chars};
+pub use folds::reduction_named;
+pub use realized::{SetMade, VarMade, realize_set};
+pub use running::{cumsum_array, cumsum_set, set_summed};
+pub use sets::{reduced_set, set_reduced};
