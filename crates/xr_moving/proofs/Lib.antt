@@ -1,0 +1,16 @@
+pub mod Loops
+pub mod Sources
+pub mod InKind
+pub mod Taken
+pub mod Moved
+pub mod ArrayMade
+pub mod Answered
+pub mod Chosen
+pub mod Differences
+pub mod Formulas
+pub mod Realized
+pub mod Placed
+pub mod VarsMoved
+pub mod SetsAnswered
+pub mod ShiftedSets
+pub mod SetDifferences
