@@ -1,0 +1,11 @@
+pub mod Few
+pub mod Inside
+pub mod Conditions
+pub mod Exact
+pub mod Aligned
+pub mod Sides
+pub mod ChoicesMade
+pub mod ChoiceParts
+pub mod ChoiceAnswers
+pub mod Bound
+pub mod Operated

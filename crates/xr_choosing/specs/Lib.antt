@@ -1,0 +1,4 @@
+pub mod Branches
+pub mod Held
+pub mod Choices
+pub mod Called
