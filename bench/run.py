@@ -1,12 +1,12 @@
 #!/usr/bin/env python3
-"""Measures the proved program beside numpy, xarray and NCO, in one run, and prints ratios.
+"""Measures the proved program beside numpy, xarray, NCO and CDO, in one run, and prints ratios.
 
     bench/run.py [PROGRAM] [--times N]
 
 Each job is timed N times (five by default), ours and the peers' in turn, and the least of each counts. `in process` is
 measured inside Python, after its imports; `whole` is the whole process. A ratio above 1 says that the program is that
 many times faster than the peer. Peers that aren't installed are left out, and the output says so.
-Debian has them as python3-numpy, python3-xarray and nco.
+Debian has them as python3-numpy, python3-xarray, nco and cdo.
 """
 import os
 import shutil
@@ -106,6 +106,20 @@ def of_cube(name, call, nco, masked="", unmasked=", mask_and_scale=False"):
     }
 
 
+def over_cube(name, statements, code, tools=(), masked=False):
+    """Statements over the variable `v` of the cube, beside xarray in a process that has imported it, and the tools' own words."""
+    return {
+        "name": name + (", with missing cells" if masked else ""),
+        "file": cube,
+        "script": f'v = open_dataset("v.nc"{", mask=True" if masked else ""})["v"]\n{statements}\n',
+        "peers": [("xarray, in process", "xarray", TIMED.format(
+            before="import xarray",
+            code=f'v = xarray.open_dataset("v.nc"{"" if masked else ", mask_and_scale=False"})["v"]\n{code}'))],
+        "whole": [],
+        "tools": [(f"{words[0]}, whole", words[0], list(words)) for words in tools],
+    }
+
+
 HALF = "ds.isel(time=slice(128, 384))"
 NCO_HALF = ["ncks", "-O", "-d", "time,128,383"]
 
@@ -148,6 +162,17 @@ JOBS = [
     of_cube("every second time of the cube", "ds.isel(time=slice(0, 512, 2))", ["ncks", "-O", "-d", "time,0,511,2"]),
     of_cube("every second column of the cube", "ds.isel(x=slice(0, 256, 2))", ["ncks", "-O", "-d", "x,0,255,2"]),
     of_cube("the cube with its dimensions turned around", 'ds["v"].transpose("x", "y", "time")', ["ncpdq", "-O", "-a", "x,y,time"]),
+    *(job for masked in (False, True) for job in (
+        over_cube("the sum of the cube and itself", "print((v + v).sum())", "print(int((v + v).sum()))", masked=masked),
+        over_cube("how many cells are above 100", "print((v > 100).sum())", "print(int((v > 100).sum()))", masked=masked),
+        over_cube("three times the cube less itself, halved and written", '((v * 3 - v) // 2).to_netcdf("w.nc", fill_value=-32768)',
+                  '((v * 3 - v) // 2).to_netcdf("x.nc", format="NETCDF3_CLASSIC")', [("ncap2", "-O", "-v", "-s", "w=(v*3s-v)/2s", "v.nc", "n.nc")], masked),
+        over_cube("the greatest over time", "print(v.max(\"time\").sum())", 'print(int(v.max("time").sum()))',
+                  [("ncwa", "-O", "-y", "max", "-a", "time", "v.nc", "n.nc"), ("cdo", "-s", "-O", "timmax", "v.nc", "n.nc")], masked),
+        over_cube("the greatest over x", "print(v.max(\"x\").sum())", 'print(int(v.max("x").sum()))', [("ncwa", "-O", "-y", "max", "-a", "x", "v.nc", "n.nc")], masked),
+        over_cube("running sums over time", "print(v.cumsum(\"time\").max())", 'print(int(v.cumsum("time").max()))', masked=masked),
+        over_cube("cells one time later", "print(v.shift(time=1, fill_value=0).sum())", 'print(int(v.shift(time=1, fill_value=0).sum()))', masked=masked),
+    )),
 ]
 
 

@@ -162,7 +162,12 @@ def by_xarray(lines, folder):
     names = {"open_dataset": open_dataset, "DataArray": array, "slice": slice}
     for line in lines:
         name, _, code = line.partition(" = ")
-        names[name] = eval(code, {"__builtins__": {}}, names)
+        # Attributes stay, but for those that name fill numbers where cells are new ones.
+        with xarray.set_options(keep_attrs=True):
+            names[name] = eval(code, {"__builtins__": {}}, names)
+        if code.endswith(".sum()"):
+            for fill in ("_FillValue", "missing_value"):
+                names[name].attrs.pop(fill, None)
     return names[name]
 
 

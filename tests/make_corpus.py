@@ -14,7 +14,7 @@ import subprocess
 import sys
 import tempfile
 
-TYPES_OF = {"i1": "byte", "i2": "short", "i4": "int"}
+TYPES_OF = {"i1": "byte", "i2": "short", "i4": "int", "i8": "int64", "u1": "ubyte", "u2": "ushort", "u4": "uint", "u8": "uint64"}
 HERE = os.path.dirname(os.path.abspath(__file__))
 
 INTS = "netcdf ints { dimensions: x = 3; variables: int v(x); data: v = 1, 2, 3; }"
@@ -61,6 +61,17 @@ ODD = """netcdf odd {
 dimensions: a = 1; b = 3; c = 5;
 variables: byte p(a); short q(b); byte r(c, b); int last;
 data: p = -1; q = 1, 2, 3; r = 1,2,3,4,5,6,7,8,9,10,11,12,13,14,15; last = 42;
+}"""
+
+
+WIDE = """netcdf wide {
+dimensions: t = UNLIMITED; n = 3;
+variables:
+  ubyte a(n); ushort b(t, n); uint c(n); int64 d(t); uint64 e(n); uint64 n(n);
+    a:u = 255UB; b:u = 65535US, 0US; c:u = 4294967295U; d:l = -9223372036854775808LL; e:u = 18446744073709551615ULL;
+data:
+  a = 0, 128, 254; b = 1, 2, 3, 32768, 65534, 0; c = 0, 2147483648, 4294967294; d = -9007199254740993, 9007199254740993;
+  e = 0, 9223372036854775808, 18446744073709551613; n = 1, 9223372036854775808, 3;
 }"""
 
 
@@ -116,12 +127,34 @@ def by_xarray_masked(path):
         "t": {"dtype": "int16", "_FillValue": -9999}, "time": {"units": "hours since 2000-01-01", "dtype": "int32"}})
 
 
+def by_netcdf4_wide(path):
+    from netCDF4 import Dataset
+    with Dataset(path, "w", format="NETCDF3_64BIT_DATA") as d:
+        d.createDimension("x", 2)
+        d.createDimension("y", 2)
+        d.createVariable("x", "u8", ("x",))[:] = [1, 1 << 63]
+        d.createVariable("y", "u4", ("y",))[:] = [4000000000, 5]
+        d.createVariable("a", "u1", ("x", "y"), fill_value=250)[:] = [[250, 1], [2, 3]]
+        d.createVariable("b", "u2", ("x",))[:] = [60000, 7]
+        d.createVariable("c", "i8", ("y",))[:] = [-1, 1 << 40]
+
+
+def by_xarray_wide(path):
+    import xarray as xr
+    xr.Dataset({"v": (("time", "x"), [[1, 2], [3, 4]])}, coords={"x": [10, 20]}).to_netcdf(
+        path, format="NETCDF3_64BIT_DATA", engine="netcdf4", unlimited_dims=["time"])
+
+
 def by_cdo(path):
     subprocess.run(["cdo", "-s", "--no_history", "-f", "nc1", "-b", "I32", "mulc,3", "-for,1,5", path], check=True)
 
 
 def by_nco(path, folder):
     subprocess.run(["ncrcat", "-O", "-h", os.path.join(folder, "records.nc"), os.path.join(folder, "records.nc"), path], check=True)
+
+
+def by_nco_wide(path, folder):
+    subprocess.run(["ncrcat", "-O", "-h", "--fl_fmt=cdf5", os.path.join(folder, "wide.nc"), os.path.join(folder, "wide.nc"), path], check=True)
 
 
 def answers(folder):
@@ -157,6 +190,15 @@ def whole_files(folder):
     by_xarray_masked(at("masked.nc"))
     by_cdo(at("cdo.nc"))
     by_nco(at("joined.nc"), folder)
+    # Version 5.
+    ncgen(INTS, at("ints-5.nc"), "cdf5")
+    ncgen(RECORDS, at("records-5.nc"), "cdf5")
+    ncgen(LONE % "ubyte", at("lone-ubyte-5.nc"), "cdf5")
+    ncgen(WIDE, at("wide.nc"), "cdf5")
+    ncmpigen(ODD, at("odd-sizes-5.nc"), 5)
+    by_netcdf4_wide(at("unsigned-5.nc"))
+    by_xarray_wide(at("xarray-5.nc"))
+    by_nco_wide(at("joined-5.nc"), folder)
     answers(folder)
 
 

@@ -3,7 +3,7 @@
 
     tools.py PROGRAM
 
-The tools are `ncdump` and `ncvalidator` (Debian: netcdf-bin, pnetcdf-bin), and scipy, netCDF4 and xarray of Debian's
+The tools are `ncdump`, `ncvalidator` and `ncmpidump` (Debian: netcdf-bin, pnetcdf-bin), and scipy, netCDF4 and xarray of Debian's
 Python. What is missing is skipped, and the output says so.
 The last line is 'N passed, M failed, K skipped'.
 """
@@ -28,7 +28,7 @@ r = DataArray([[1, 2], [3, 4]], dims=["t", "x"], name="v", dtype="int16").assign
 r.to_netcdf("records.nc", format="NETCDF3_CLASSIC", unlimited_dims="t")
 DataArray([True, False], dims=["x"], name="b").to_netcdf("truths.nc", format="NETCDF3_CLASSIC")
 DataArray([4000000000, -1], dims=["x"], name="v").to_netcdf("wide.nc")
-DataArray([65535, 0], dims=["x"], name="v", dtype="uint16").to_netcdf("unsigned.nc")
+DataArray([65534, 0], dims=["x"], name="v", dtype="uint16").to_netcdf("unsigned.nc")
 """
 
 # The numbers of each variable of each file.
@@ -44,9 +44,11 @@ WRITTEN = {
 # Those of version 5, which not all of the tools read.
 WRITTEN_IN_5 = {
     "wide.nc": {"v": [4000000000, -1]},
-    "unsigned.nc": {"v": [65535, 0]},
+    "unsigned.nc": {"v": [65534, 0]},
 }
-READ_5 = {"ncdump", "ncvalidator", "netCDF4"}
+READ_5 = {"ncdump", "ncvalidator", "ncmpidump", "netCDF4"}
+# The types that dumps have to name.
+TYPES_IN_5 = {"wide.nc": "int64 v(", "unsigned.nc": "ushort v("}
 
 # How a library of Python gives a variable's numbers.
 LIBRARIES = {
@@ -56,13 +58,13 @@ LIBRARIES = {
 }
 
 
-def by_ncdump(path, names):
-    ran = subprocess.run(["ncdump", path], capture_output=True, text=True)
-    if ran.returncode != 0:
+def by_dump(tool, path, names):
+    ran = subprocess.run([tool, path], capture_output=True, text=True)
+    if ran.returncode != 0 or TYPES_IN_5.get(os.path.basename(path), "") not in ran.stdout:
         return None
     values = ran.stdout[ran.stdout.index("data:"):]
     found = {name: re.search(rf"\b{name} =\s*([^;]*);", values) for name in names}
-    return {name: [int(n) for n in it.group(1).split(",")] for name, it in found.items() if it}
+    return {name: [int(re.match(r"\s*(-?\d+)", n).group(1)) for n in it.group(1).split(",")] for name, it in found.items() if it}
 
 
 def by_library(code, path, names):
@@ -85,7 +87,8 @@ def main():
             f.write(SCRIPT)
         subprocess.run([program, "s.xrs"], cwd=folder, check=True)
         checks = {
-            "ncdump": (bool(shutil.which("ncdump")), lambda path, values: by_ncdump(path, values) == values),
+            "ncdump": (bool(shutil.which("ncdump")), lambda path, values: by_dump("ncdump", path, values) == values),
+            "ncmpidump": (bool(shutil.which("ncmpidump")), lambda path, values: by_dump("ncmpidump", path, values) == values),
             "ncvalidator": (bool(shutil.which("ncvalidator")), lambda path, values: subprocess.run(["ncvalidator", "-q", path], capture_output=True).returncode == 0),
         }
         for library, code in LIBRARIES.items():
