@@ -1,3 +1,4 @@
 mod Labelling
 mod Shared
 mod Rooms
+mod Making

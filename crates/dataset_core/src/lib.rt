@@ -1,12 +1,16 @@
 //! The functions and methods of scripts, found by their names.
 #![tactic(auto)]
 
+mod cells;
 mod coords;
 mod frames;
 mod function;
 mod held;
+mod made;
 mod method;
+mod moves;
 mod open;
+mod operators;
 mod part;
 mod slice;
 mod write;
@@ -14,5 +18,6 @@ mod write;
 pub use function::call_function;
 pub use method::call_method;
 pub use open::{OpenRequest, open_request};
+pub use operators::{binary_operator, unary_operator};
 pub use part::pick;
 pub use write::{WriteRequest, write_request};

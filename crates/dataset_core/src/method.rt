@@ -14,11 +14,14 @@ ghost use Rattle.xr_indexing.specs.Taken.{keywords};
 ghost use Rattle.dataset_core.specs.Answers.{AnswersValue, RefusesValue};
 ghost use Rattle.dataset_core.specs.Assigned.{method_told, FollowsValue};
 
+use crate::cells::{cell_method, cumsum, is_cell_method, reduction};
 use crate::coords::assign_coords;
-use crate::frames::{assign_attrs, drop_vars, isel, rename, sum, to_dataset, transpose};
+use crate::frames::{assign_attrs, drop_vars, isel, rename, sel, to_dataset, transpose};
+use crate::moves::{diff, roll, shift};
 use plan_core::{Compute, Plan};
 use std::alloc::Global;
 use std::thread::Threads;
+use xr_reducing::reduction_named;
 use xr_types::{CallFault, DeepCopy, Fault, TextBytes};
 use xr_values::{Args, Cx, Value};
 
@@ -85,7 +88,76 @@ fn other_method(alloc: Global, on: &Value, name: &TextBytes) -> CallFault
     }
 }
 
-// The methods that compute no cells.
+// A reduction, or no method.
+#[tactic(auto, using(plan_core::proofs::Plans::grows_by_none), unfolding(xr_runs::specs::Calls::reduction_called))]
+fn reduction_called(
+    alloc: Global,
+    plan: &mut Plan,
+    on: &Value,
+    name: &TextBytes,
+    args: &Args,
+) -> Result<Value, CallFault>
+    requires { IsValueIn plan.old on.now }
+    ensures answers { AnswersValue plan.new result (calls.reduction_called (meaning plan.old on.now) name.now (given plan.old args.now)) }
+    ensures grows { Grows plan.old plan.new }
+    ensures room { IfOk result (λ v. AddsAtMost plan.old plan.new (room (portions (meaning plan.old on.now) ++ portions (meaning plan.new v)))) }
+{
+    match reduction_named(name.as_str()) {
+        Some(fold) => reduction(alloc, plan, on, fold, args),
+        None => Err(other_method(alloc, on, name)),
+    }
+}
+
+// A move of cells along dimensions, or a reduction.
+#[tactic(auto, unfolding(xr_runs::specs::Calls::move_or_reduction))]
+fn move_or_reduction(
+    alloc: Global,
+    plan: &mut Plan,
+    on: &Value,
+    name: &TextBytes,
+    args: &Args,
+) -> Result<Value, CallFault>
+    requires { IsValueIn plan.old on.now }
+    ensures answers { AnswersValue plan.new result (calls.move_or_reduction (meaning plan.old on.now) name.now (given plan.old args.now)) }
+    ensures grows { Grows plan.old plan.new }
+    ensures room { IfOk result (λ v. AddsAtMost plan.old plan.new (room (portions (meaning plan.old on.now) ++ portions (meaning plan.new v)))) }
+{
+    let called = name.as_str();
+    if called == "shift" {
+        shift(alloc, plan, on, args)
+    } else if called == "roll" {
+        roll(alloc, plan, on, args)
+    } else if called == "diff" {
+        diff(alloc, plan, on, args)
+    } else {
+        reduction_called(alloc, plan, on, name, args)
+    }
+}
+
+// The methods that give new cells.
+#[tactic(auto, unfolding(xr_runs::specs::Calls::method_on_cells))]
+fn method_on_cells(
+    alloc: Global,
+    plan: &mut Plan,
+    on: &Value,
+    name: &TextBytes,
+    args: &Args,
+) -> Result<Value, CallFault>
+    requires { IsValueIn plan.old on.now }
+    ensures answers { AnswersValue plan.new result (calls.method_on_cells (meaning plan.old on.now) name.now (given plan.old args.now)) }
+    ensures grows { Grows plan.old plan.new }
+    ensures room { IfOk result (λ v. AddsAtMost plan.old plan.new (room (portions (meaning plan.old on.now) ++ portions (meaning plan.new v)))) }
+{
+    if is_cell_method(name) {
+        cell_method(alloc, plan, on, name, args)
+    } else if name.as_str() == "cumsum" {
+        cumsum(alloc, plan, on, args)
+    } else {
+        move_or_reduction(alloc, plan, on, name, args)
+    }
+}
+
+// The methods that compute no cells at once.
 #[tactic(auto, using(plan_core::proofs::Plans::grows_by_none), unfolding(xr_runs::specs::Calls::uncomputed_method))]
 fn uncomputed_method(
     alloc: Global,
@@ -103,6 +175,8 @@ fn uncomputed_method(
     let called = name.as_str();
     if called == "isel" {
         isel(alloc, plan, on, args)
+    } else if called == "sel" {
+        sel(alloc, plan, on, args)
     } else if called == "transpose" {
         transpose(alloc, plan, on, args)
     } else if called == "drop_vars" {
@@ -113,15 +187,14 @@ fn uncomputed_method(
         rename(alloc, plan, on, args)
     } else if called == "to_dataset" {
         to_dataset(alloc, plan, on, args)
-    } else if called == "sum" {
-        sum(alloc, plan, on, args)
     } else {
-        Err(other_method(alloc, on, name))
+        method_on_cells(alloc, plan, on, name, args)
     }
 }
 
-/// The value of a call of a method: `isel`, `drop_vars`, `assign_coords` and `assign_attrs` of arrays and datasets, and
-/// `transpose`, `rename`, `to_dataset` and `sum` of arrays.
+/// The value of a call of a method: `isel`, `sel`, `drop_vars`, `assign_coords`, `assign_attrs`, `cumsum`, `shift`,
+/// `roll` and reductions of arrays and datasets, and `transpose`, `rename`, `to_dataset`, `isnull`, `notnull`, `astype`, `fillna`,
+/// `diff`, `argmin` and `argmax` of arrays.
 ///
 /// # Errors
 /// `UnknownName` for any other method, but `WouldPromote` for those of arrays and datasets, grouped or not, whose answers

@@ -7,7 +7,8 @@ use Rattle.xr_defs.specs.declared.write_options.WriteOptions.{WriteOptions}
 use Rattle.xr_defs.specs.Meanings.{Value, Text, Number, Set, Given}
 use Rattle.xr_defs.specs.Arguments.{as_text}
 use Rattle.xr_defs.specs.Building.{bound}
-use Rattle.xr_runs.specs.Calls.{open_asked, open_dataset, opened_set, mask_given, text_printed, write_asked, set_written, method_called, uncomputed_method, other_method, of_array, options_given, format_given, fill_given, unlimited_given, format_named}
+use Rattle.xr_operations.specs.Reductions.{reduction_named}
+use Rattle.xr_runs.specs.Calls.{open_asked, open_dataset, opened_set, mask_given, text_printed, write_asked, set_written, method_called, uncomputed_method, method_on_cells, move_or_reduction, reduction_called, other_method, of_array, options_given, format_given, fill_given, unlimited_given, format_named}
 
 -- a dataset of nothing is printed as its first line
 printed : text_printed (Set (record { axes = []; coords = []; vars = []; attrs = []; skipped = [] })) ≡ Ok (codes "Dataset\n")
@@ -38,7 +39,7 @@ no_name = refl
 
 -- methods that need fractions are told as such on datasets, and arrays alone are renamed
 mean : method_called (Set (record { axes = []; coords = []; vars = []; attrs = []; skipped = [] })) (codes "mean") (record { plain = []; keyed = [] }) ≡ Err WouldPromote
-unfolding method_called uncomputed_method other_method
+unfolding method_called uncomputed_method method_on_cells move_or_reduction reduction_called reduction_named other_method
 mean = refl
 
 renamed_set : method_called (Set (record { axes = []; coords = []; vars = []; attrs = []; skipped = [] })) (codes "rename") (one (Text (codes "v"))) ≡ Err WrongKind

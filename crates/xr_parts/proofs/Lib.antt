@@ -4,7 +4,6 @@ pub mod Words
 pub mod Axes
 pub mod Alone
 pub mod Described
-pub mod Summed
 pub mod Picked
 pub mod Behind
 pub mod Dropped

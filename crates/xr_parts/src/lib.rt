@@ -1,5 +1,5 @@
-//! Parts of arrays and datasets over a plan: names, attributes, single variables, dimensions in another order, what is
-//! dropped, and the sum of all cells.
+//! Parts of arrays and datasets over a plan: names, attributes, single variables, dimensions in another order, and what is
+//! dropped.
 #![tactic(auto)]
 
 mod attributes;
@@ -8,7 +8,6 @@ mod drops;
 mod names;
 mod orders;
 mod picks;
-mod sums;
 mod texts;
 
 pub use attributes::{array_with_attrs, set_with_attrs};
@@ -17,4 +16,3 @@ pub use drops::{dropped_of_array, dropped_of_set};
 pub use names::{own_name, renamed};
 pub use orders::transposed;
 pub use picks::{pick_of_array, pick_of_set};
-pub use sums::sum_called;

@@ -3,7 +3,6 @@ use Rattle.std.proofs.Common.{◌≡◌, ◌∙◌, ℕ, ℤ, ◌+◌, ◌<◌, 
 use Rattle.std.proofs.lemmas.List.{nil_from_length, length-drop}
 use Rattle.xr_types.specs.declared.text.TextBytes.{TextBytes}
 use Rattle.xr_types.specs.declared.fault.Fault.{Fault}
-use Rattle.xr_types.specs.declared.fault.Fault.TheVariants.{WrongKind}
 use Rattle.xr_syntax.specs.declared.syntax.Constant.{Constant}
 use Rattle.xr_syntax.specs.declared.syntax.Expr.{Expr}
 use Rattle.xr_types.specs.declared.operation.OpKind.{OpKind}
@@ -13,7 +12,7 @@ use Rattle.xr_syntax.specs.Syntax as tree
 use Rattle.xr_syntax.specs.Syntax.{Tree, Args, tree_of}
 use Rattle.xr_defs.specs.Meanings as of
 use Rattle.xr_defs.specs.Meanings.{Values, Entries, With, Entry, Given}
-use Rattle.xr_defs.specs.Arguments.{wrong}
+use Rattle.xr_operations.specs.Arithmetic.{binary_called, unary_called}
 use Rattle.xr_runs.specs.Calls.{function_called, method_called, part_picked}
 use Rattle.xr_runs.specs.Evaluation.{Names, value_of, values_of, entries_of, given_of, constant_value, named}
 use Rattle.xr_run.specs.declared.stopped.Stopped.{Stopped}
@@ -57,7 +56,7 @@ constant_is : (names : Names) (files : Files) (c : Constant) → value_of names 
 unfolding value_of given_of values_of entries_of
 constant_is names files c = refl
 
-unary_is : (names : Names) (files : Files) (op : OpKind) (a : Tree) → value_of names files (tree.Unary op a) ≡ (value_of names files a >>= λ v. wrong)
+unary_is : (names : Names) (files : Files) (op : OpKind) (a : Tree) → value_of names files (tree.Unary op a) ≡ (value_of names files a >>= λ v. unary_called op v)
 unfolding value_of given_of values_of entries_of
 unary_is names files op a = refl
 
@@ -74,7 +73,7 @@ method_is : (names : Names) (files : Files) (a : Tree) (name : List ℕ) (gs : A
 unfolding value_of given_of values_of entries_of
 method_is names files a name gs = refl
 
-binary_is : (names : Names) (files : Files) (op : OpKind) (a b : Tree) → value_of names files (tree.Binary op a b) ≡ (value_of names files a >>= λ v. value_of names files b >>= λ w. wrong)
+binary_is : (names : Names) (files : Files) (op : OpKind) (a b : Tree) → value_of names files (tree.Binary op a b) ≡ (value_of names files a >>= λ v. value_of names files b >>= λ w. binary_called op v w)
 unfolding value_of given_of values_of entries_of
 binary_is names files op a b = refl
 
@@ -99,13 +98,16 @@ text_from names files e t copy v is same means = ap (value_of names files) is �
 pub constant_from : (names : Names) (files : Files) (e : Tree) (c : Constant) (v : of.Value) → e ≡ tree.Constantly c → v ≡ constant_value c → value_of names files e ≡ Ok v
 constant_from names files e c v is means = ap (value_of names files) is ∙ constant_is names files c ∙ ap Ok (sym means)
 
-pub unary_wrong : (names : Names) (files : Files) (e a : Tree) (op : OpKind) (v : of.Value) → e ≡ tree.Unary op a → value_of names files a ≡ Ok v → value_of names files e ≡ Err WrongKind
-unary_wrong names files e a op v is value = ap (value_of names files) is ∙ unary_is names files op a ∙ ap (λ x. x >>= λ u. wrong) value
+pub unary_from : {V : Type 0} (view : V → of.Value) (names : Names) (files : Files) (e a : Tree) (op : OpKind) (v : of.Value) (r : Result V Stopped)
+    → e ≡ tree.Unary op a → value_of names files a ≡ Ok v → Gives view r (unary_called op v) → GivesOrFails view r (value_of names files e)
+unary_from view names files e a op v r is value h =
+    let q : value_of names files e ≡ unary_called op v = ap (value_of names files) is ∙ unary_is names files op a ∙ ap (λ x. x >>= λ u. unary_called op u) value in
+    subst (λ x. GivesOrFails view r x) (sym q) (gives_or view r (unary_called op v) h)
 
 pub unary_fails : {V A : Type 0} (view : V → of.Value) (seen : A → of.Value) (names : Names) (files : Files) (e a : Tree) (op : OpKind) (s : Stopped)
     → e ≡ tree.Unary op a → GivesOrFails seen (Err s) (value_of names files a) → GivesOrFails view (Err s) (value_of names files e)
 unary_fails view seen names files e a op s is h =
-    passed seen view s (value_of names files a) (value_of names files e) (λ u. wrong) (ap (value_of names files) is ∙ unary_is names files op a) h
+    passed seen view s (value_of names files a) (value_of names files e) (λ u. unary_called op u) (ap (value_of names files) is ∙ unary_is names files op a) h
 
 pub index_from : {V : Type 0} (view : V → of.Value) (names : Names) (files : Files) (e a : Tree) (t : List ℕ) (v : of.Value) (r : Result V Stopped)
     → e ≡ tree.Index a t → value_of names files a ≡ Ok v → Gives view r (part_picked v t) → GivesOrFails view r (value_of names files e)
@@ -156,21 +158,22 @@ receiver_fails view seen names files e a name gs s is h =
 pub operand_fails : {V A : Type 0} (view : V → of.Value) (seen : A → of.Value) (names : Names) (files : Files) (e a b : Tree) (op : OpKind) (s : Stopped)
     → e ≡ tree.Binary op a b → GivesOrFails seen (Err s) (value_of names files a) → GivesOrFails view (Err s) (value_of names files e)
 operand_fails view seen names files e a b op s is h =
-    passed seen view s (value_of names files a) (value_of names files e) (λ v. value_of names files b >>= λ w. wrong) (ap (value_of names files) is ∙ binary_is names files op a b) h
+    passed seen view s (value_of names files a) (value_of names files e) (λ v. value_of names files b >>= λ w. binary_called op v w) (ap (value_of names files) is ∙ binary_is names files op a b) h
 
-pub binary_fails : {V A : Type 0} (view : V → of.Value) (seen : A → of.Value) (names mid_names : Names) (files mid : Files) (e a b : Tree) (op : OpKind) (v : of.Value) (s : Stopped)
-    → e ≡ tree.Binary op a b → value_of names files a ≡ Ok v → mid_names ≡ names → mid ≡ files → GivesOrFails seen (Err s) (value_of mid_names mid b)
-    → GivesOrFails view (Err s) (value_of names files e)
-binary_fails view seen names mid_names files mid e a b op v s is value same_names same h =
-    passed seen view s (value_of names files b) (value_of names files e) (λ w. wrong)
-    (ap (value_of names files) is ∙ binary_is names files op a b ∙ ap (λ x. x >>= λ u. value_of names files b >>= λ w. wrong) value)
-    (subst (λ (ns : Names). GivesOrFails seen (Err s) (value_of ns files b)) same_names (subst (λ (fs : Files). GivesOrFails seen (Err s) (value_of mid_names fs b)) same h))
+pub binary_rest : {V : Type 0} (view : V → of.Value) (names mid_names : Names) (files mid : Files) (e a b : Tree) (op : OpKind) (v : of.Value) (r : Result V Stopped)
+    → e ≡ tree.Binary op a b → value_of names files a ≡ Ok v → mid_names ≡ names → mid ≡ files → GivesOrFails view r (value_of mid_names mid b >>= λ w. binary_called op v w)
+    → GivesOrFails view r (value_of names files e)
+binary_rest view names mid_names files mid e a b op v r is value same_names same h =
+    let q : value_of names files e ≡ (value_of names files b >>= λ w. binary_called op v w) =
+    ap (value_of names files) is ∙ binary_is names files op a b ∙ ap (λ x. x >>= λ u. value_of names files b >>= λ y. binary_called op u y) value in
+    subst (λ x. GivesOrFails view r x) (sym q)
+    (subst (λ (ns : Names). GivesOrFails view r (value_of ns files b >>= λ w. binary_called op v w)) same_names
+    (subst (λ (fs : Files). GivesOrFails view r (value_of mid_names fs b >>= λ w. binary_called op v w)) same h))
 
-pub binary_wrong : (names mid_names : Names) (files mid : Files) (e a b : Tree) (op : OpKind) (v w : of.Value)
-    → e ≡ tree.Binary op a b → value_of names files a ≡ Ok v → mid_names ≡ names → mid ≡ files → value_of mid_names mid b ≡ Ok w → value_of names files e ≡ Err WrongKind
-binary_wrong names mid_names files mid e a b op v w is value same_names same has =
-    let second : value_of names files b ≡ Ok w = subst (λ (ns : Names). value_of ns files b ≡ Ok w) same_names (subst (λ (fs : Files). value_of mid_names fs b ≡ Ok w) same has) in
-    ap (value_of names files) is ∙ binary_is names files op a b ∙ ap (λ x. x >>= λ u. value_of names files b >>= λ w. wrong) value ∙ ap (λ x. x >>= λ w. wrong) second
+pub binary_last : {V : Type 0} (view : V → of.Value) (names : Names) (files : Files) (b : Tree) (op : OpKind) (v later w : of.Value) (r : Result V Stopped)
+    → value_of names files b ≡ Ok w → later ≡ v → Gives view r (binary_called op later w) → GivesOrFails view r (value_of names files b >>= λ y. binary_called op v y)
+binary_last view names files b op v later w r has kept h =
+    subst (λ x. GivesOrFails view r x) (sym (ap (λ x. x >>= λ y. binary_called op v y) has)) (gives_or view r (binary_called op v w) (subst (λ x. Gives view r (binary_called op x w)) kept h))
 
 pub items_from : (names : Names) (files : Files) (e : Tree) (xs : tree.Trees) (vs : Values) (v : of.Value) → e ≡ tree.Items xs → values_of names files xs ≡ Ok vs → v ≡ of.Sequence vs → value_of names files e ≡ Ok v
 items_from names files e xs vs v is has means =

@@ -53,7 +53,7 @@ puts_next (tree.Assigned name e) ls names files text n h = absurd h
 puts_next (tree.Aligned ms e) ls names files text n h = absurd h
 puts_next (tree.Placed name v e) ls names files text n h = absurd h
 puts_next (tree.Printed e) ls names files text n h = absurd h
-puts_next (tree.Written e) ls names files text n h = put_now e ls (at names files text) n h.0 (h.1 text)
+puts_next (tree.Written e) ls names files text n h = put_now e ls (at names files text) n h.0 h.1
 
 -- the names that no put names hold what they held, behind the next statement too
 pub keeps_more : (ss : List Statement) (from : Files) (told : Bool) (before : List ℕ) (i : ℕ) (names : Names) (files after : Files) (taken : List ℕ) (s : Statement)

@@ -2,11 +2,13 @@
 use Rattle.std.specs.Prelude.{List, [], ◌∷◌, Option, Some, None, Result, Ok}
 use Rattle.xr_types.specs.declared.text.TextBytes.{TextBytes}
 use Rattle.xr_types.specs.declared.fault.Fault.{Fault}
+use Rattle.xr_types.specs.declared.operation.OpKind.{OpKind}
 use Rattle.xr_syntax.specs.declared.syntax.Expr.{Expr}
 use Rattle.xr_types.specs.Results.{◌>>=◌}
 use Rattle.xr_defs.specs.Stores.{Files}
 use Rattle.xr_syntax.specs.Syntax.{tree_of}
 use Rattle.xr_defs.specs.Meanings.{Value, Values, Entries, With, Entry, Given}
+use Rattle.xr_operations.specs.Arithmetic.{binary_called}
 use Rattle.xr_runs.specs.Evaluation.{Names, value_of}
 use Rattle.xr_defs.specs.Meanings.{and_plain, and_keyed}
 
@@ -26,3 +28,7 @@ values_rest names files vs (e ∷ es) = value_of names files (tree_of e) >>= λ 
 unfoldable pub entries_rest : Names → Files → Entries → List (TextBytes × Expr) → Result Entries Fault
 entries_rest names files vs [] = Ok vs
 entries_rest names files vs (e ∷ es) = value_of names files (tree_of e.1) >>= λ v. entries_rest names files (Entry vs e.0 v) es
+
+-- an operator behind a value, once its right operand is told
+abbrev pub with_right : OpKind → Value → Result Value Fault → Result Value Fault
+with_right op v told = told >>= λ w. binary_called op v w

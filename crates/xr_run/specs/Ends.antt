@@ -1,5 +1,5 @@
 -- How the run of a script ends.
-use Rattle.std.specs.Prelude.{◌≡◌, ◌≤◌, ◌⊎◌, ◌++◌, ℕ, Bool, List, IsTrue, Option}
+use Rattle.std.specs.Prelude.{◌≡◌, ◌≤◌, ◌⊎◌, ◌++◌, ℕ, Bool, List, IsTrue, Option, Some, None}
 use Rattle.xr_types.specs.declared.status.Status.{Status}
 use Rattle.xr_types.specs.declared.status.Status.TheVariants as statuses
 use Rattle.xr_defs.specs.Stores.{Files}
@@ -39,6 +39,17 @@ abbrev pub CommandEnds : Files → Option (List ℕ) → Files → Bool → List
 CommandEnds files script after told before taken statuses.Storage = Unit {0}
 CommandEnds files script after told before taken statuses.NoMemory = Unit {0}
 CommandEnds files script after told before taken status = (e : Ended) × Run files script e × IsEnd e status after told before taken
+
+-- that the words don't fit is known before a script is named
+abbrev pub IsNamedEnd : Status → Type 0
+IsNamedEnd statuses.BadWords = ⊥
+IsNamedEnd status = Unit {0}
+
+-- the words don't fit exactly where they name no script
+abbrev pub WordsAsked : Option (List ℕ) → Status → Type 0
+WordsAsked None statuses.BadWords = Unit {0}
+WordsAsked None status = ⊥
+WordsAsked (Some name) status = IsNamedEnd status
 
 -- the files that no put of the statements names hold what they held
 abbrev pub StatementsKeep : List Line → Files → Files → Type 0

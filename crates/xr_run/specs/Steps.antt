@@ -4,7 +4,7 @@ use Rattle.xr_defs.specs.Stores.{Files}
 use Rattle.xr_syntax.specs.Syntax as tree
 use Rattle.xr_syntax.specs.Syntax.{Line}
 use Rattle.xr_runs.specs.Evaluation.{Names}
-use Rattle.xr_runs.specs.Runs.{State, step, with_name, with_text, with_file}
+use Rattle.xr_runs.specs.Runs.{State, step, with_name, with_text, with_file, written_by}
 use Rattle.xr_arrays.specs.declared.node.Node.{Node}
 use Rattle.xr_values.specs.Meaning.{meaning, IsValueIn}
 use Rattle.xr_run.specs.declared.effect.Effect.{Effect}
@@ -35,16 +35,16 @@ EffectIs nodes l names files (Err (Refused f)) = (text : List ℕ) → step l (a
 EffectIs nodes l names files (Err Storage) = Unit {0}
 EffectIs nodes l names files (Err NoMemory) = Unit {0}
 
--- only to_netcdf puts a file
-abbrev pub IsOf : Line → Effect → Type 0
-IsOf (tree.Written e) effect = Unit {0}
-IsOf l (Bind name value) = Unit {0}
-IsOf l (Print text) = Unit {0}
-IsOf l (Write name bytes) = ⊥
+-- only to_netcdf puts a file, and it is the one that the statement names
+abbrev pub IsOf : Names → Files → Line → Effect → Type 0
+IsOf names files l (Bind name value) = Unit {0}
+IsOf names files l (Print text) = Unit {0}
+IsOf names files (tree.Written e) (Write name bytes) = written_by names files e ≡ Ok (name, bytes)
+IsOf names files l (Write name bytes) = ⊥
 
-abbrev pub EffectFits : Line → Result Effect Stopped → Type 0
-EffectFits l (Ok e) = IsOf l e
-EffectFits l (Err stopped) = Unit {0}
+abbrev pub EffectFits : Names → Files → Line → Result Effect Stopped → Type 0
+EffectFits names files l (Ok e) = IsOf names files l e
+EffectFits names files l (Err stopped) = Unit {0}
 
 -- it is done: the names, the files and what a sink that tells it took, before and after
 abbrev pub PerformIs : List Node → Effect → Names → Names → Files → Files → Bool → List ℕ → List ℕ → Result (Unit {0}) Stopped → Type 0
@@ -67,9 +67,9 @@ StepIs l names after files files_after told taken now (Err (Refused f)) =
 StepIs l names after files files_after told taken now (Err Storage) = Unit {0}
 StepIs l names after files files_after told taken now (Err NoMemory) = Unit {0}
 
--- a statement puts a file of this name, whatever was printed before
+-- a statement puts a file of this name
 abbrev pub PutsName : Line → Names → Files → List ℕ → Type 0
-PutsName (tree.Written e) names files n = (bytes : List ℕ) × ((text : List ℕ) → step (tree.Written e) (at names files text) ≡ Ok (with_file (at names files text) n bytes))
+PutsName (tree.Written e) names files n = (bytes : List ℕ) × (written_by names files e ≡ Ok (n, bytes))
 PutsName l names files n = ⊥
 
 -- the files but one that it puts hold what they held, however it ends

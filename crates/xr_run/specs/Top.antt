@@ -6,7 +6,7 @@ use Rattle.xr_defs.specs.Stores.{Files}
 use Rattle.xr_defs.specs.Messages.{status_line}
 use Rattle.xr_runs.specs.Runs.{Ended, Run}
 use Rattle.xr_outside.specs.Outside.{Rose}
-use Rattle.xr_run.specs.Ends.{IsEnd}
+use Rattle.xr_run.specs.Ends.{IsEnd, WordsAsked}
 
 -- unless something failed or memory ran out: the status, the files after the run and what the output sink gained are those of
 -- the one end that the run has by the definitions, and the error sink gained the status's line
@@ -15,6 +15,18 @@ RunEnds files script after out_before out_after err_before err_after Storage = U
 RunEnds files script after out_before out_after err_before err_after NoMemory = Unit {0}
 RunEnds files script after out_before out_after err_before err_after status =
     ((e : Ended) × Run files script e × IsEnd e status after true out_before out_after) × (err_after ≡ err_before ++ status_line script status)
+
+-- unless the error sink failed or memory ran out, the words don't fit exactly where they name no script
+abbrev pub AsWords : Option (List ℕ) → Status → Type 0
+AsWords script Storage = Unit {0}
+AsWords script NoMemory = Unit {0}
+AsWords script status = WordsAsked script status
+
+-- the error sink gained the status's line
+abbrev pub IsSaid : Option (List ℕ) → List ℕ → List ℕ → Status → Type 0
+IsSaid script before after Storage = Unit {0}
+IsSaid script before after NoMemory = Unit {0}
+IsSaid script before after status = after ≡ before ++ status_line script status
 
 -- the counts of faults of the store, the output sink and the error sink: one of them rose where something failed; and
 -- unless something failed or memory ran out, all are as before

@@ -1,7 +1,7 @@
 //! The values of expressions: parts from left to right, a receiver before its arguments, and then the call.
 ghost use Rattle.std.specs.Prelude.{◌≡◌, List, IsTrue, All, OnOk, IfOk};
 ghost use denote.Param.Send.{IsSync};
-ghost use Rattle.xr_types.specs.declared.fault.Fault.TheVariants.{WrongKind as wrong_kind};
+ghost use Rattle.xr_operations.specs.Arithmetic.{binary_called, unary_called};
 ghost use Rattle.xr_arrays.specs.declared.node.Node.{Node};
 ghost use Rattle.xr_syntax.specs.Syntax.{tree_of, all_arguments, all_trees, all_entries};
 ghost use Rattle.xr_runs.specs.Evaluation.{value_of, values_of, entries_of, given_of, constant_value as value_of_constant, named};
@@ -9,22 +9,21 @@ ghost use Rattle.xr_runs.specs.Calls.{method_called, part_picked};
 ghost use Rattle.xr_defs.specs.Meanings.{Number, Text, Sequence, Table, With, Entry};
 ghost use Rattle.plan_core.specs.Plans.{Grows};
 ghost use Rattle.xr_values.specs.Meaning.{meaning, given, all_values as values_meant, all_entries as entries_meant, IsValueIn, IsEntryIn, AreArgsIn};
-ghost use Rattle.xr_run.specs.Arguments.{and_argument};
+ghost use Rattle.xr_run.specs.Arguments.{and_argument, with_right};
 ghost use Rattle.xr_run.specs.Named.{names_of, AreNamesIn};
 ghost use Rattle.xr_run.specs.Answers.{Gives, GivesOrFails, Tallied};
-ghost use Rattle.xr_run.specs.declared.stopped.Stopped.TheVariants as stops;
 
 use crate::functions::call_function;
 use crate::names::NameMap;
 use crate::stopped::Stopped;
-use dataset_core::{call_method, pick};
+use dataset_core::{binary_operator, call_method, pick, unary_operator};
 use plan_core::Plan;
 use plan_whole::Whole;
 use std::alloc::{AllocError, Global};
 use std::thread::Threads;
 use xr_outside::Store;
 use xr_syntax::{Argument, Constant, Expr};
-use xr_types::{DeepCopy, Fault, TextBytes};
+use xr_types::{DeepCopy, Fault, OpKind, TextBytes};
 use xr_values::{Args, Cx, Value};
 
 #[tactic(auto, using(xr_arguments::proofs::Variants::is_truth, xr_arguments::proofs::Variants::is_absent, xr_arguments::proofs::Variants::is_missing, xr_arguments::proofs::Inside::truth_inside, xr_arguments::proofs::Inside::absent_inside, xr_arguments::proofs::Inside::missing_inside))]
@@ -49,14 +48,6 @@ fn value_named(alloc: Global, names: &NameMap, name: &TextBytes) -> Result<Value
         Some(value) => Ok(value.copy(alloc)?),
         None => Err(Stopped::Refused(Fault::UnknownName(name.deep_copy(alloc)?))),
     }
-}
-
-// No operator takes a value so far.
-fn refuse(value: Value) -> Stopped
-    ensures { result ≡ stops.Refused wrong_kind }
-{
-    drop(value);
-    Stopped::Refused(Fault::WrongKind)
 }
 
 #[tactic(auto, using(xr_arguments::proofs::Variants::is_number, xr_arguments::proofs::Inside::number_inside))]
@@ -124,6 +115,39 @@ fn picked_value(
     ensures grows { Grows plan.old plan.new }
 {
     match pick(alloc, plan, value, name) {
+        Ok(value) => Ok(value),
+        Err(fault) => Err(Stopped::from(fault)),
+    }
+}
+
+// An operator before a value.
+fn unary_value(alloc: Global, plan: &mut Plan, op: OpKind, value: &Value) -> Result<Value, Stopped>
+    requires inside { IsValueIn plan.old value.now }
+    ensures value { Gives (meaning plan.new) result (unary_called op (meaning plan.old value.now)) }
+    ensures inside { IfOk result (IsValueIn plan.new) }
+    ensures grows { Grows plan.old plan.new }
+{
+    match unary_operator(alloc, plan, op, value) {
+        Ok(value) => Ok(value),
+        Err(fault) => Err(Stopped::from(fault)),
+    }
+}
+
+// An operator between two values.
+fn binary_value(
+    alloc: Global,
+    plan: &mut Plan,
+    op: OpKind,
+    left: &Value,
+    right: &Value,
+) -> Result<Value, Stopped>
+    requires left { IsValueIn plan.old left.now }
+    requires right { IsValueIn plan.old right.now }
+    ensures value { Gives (meaning plan.new) result (binary_called op (meaning plan.old left.now) (meaning plan.old right.now)) }
+    ensures inside { IfOk result (IsValueIn plan.new) }
+    ensures grows { Grows plan.old plan.new }
+{
+    match binary_operator(alloc, plan, op, left, right) {
         Ok(value) => Ok(value),
         Err(fault) => Err(Stopped::from(fault)),
     }
@@ -256,6 +280,34 @@ fn eval_entries<R: Threads + Sync, S: Store>(
     Ok(values)
 }
 
+// The value of an operator between a value and an expression.
+#[cycle(evaluation)]
+fn eval_right<R: Threads + Sync, S: Store>(
+    rt: &R,
+    alloc: Global,
+    expr: &Expr,
+    op: OpKind,
+    left: Value,
+    names: &NameMap,
+    store: &mut S,
+    cx: &mut Cx<Whole>,
+) -> Result<Value, Stopped>
+    requires sync { IsSync R.row }
+    requires left { IsValueIn cx.old.plan left }
+    requires inside { AreNamesIn cx.old.plan names.now }
+    ensures value { IsTrue (S.tells store.old) → GivesOrFails (meaning cx.new.plan) result (with_right op (meaning cx.old.plan left) (value_of (names_of cx.old.plan names.now) (S.held store.old) (tree_of expr.now))) }
+    ensures inside { IfOk result (IsValueIn cx.new.plan) }
+    ensures grows { Grows cx.old.plan cx.new.plan }
+    ensures keeps { IsTrue (S.tells store.old) → S.held store.new ≡ S.held store.old }
+    ensures tells { S.tells store.new ≡ S.tells store.old }
+    ensures tallied { Tallied (S.faults store.old) (S.faults store.new) result }
+{
+    match eval(rt, alloc, expr, names, store, cx) {
+        Ok(right) => binary_value(alloc, &mut cx.plan, op, &left, &right),
+        Err(stopped) => Err(stopped),
+    }
+}
+
 /// The value of an expression.
 #[cycle(evaluation)]
 pub(crate) fn eval<R: Threads + Sync, S: Store>(
@@ -280,18 +332,12 @@ pub(crate) fn eval<R: Threads + Sync, S: Store>(
         Expr::Number(n) => Ok(number_value(*n)),
         Expr::Text(text) => Ok(text_value(text.deep_copy(alloc)?)),
         Expr::Constant(c) => Ok(constant_value(*c)),
-        Expr::Unary(_, a) => match eval(rt, alloc, a, names, store, cx) {
-            Ok(value) => Err(refuse(value)),
+        Expr::Unary(op, a) => match eval(rt, alloc, a, names, store, cx) {
+            Ok(value) => unary_value(alloc, &mut cx.plan, *op, &value),
             Err(stopped) => Err(stopped),
         },
-        Expr::Binary(_, a, b) => match eval(rt, alloc, a, names, store, cx) {
-            Ok(value) => {
-                drop(value);
-                match eval(rt, alloc, b, names, store, cx) {
-                    Ok(value) => Err(refuse(value)),
-                    Err(stopped) => Err(stopped),
-                }
-            }
+        Expr::Binary(op, a, b) => match eval(rt, alloc, a, names, store, cx) {
+            Ok(left) => eval_right(rt, alloc, b, *op, left, names, store, cx),
             Err(stopped) => Err(stopped),
         },
         Expr::Call(name, arguments) => {

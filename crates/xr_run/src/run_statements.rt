@@ -3,7 +3,7 @@ ghost use Rattle.std.specs.Prelude.{◌≡◌, map, IsTrue};
 ghost use denote.Param.Send.{IsSync};
 ghost use Rattle.xr_syntax.specs.Syntax.{line_of};
 ghost use Rattle.xr_runs.specs.Runs.{run_from, start};
-ghost use Rattle.xr_run.specs.Ends.{Ends, StatementsKeep, StatusTallied, Untouched, status_of};
+ghost use Rattle.xr_run.specs.Ends.{Ends, IsNamedEnd, StatementsKeep, StatusTallied, Untouched, status_of};
 
 use crate::names::NameMap;
 use crate::step::step;
@@ -41,6 +41,7 @@ pub(crate) fn run_statements<R: Threads + Sync, S: Store, O: Sink>(
     ensures keeps { IsTrue (S.tells store.old) → StatementsKeep (map line_of statements.now) (S.held store.old) (S.held store.new) }
     ensures store_tells { S.tells store.new ≡ S.tells store.old }
     ensures out_tells { O.tells out.new ≡ O.tells out.old }
+    ensures named { IsNamedEnd result }
     ensures begun { Untouched (O.taken out.old) (O.taken out.new) result }
     ensures tallied { StatusTallied (S.faults store.old) (S.faults store.new) (O.faults out.old) (O.faults out.new) result }
 {

@@ -36,7 +36,7 @@ fn assign<R: Threads + Sync, S: Store>(
     requires sync { IsSync R.row }
     requires inside { AreNamesIn cx.old.plan names.now }
     ensures effect { IsTrue (S.tells store.old) → EffectIs cx.new.plan (Assigned name.now (tree_of expr.now)) (names_of cx.old.plan names.now) (S.held store.old) result }
-    ensures fits { EffectFits (Assigned name.now (tree_of expr.now)) result }
+    ensures fits { IsTrue (S.tells store.old) → EffectFits (names_of cx.old.plan names.now) (S.held store.old) (Assigned name.now (tree_of expr.now)) result }
     ensures inside { IfOk result (IsEffectIn cx.new.plan) }
     ensures grows { Grows cx.old.plan cx.new.plan }
     ensures keeps { IsTrue (S.tells store.old) → S.held store.new ≡ S.held store.old }
@@ -63,7 +63,7 @@ fn align<R: Threads + Sync, S: Store>(
     requires sync { IsSync R.row }
     requires inside { AreNamesIn cx.old.plan names.now }
     ensures effect { IsTrue (S.tells store.old) → EffectIs cx.new.plan (Aligned targets.now (a_call (codes "align") (all_arguments arguments.now))) (names_of cx.old.plan names.now) (S.held store.old) result }
-    ensures fits { EffectFits (Aligned targets.now (a_call (codes "align") (all_arguments arguments.now))) result }
+    ensures fits { IsTrue (S.tells store.old) → EffectFits (names_of cx.old.plan names.now) (S.held store.old) (Aligned targets.now (a_call (codes "align") (all_arguments arguments.now))) result }
     ensures inside { IfOk result (IsEffectIn cx.new.plan) }
     ensures grows { Grows cx.old.plan cx.new.plan }
     ensures keeps { IsTrue (S.tells store.old) → S.held store.new ≡ S.held store.old }
@@ -95,7 +95,7 @@ fn place<R: Threads + Sync, S: Store>(
     requires sync { IsSync R.row }
     requires inside { AreNamesIn cx.old.plan names.now }
     ensures effect { IsTrue (S.tells store.old) → EffectIs cx.new.plan (Placed name.now variable.now (tree_of expr.now)) (names_of cx.old.plan names.now) (S.held store.old) result }
-    ensures fits { EffectFits (Placed name.now variable.now (tree_of expr.now)) result }
+    ensures fits { IsTrue (S.tells store.old) → EffectFits (names_of cx.old.plan names.now) (S.held store.old) (Placed name.now variable.now (tree_of expr.now)) result }
     ensures inside { IfOk result (IsEffectIn cx.new.plan) }
     ensures grows { Grows cx.old.plan cx.new.plan }
     ensures keeps { IsTrue (S.tells store.old) → S.held store.new ≡ S.held store.old }
@@ -128,7 +128,7 @@ fn print<R: Threads + Sync, S: Store>(
     requires sync { IsSync R.row }
     requires inside { AreNamesIn cx.old.plan names.now }
     ensures effect { IsTrue (S.tells store.old) → EffectIs cx.new.plan (a_print (tree_of expr.now)) (names_of cx.old.plan names.now) (S.held store.old) result }
-    ensures fits { EffectFits (a_print (tree_of expr.now)) result }
+    ensures fits { IsTrue (S.tells store.old) → EffectFits (names_of cx.old.plan names.now) (S.held store.old) (a_print (tree_of expr.now)) result }
     ensures inside { IfOk result (IsEffectIn cx.new.plan) }
     ensures grows { Grows cx.old.plan cx.new.plan }
     ensures keeps { IsTrue (S.tells store.old) → S.held store.new ≡ S.held store.old }
@@ -145,7 +145,7 @@ fn print<R: Threads + Sync, S: Store>(
 }
 
 // `receiver.to_netcdf(..)`
-#[tactic(auto, unfolding(xr_runs::specs::Runs::step))]
+#[tactic(auto, unfolding(xr_runs::specs::Runs::step, xr_runs::specs::Runs::written_by))]
 fn write<R: Threads + Sync, S: Store>(
     rt: &R,
     alloc: Global,
@@ -158,7 +158,7 @@ fn write<R: Threads + Sync, S: Store>(
     requires sync { IsSync R.row }
     requires inside { AreNamesIn cx.old.plan names.now }
     ensures effect { IsTrue (S.tells store.old) → EffectIs cx.new.plan (a_write (a_method (tree_of receiver.now) (codes "to_netcdf") (all_arguments arguments.now))) (names_of cx.old.plan names.now) (S.held store.old) result }
-    ensures fits { EffectFits (a_write (a_method (tree_of receiver.now) (codes "to_netcdf") (all_arguments arguments.now))) result }
+    ensures fits { IsTrue (S.tells store.old) → EffectFits (names_of cx.old.plan names.now) (S.held store.old) (a_write (a_method (tree_of receiver.now) (codes "to_netcdf") (all_arguments arguments.now))) result }
     ensures inside { IfOk result (IsEffectIn cx.new.plan) }
     ensures grows { Grows cx.old.plan cx.new.plan }
     ensures keeps { IsTrue (S.tells store.old) → S.held store.new ≡ S.held store.old }
@@ -189,7 +189,7 @@ fn effect_of<R: Threads + Sync, S: Store>(
     requires sync { IsSync R.row }
     requires inside { AreNamesIn cx.old.plan names.now }
     ensures effect { IsTrue (S.tells store.old) → EffectIs cx.new.plan (line_of statement.now) (names_of cx.old.plan names.now) (S.held store.old) result }
-    ensures fits { EffectFits (line_of statement.now) result }
+    ensures fits { IsTrue (S.tells store.old) → EffectFits (names_of cx.old.plan names.now) (S.held store.old) (line_of statement.now) result }
     ensures inside { IfOk result (IsEffectIn cx.new.plan) }
     ensures grows { Grows cx.old.plan cx.new.plan }
     ensures keeps { IsTrue (S.tells store.old) → S.held store.new ≡ S.held store.old }

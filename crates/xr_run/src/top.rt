@@ -2,8 +2,8 @@
 ghost use Rattle.std.specs.Prelude.{◌≡◌, Some, IsTrue};
 ghost use denote.Param.Send.{IsSync};
 ghost use Rattle.xr_run.specs.Words.{script_word as named_script};
-ghost use Rattle.xr_run.specs.Ends.{ScriptEnds, CommandEnds, ScriptKeeps, CommandKeeps, StatusTallied, Untouched};
-ghost use Rattle.xr_run.specs.Top.{RunEnds, RunCounted, unsaid, exit_of};
+ghost use Rattle.xr_run.specs.Ends.{ScriptEnds, CommandEnds, IsNamedEnd, ScriptKeeps, CommandKeeps, StatusTallied, Untouched, WordsAsked};
+ghost use Rattle.xr_run.specs.Top.{AsWords, IsSaid, RunEnds, RunCounted, unsaid, exit_of};
 
 use crate::message::status_line;
 use crate::run_statements::run_statements;
@@ -27,6 +27,7 @@ fn run_bytes<R: Threads + Sync, S: Store, O: Sink>(
     ensures keeps { IsTrue (S.tells store.old) → ScriptKeeps (S.held store.old) bytes.now (S.held store.new) }
     ensures store_tells { S.tells store.new ≡ S.tells store.old }
     ensures out_tells { O.tells out.new ≡ O.tells out.old }
+    ensures named { IsNamedEnd result }
     ensures untouched { Untouched (O.taken out.old) (O.taken out.new) result }
     ensures tallied { StatusTallied (S.faults store.old) (S.faults store.new) (O.faults out.old) (O.faults out.new) result }
 {
@@ -50,6 +51,7 @@ fn run_named<R: Threads + Sync, S: Store, O: Sink>(
     ensures keeps { IsTrue (S.tells store.old) → CommandKeeps (S.held store.old) (Some name.now) (S.held store.new) }
     ensures store_tells { S.tells store.new ≡ S.tells store.old }
     ensures out_tells { O.tells out.new ≡ O.tells out.old }
+    ensures named { IsNamedEnd result }
     ensures untouched { Untouched (O.taken out.old) (O.taken out.new) result }
     ensures tallied { StatusTallied (S.faults store.old) (S.faults store.new) (O.faults out.old) (O.faults out.new) result }
 {
@@ -78,6 +80,7 @@ fn work<R: Threads + Sync, S: Store, O: Sink>(
     ensures keeps { IsTrue (S.tells store.old) → CommandKeeps (S.held store.old) script.now (S.held store.new) }
     ensures store_tells { S.tells store.new ≡ S.tells store.old }
     ensures out_tells { O.tells out.new ≡ O.tells out.old }
+    ensures words { WordsAsked script.now result }
     ensures untouched { Untouched (O.taken out.old) (O.taken out.new) result }
     ensures tallied { StatusTallied (S.faults store.old) (S.faults store.new) (O.faults out.old) (O.faults out.new) result }
 {
@@ -130,6 +133,12 @@ pub fn run<R: Threads + Sync, S: Store, O: Sink, E: Sink, G: Gate>(
 ) -> Status
     // Where nothing failed, status, files and text are those that the definitions give on whole arrays.
     ensures headline { IsTrue (S.tells store.old) → IsTrue (O.tells out.old) → IsTrue (E.tells err.old) → RunEnds (S.held store.old) (named_script words.now) (S.held store.new) (O.taken out.old) (O.taken out.new) (E.taken err.old) (E.taken err.new) result }
+
+    // Each part of it by itself, under what it needs: that the words don't fit by the words, the status and the files by a
+    // store that tells, the text and the line by their sinks.
+    ensures words { AsWords (named_script words.now) result }
+    ensures ends { IsTrue (S.tells store.old) → CommandEnds (S.held store.old) (named_script words.now) (S.held store.new) (O.tells out.old) (O.taken out.old) (O.taken out.new) result }
+    ensures said { IsTrue (E.tells err.old) → IsSaid (named_script words.now) (E.taken err.old) (E.taken err.new) result }
 
     // The store or a sink failed only where its count rose, and a count that rose shows in the status.
     ensures causes { RunCounted (S.faults store.old) (S.faults store.new) (O.faults out.old) (O.faults out.new) (E.faults err.old) (E.faults err.new) result }

@@ -16,8 +16,11 @@ use Rattle.xr_defs.specs.Encoding.{file_of}
 use Rattle.xr_defs.specs.Printing.{array_text, set_text}
 use Rattle.xr_defs.specs.Selecting.{isel_array, isel_set}
 use Rattle.xr_defs.specs.Parts.{picked_of_set, picked_of_array, renamed, to_dataset, own_name, as_set, array_with_attrs, set_with_attrs, transposed, dropped_of_array, dropped_of_set}
-use Rattle.xr_defs.specs.Sums.{sum_called}
 use Rattle.xr_defs.specs.Building.{bound, argument, option, required, data_array, assigned_to_array, assigned_to_set}
+use Rattle.xr_operations.specs.Methods.{array_method, is_cell_method}
+use Rattle.xr_operations.specs.Moves.{diff_array, diff_set, roll_array, roll_set, shift_array, shift_set}
+use Rattle.xr_operations.specs.Reductions.{cumsum_array, cumsum_set, reduced_array, reduced_set, reduction_named}
+use Rattle.xr_operations.specs.Selection.{sel_array, sel_set}
 use Rattle.xr_defs.specs.Meanings.{Value, Truth, Number, Text, Array, Set, GroupedArray, GroupedSet, Given}
 use Rattle.xr_defs.specs.Arguments.{wrong, unfit, as_text, slice_given}
 
@@ -90,17 +93,37 @@ promoting = codes "mean" ∷ codes "std" ∷ codes "var" ∷ codes "median" ∷ 
 unfoldable pub other_method : Value → List ℕ → Result Value Fault
 other_method v name = if among promoting name then Err (if is_labelled_data v || is_grouped v then WouldPromote else WrongKind) else Err (UnknownName name)
 
--- those that compute no cells
+-- a reduction of some or all dimensions
+unfoldable pub reduction_called : Value → List ℕ → Given → Result Value Fault
+reduction_called v name g =
+    elim (reduction_named name) [ None ↦ other_method v name | Some k ↦ of_both (λ a. reduced_array k a g) (λ s. reduced_set k s g) v ]
+
+-- cells moved along dimensions, and differences of neighbours
+unfoldable pub move_or_reduction : Value → List ℕ → Given → Result Value Fault
+move_or_reduction v name g =
+    if bytes_eq name (codes "shift") then of_both (λ a. shift_array a g) (λ s. shift_set s g) v
+    else if bytes_eq name (codes "roll") then of_both (λ a. roll_array a g) (λ s. roll_set s g) v
+    else if bytes_eq name (codes "diff") then of_both (λ a. diff_array a g) (λ s. diff_set s g) v
+    else reduction_called v name g
+
+-- those that give new cells: cell by cell, by running sums, moved, and by reductions
+unfoldable pub method_on_cells : Value → List ℕ → Given → Result Value Fault
+method_on_cells v name g =
+    if is_cell_method name then of_array (λ a. array_method name a g >>= λ b. Ok (Array b)) v
+    else if bytes_eq name (codes "cumsum") then of_both (λ a. cumsum_array a g) (λ s. cumsum_set s g) v
+    else move_or_reduction v name g
+
+-- those that compute no cells at once
 unfoldable pub uncomputed_method : Value → List ℕ → Given → Result Value Fault
 uncomputed_method v name g =
     if bytes_eq name (codes "isel") then of_both (λ a. isel_array a g) (λ s. isel_set s g) v
+    else if bytes_eq name (codes "sel") then of_both (λ a. sel_array a g) (λ s. sel_set s g) v
     else if bytes_eq name (codes "transpose") then of_array (λ a. transposed a g >>= λ b. Ok (Array b)) v
     else if bytes_eq name (codes "drop_vars") then of_both (λ a. dropped_of_array a g) (λ s. dropped_of_set s g) v
     else if bytes_eq name (codes "assign_attrs") then of_both (array_with_attrs g) (set_with_attrs g) v
     else if bytes_eq name (codes "rename") then of_array (λ a. renamed a g >>= λ b. Ok (Array b)) v
     else if bytes_eq name (codes "to_dataset") then of_array (λ a. to_dataset a g >>= λ s. Ok (Set s)) v
-    else if bytes_eq name (codes "sum") then of_array (sum_called g) v
-    else other_method v name
+    else method_on_cells v name g
 
 -- those, and the one that computes the arrays that become coordinates
 unfoldable pub method_called : Value → List ℕ → Given → Result Value Fault

@@ -10,7 +10,7 @@ use Rattle.xr_defs.specs.Stores.{Files}
 use Rattle.xr_syntax.specs.Syntax as tree
 use Rattle.xr_syntax.specs.Syntax.{Tree, Trees, Args}
 use Rattle.xr_defs.specs.Meanings.{Value, Values, Entries, Absent, Missing, Truth, Number, Text, Sequence, Table, NoValue, With, NoEntry, Entry, Given, no_arguments, and_plain, and_keyed}
-use Rattle.xr_defs.specs.Arguments.{wrong}
+use Rattle.xr_operations.specs.Arithmetic.{binary_called, unary_called}
 use Rattle.xr_runs.specs.Calls.{function_called, method_called, part_picked}
 
 -- the value that each name stands for
@@ -26,15 +26,14 @@ constant_value constant.False = Truth false
 constant_value constant.None = Absent
 constant_value constant.Na = Missing
 
--- no operator takes these values so far
 unfoldable mutual
   pub value_of : Names → Files → Tree → Result Value Fault
   value_of names files (tree.Variable name) = named names name
   value_of names files (tree.Whole n) = Ok (Number n)
   value_of names files (tree.Words t) = Ok (Text t)
   value_of names files (tree.Constantly c) = Ok (constant_value c)
-  value_of names files (tree.Unary op a) = value_of names files a >>= λ v. wrong
-  value_of names files (tree.Binary op a b) = value_of names files a >>= λ v. value_of names files b >>= λ w. wrong
+  value_of names files (tree.Unary op a) = value_of names files a >>= λ v. unary_called op v
+  value_of names files (tree.Binary op a b) = value_of names files a >>= λ v. value_of names files b >>= λ w. binary_called op v w
   value_of names files (tree.Call name gs) = given_of names files gs >>= λ g. function_called files name g
   value_of names files (tree.Method a name gs) = value_of names files a >>= λ v. given_of names files gs >>= λ g. method_called v name g
   value_of names files (tree.Index a t) = value_of names files a >>= λ v. part_picked v t

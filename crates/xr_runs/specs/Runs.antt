@@ -35,6 +35,11 @@ with_text s text = record s { text = s.text ++ text }
 abbrev pub with_file : State → List ℕ → List ℕ → State
 with_file s name bytes = record s { files = put s.files name bytes }
 
+-- the name of the file that a statement puts, and its bytes
+unfoldable pub written_by : Names → Files → Tree → Result (List ℕ × List ℕ) Fault
+written_by names files (tree.Method e f gs) = value_of names files e >>= λ v. given_of names files gs >>= λ g. set_written v g
+written_by names files e = Err WrongKind
+
 -- The next state, or the statement's first fault. No function aligns, and no variable is set in a dataset, so far.
 unfoldable pub step : Line → State → Result State Fault
 step (tree.Assigned name e) s = value_of s.names s.files e >>= λ v. Ok (with_name s name v)
@@ -42,8 +47,7 @@ step (tree.Aligned names (tree.Call f gs)) s = given_of s.names s.files gs >>= �
 step (tree.Aligned names e) s = Err WrongKind
 step (tree.Placed name variable e) s = value_of s.names s.files e >>= λ v. named s.names name >>= λ w. Err WrongKind
 step (tree.Printed e) s = value_of s.names s.files e >>= λ v. text_printed v >>= λ text. Ok (with_text s text)
-step (tree.Written (tree.Method e f gs)) s = value_of s.names s.files e >>= λ v. given_of s.names s.files gs >>= λ g. set_written v g >>= λ w. Ok (with_file s w.0 w.1)
-step (tree.Written e) s = Err WrongKind
+step (tree.Written e) s = written_by s.names s.files e >>= λ w. Ok (with_file s w.0 w.1)
 
 -- how a run ended: its status, the files, and the text printed
 pub record Ended : Type 0 where
@@ -59,10 +63,9 @@ unfoldable pub run_from : ℕ → List Line → State → Ended
 run_from n [] s = ended Done s
 run_from n (l ∷ ls) s = elim (step l s) [ Err f ↦ ended (Refused n f) s | Ok t ↦ run_from (n + 1) ls t ]
 
--- A name of a file that a run of these statements puts, from this state on: the next one makes bytes those of the name, or
--- a later one does.
+-- A name of a file that a run of these statements puts, from this state on: the next one does, or a later one.
 pub data IsPut : List Line → State → List ℕ → Type 0 where
-  put_now : (e : Tree) (ls : List Line) (s : State) (n bytes : List ℕ) → step (tree.Written e) s ≡ Ok (with_file s n bytes) → IsPut (tree.Written e ∷ ls) s n
+  put_now : (e : Tree) (ls : List Line) (s : State) (n bytes : List ℕ) → written_by s.names s.files e ≡ Ok (n, bytes) → IsPut (tree.Written e ∷ ls) s n
   put_later : (l : Line) (ls : List Line) (s t : State) (n : List ℕ) → step l s ≡ Ok t → IsPut ls t n → IsPut (l ∷ ls) s n
 
 -- before the first statement there are no names and no text

@@ -7,7 +7,9 @@ use Rattle.std.proofs.lemmas.Int.{to_z-of_z}
 use Rattle.std.proofs.lemmas.List.Elements.{All-nil}
 use Rattle.xr_types.specs.declared.text.TextBytes.{TextBytes}
 use Rattle.xr_arrays.specs.declared.node.Node.{Node}
+use Rattle.xr_types.specs.Results.{◌>>=◌}
 use Rattle.xr_defs.specs.Meanings.{Values, Entries, With, Entry}
+use Rattle.xr_operations.specs.Arithmetic.{binary_called}
 use Rattle.xr_syntax.specs.Syntax.{tree_of, all_arguments, all_trees, all_entries}
 use Rattle.xr_runs.specs.Evaluation.{value_of, given_of, values_of, entries_of}
 use Rattle.plan_core.proofs.Plans.{grows_by_none, grows_on}
@@ -23,8 +25,8 @@ use Rattle.xr_run.proofs.Lists.{given_is, values_are, entries_are}
 use Rattle.xr_run.proofs.Layers.{name_tree, number_tree, text_tree, constant_tree, unary_tree, index_tree, binary_tree, call_tree, method_tree, items_tree, table_tree}
 use Rattle.xr_run.proofs.ValuesKept.{values_kept, entries_kept, stay_entries}
 use Rattle.xr_run.proofs.NamesKept.{names_kept, stay_names}
-use Rattle.xr_run.proofs.Forms.{name_from, number_from, text_from, constant_from, unary_fails, unary_wrong, index_from, index_fails, receiver_fails}
-use Rattle.xr_run.proofs.Forms.{no_fault, operand_fails, binary_fails, binary_wrong, call_from, call_fails, method_from, method_fails, items_from, items_fail, table_from, table_fails}
+use Rattle.xr_run.proofs.Forms.{name_from, number_from, text_from, constant_from, unary_fails, unary_from, index_from, index_fails, receiver_fails}
+use Rattle.xr_run.proofs.Forms.{no_fault, operand_fails, binary_last, binary_rest, call_from, call_fails, method_from, method_fails, items_from, items_fail, table_from, table_fails}
 use Rattle.xr_run.proofs.Forms.{given_more, given_stops, given_ends, values_more, values_stop, values_end, entries_more, entries_stop, entries_end}
 use Rattle.xr_run.proofs.eval.+evaluation.Goals as goal
 
@@ -59,7 +61,7 @@ eval-returns-in-Constant-clause-value g t c = λ s.
 pub eval-returns-in-Ok-clause-value : goal.eval-returns-in-Ok-clause-value
 eval-returns-in-Ok-clause-value g t c = λ s.
     let value = ap (λ x. value_of (names_of c.args.cx.now.plan c.args.names.now) (g.S.Store.held c.args.store.now) (tree_of x)) (sym c.deref.ensures) ∙ c.in-Ok.ensures.value s in
-    rw c.refuse.ensures (unary_wrong (names_of c.args.cx.now.plan c.args.names.now) (g.S.Store.held c.args.store.now) (tree_of c.args.expr.now) _ _ _ (unary_tree _ _ _ c.in-Unary.is) value)
+    unary_from (meaning c.unary_value.new.plan) (names_of c.args.cx.now.plan c.args.names.now) (g.S.Store.held c.args.store.now) (tree_of c.args.expr.now) _ c.in-Unary.op _ c.unary_value.result (unary_tree _ _ _ c.in-Unary.is) value c.unary_value.ensures.value
 
 pub eval-returns-in-Unary-clause-value : goal.eval-returns-in-Unary-clause-value
 eval-returns-in-Unary-clause-value g t c = λ s.
@@ -68,30 +70,23 @@ eval-returns-in-Unary-clause-value g t c = λ s.
     let h = subst (λ x. GivesOrFails (meaning later) (Err failed) (value_of (names_of c.args.cx.now.plan c.args.names.now) (g.S.Store.held c.args.store.now) (tree_of x))) c.deref.ensures (c.in-Err.ensures.value s) in
     unary_fails (meaning later) (meaning later) (names_of c.args.cx.now.plan c.args.names.now) (g.S.Store.held c.args.store.now) (tree_of c.args.expr.now) _ _ failed (unary_tree _ _ _ c.in-Unary.is) h
 
-pub eval-returns-in-Binary-clause-value : goal.eval-returns-in-Binary-clause-value
-eval-returns-in-Binary-clause-value g t c = λ s.
-    let failed = c.in-Err-eval.stopped in
-    let later = c.eval-in-Binary.new.cx.plan in
-    let h = subst (λ x. GivesOrFails (meaning later) (Err failed) (value_of (names_of c.args.cx.now.plan c.args.names.now) (g.S.Store.held c.args.store.now) (tree_of x))) c.deref-in-Binary.ensures (c.in-Err-eval.ensures.value s) in
-    operand_fails (meaning later) (meaning later) (names_of c.args.cx.now.plan c.args.names.now) (g.S.Store.held c.args.store.now) (tree_of c.args.expr.now) _ _ _ failed (binary_tree _ _ _ _ c.in-Binary.is) h
-
 pub eval-returns-in-Method-clause-value : goal.eval-returns-in-Method-clause-value
 eval-returns-in-Method-clause-value g t c = λ s.
-    let failed = c.in-Err-eval-3.stopped in
+    let failed = c.in-Err-eval-2.stopped in
     let later = c.eval-in-Method.new.cx.plan in
-    let h = subst (λ x. GivesOrFails (meaning later) (Err failed) (value_of (names_of c.args.cx.now.plan c.args.names.now) (g.S.Store.held c.args.store.now) (tree_of x))) c.deref-in-Method.ensures (c.in-Err-eval-3.ensures.value s) in
+    let h = subst (λ x. GivesOrFails (meaning later) (Err failed) (value_of (names_of c.args.cx.now.plan c.args.names.now) (g.S.Store.held c.args.store.now) (tree_of x))) c.deref-in-Method.ensures (c.in-Err-eval-2.ensures.value s) in
     receiver_fails (meaning later) (meaning later) (names_of c.args.cx.now.plan c.args.names.now) (g.S.Store.held c.args.store.now) (tree_of c.args.expr.now) _ c.in-Method.name _ failed (method_tree _ _ _ _ c.in-Method.is) h
 
-pub eval-returns-in-Ok-eval-4-clause-value : goal.eval-returns-in-Ok-eval-4-clause-value
-eval-returns-in-Ok-eval-4-clause-value g t c = λ s.
-    let value = ap (λ x. value_of (names_of c.args.cx.now.plan c.args.names.now) (g.S.Store.held c.args.store.now) (tree_of x)) (sym c.deref-in-Index.ensures) ∙ c.in-Ok-eval-4.ensures.value s in
+pub eval-returns-in-Ok-eval-3-clause-value : goal.eval-returns-in-Ok-eval-3-clause-value
+eval-returns-in-Ok-eval-3-clause-value g t c = λ s.
+    let value = ap (λ x. value_of (names_of c.args.cx.now.plan c.args.names.now) (g.S.Store.held c.args.store.now) (tree_of x)) (sym c.deref-in-Index.ensures) ∙ c.in-Ok-eval-3.ensures.value s in
     index_from (meaning c.picked_value.new.plan) (names_of c.args.cx.now.plan c.args.names.now) (g.S.Store.held c.args.store.now) (tree_of c.args.expr.now) _ c.in-Index.name _ c.picked_value.result (index_tree _ _ _ c.in-Index.is) value c.picked_value.ensures.value
 
 pub eval-returns-in-Index-clause-value : goal.eval-returns-in-Index-clause-value
 eval-returns-in-Index-clause-value g t c = λ s.
-    let failed = c.in-Err-eval-4.stopped in
+    let failed = c.in-Err-eval-3.stopped in
     let later = c.eval-in-Index.new.cx.plan in
-    let h = subst (λ x. GivesOrFails (meaning later) (Err failed) (value_of (names_of c.args.cx.now.plan c.args.names.now) (g.S.Store.held c.args.store.now) (tree_of x))) c.deref-in-Index.ensures (c.in-Err-eval-4.ensures.value s) in
+    let h = subst (λ x. GivesOrFails (meaning later) (Err failed) (value_of (names_of c.args.cx.now.plan c.args.names.now) (g.S.Store.held c.args.store.now) (tree_of x))) c.deref-in-Index.ensures (c.in-Err-eval-3.ensures.value s) in
     index_fails (meaning later) (meaning later) (names_of c.args.cx.now.plan c.args.names.now) (g.S.Store.held c.args.store.now) (tree_of c.args.expr.now) _ c.in-Index.name failed (index_tree _ _ _ c.in-Index.is) h
 
 pub eval-returns-in-Ok-eval_arguments-clause-value : goal.eval-returns-in-Ok-eval_arguments-clause-value
@@ -111,30 +106,30 @@ eval-returns-in-Call-clause-value g t c = λ s.
 
 pub eval-returns-in-Ok-eval_arguments-2-clause-value : goal.eval-returns-in-Ok-eval_arguments-2-clause-value
 eval-returns-in-Ok-eval_arguments-2-clause-value g t c = λ s.
-    let first = c.in-Ok-eval-3.ensures in
+    let first = c.in-Ok-eval-2.ensures in
     let second = c.in-Ok-eval_arguments-2.ensures in
     let told = subst (λ (b : Bool). IsTrue b) (sym first.tells) s in
     let start = c.args.cx.now.plan in
     let mid = c.eval-in-Method.new.cx.plan in
-    let later = c.eval_arguments-in-Ok-eval-3.new.cx.plan in
+    let later = c.eval_arguments-in-Ok-eval-2.new.cx.plan in
     let value = ap (λ x. value_of (names_of start c.args.names.now) (g.S.Store.held c.args.store.now) (tree_of x)) (sym c.deref-in-Method.ensures) ∙ first.value s in
-    let has = ap (λ xs. given_of (names_of mid c.args.names.now) (g.S.Store.held c.eval-in-Method.new.store) (all_arguments xs)) (sym c.as_slice-in-Ok-eval-3.ensures.value) ∙ second.value told in
+    let has = ap (λ xs. given_of (names_of mid c.args.names.now) (g.S.Store.held c.eval-in-Method.new.store) (all_arguments xs)) (sym c.as_slice-in-Ok-eval-2.ensures.value) ∙ second.value told in
     let same_names = names_kept start mid c.args.names.now first.grows c.requires.inside in
-    let kept = meaning_kept mid later c.in-Ok-eval-3.value second.grows first.inside in
-    method_from (meaning c.method_value.new.cx.plan) (names_of start c.args.names.now) (names_of mid c.args.names.now) (g.S.Store.held c.args.store.now) (g.S.Store.held c.eval-in-Method.new.store) (tree_of c.args.expr.now) (tree_of c.in-Method.receiver.value) c.in-Method.name (all_arguments c.in-Method.arguments.items) (meaning mid c.in-Ok-eval-3.value) (meaning later c.in-Ok-eval-3.value) (given later c.in-Ok-eval_arguments-2.args) c.method_value.result
+    let kept = meaning_kept mid later c.in-Ok-eval-2.value second.grows first.inside in
+    method_from (meaning c.method_value.new.cx.plan) (names_of start c.args.names.now) (names_of mid c.args.names.now) (g.S.Store.held c.args.store.now) (g.S.Store.held c.eval-in-Method.new.store) (tree_of c.args.expr.now) (tree_of c.in-Method.receiver.value) c.in-Method.name (all_arguments c.in-Method.arguments.items) (meaning mid c.in-Ok-eval-2.value) (meaning later c.in-Ok-eval-2.value) (given later c.in-Ok-eval_arguments-2.args) c.method_value.result
     (method_tree _ _ _ _ c.in-Method.is) value same_names (first.keeps s) has kept c.method_value.ensures.value
 
-pub eval-returns-in-Ok-eval-3-clause-value : goal.eval-returns-in-Ok-eval-3-clause-value
-eval-returns-in-Ok-eval-3-clause-value g t c = λ s.
-    let first = c.in-Ok-eval-3.ensures in
+pub eval-returns-in-Ok-eval-2-clause-value : goal.eval-returns-in-Ok-eval-2-clause-value
+eval-returns-in-Ok-eval-2-clause-value g t c = λ s.
+    let first = c.in-Ok-eval-2.ensures in
     let told = subst (λ (b : Bool). IsTrue b) (sym first.tells) s in
     let start = c.args.cx.now.plan in
     let mid = c.eval-in-Method.new.cx.plan in
-    let later = c.eval_arguments-in-Ok-eval-3.new.cx.plan in
+    let later = c.eval_arguments-in-Ok-eval-2.new.cx.plan in
     let value = ap (λ x. value_of (names_of start c.args.names.now) (g.S.Store.held c.args.store.now) (tree_of x)) (sym c.deref-in-Method.ensures) ∙ first.value s in
     let failed = c.in-Err-eval_arguments-2.stopped in
-    let h = subst (λ xs. GivesOrFails (given later) (Err failed) (given_of (names_of mid c.args.names.now) (g.S.Store.held c.eval-in-Method.new.store) (all_arguments xs))) c.as_slice-in-Ok-eval-3.ensures.value (c.in-Err-eval_arguments-2.ensures.value told) in
-    method_fails (meaning later) (given later) (names_of start c.args.names.now) (names_of mid c.args.names.now) (g.S.Store.held c.args.store.now) (g.S.Store.held c.eval-in-Method.new.store) (tree_of c.args.expr.now) (tree_of c.in-Method.receiver.value) c.in-Method.name (all_arguments c.in-Method.arguments.items) (meaning mid c.in-Ok-eval-3.value) failed
+    let h = subst (λ xs. GivesOrFails (given later) (Err failed) (given_of (names_of mid c.args.names.now) (g.S.Store.held c.eval-in-Method.new.store) (all_arguments xs))) c.as_slice-in-Ok-eval-2.ensures.value (c.in-Err-eval_arguments-2.ensures.value told) in
+    method_fails (meaning later) (given later) (names_of start c.args.names.now) (names_of mid c.args.names.now) (g.S.Store.held c.args.store.now) (g.S.Store.held c.eval-in-Method.new.store) (tree_of c.args.expr.now) (tree_of c.in-Method.receiver.value) c.in-Method.name (all_arguments c.in-Method.arguments.items) (meaning mid c.in-Ok-eval-2.value) failed
     (method_tree _ _ _ _ c.in-Method.is) value (names_kept start mid c.args.names.now first.grows c.requires.inside) (first.keeps s) h
 
 pub eval-returns-in-Ok-eval_items-clause-value : goal.eval-returns-in-Ok-eval_items-clause-value
@@ -306,37 +301,11 @@ eval_entries-returns-clause-value g t c = λ s.
 pub eval-returns-in-Name-clause-tallied : goal.eval-returns-in-Name-clause-tallied
 eval-returns-in-Name-clause-tallied g t c = no_fault (meaning c.args.cx.now.plan) c.value_named.result _ _ (c.value_named.ensures.value c.args.cx.now.plan)
 
-pub eval-eval-requires-in-Ok-eval-clause-inside : goal.eval-eval-requires-in-Ok-eval-clause-inside
-eval-eval-requires-in-Ok-eval-clause-inside g t c = λ κs live. stay_names c.args.cx.now.plan _ c.args.names.now c.in-Ok-eval.ensures.grows c.requires.inside
-
-pub eval-returns-in-Ok-eval-2-clause-value : goal.eval-returns-in-Ok-eval-2-clause-value
-eval-returns-in-Ok-eval-2-clause-value g t c = λ s.
-    let first = c.in-Ok-eval.ensures in
-    let second = c.in-Ok-eval-2.ensures in
-    let told = subst (λ (b : Bool). IsTrue b) (sym first.tells) s in
-    let start = c.args.cx.now.plan in
-    let value = ap (λ x. value_of (names_of start c.args.names.now) (g.S.Store.held c.args.store.now) (tree_of x)) (sym c.deref-in-Binary.ensures) ∙ first.value s in
-    let mid = c.eval-in-Binary.new.cx.plan in
-    let other = ap (λ x. value_of (names_of mid c.args.names.now) (g.S.Store.held c.eval-in-Binary.new.store) (tree_of x)) (sym c.deref-in-Ok-eval.ensures) ∙ second.value told in
-    rw c.refuse-in-Ok-eval-2.ensures (binary_wrong (names_of start c.args.names.now) (names_of mid c.args.names.now) (g.S.Store.held c.args.store.now) (g.S.Store.held c.eval-in-Binary.new.store) (tree_of c.args.expr.now) _ _ _ _ _ (binary_tree _ _ _ _ c.in-Binary.is) value (names_kept start mid c.args.names.now first.grows c.requires.inside) (first.keeps s) other)
-
-pub eval-returns-in-Ok-eval-clause-value : goal.eval-returns-in-Ok-eval-clause-value
-eval-returns-in-Ok-eval-clause-value g t c = λ s.
-    let first = c.in-Ok-eval.ensures in
-    let told = subst (λ (b : Bool). IsTrue b) (sym first.tells) s in
-    let start = c.args.cx.now.plan in
-    let value = ap (λ x. value_of (names_of start c.args.names.now) (g.S.Store.held c.args.store.now) (tree_of x)) (sym c.deref-in-Binary.ensures) ∙ first.value s in
-    let mid = c.eval-in-Binary.new.cx.plan in
-    let later = c.eval-in-Ok-eval.new.cx.plan in
-    let failed = c.in-Err-eval-2.stopped in
-    let other = subst (λ x. GivesOrFails (meaning later) (Err failed) (value_of (names_of mid c.args.names.now) (g.S.Store.held c.eval-in-Binary.new.store) (tree_of x))) c.deref-in-Ok-eval.ensures (c.in-Err-eval-2.ensures.value told) in
-    binary_fails (meaning later) (meaning later) (names_of start c.args.names.now) (names_of mid c.args.names.now) (g.S.Store.held c.args.store.now) (g.S.Store.held c.eval-in-Binary.new.store) (tree_of c.args.expr.now) _ _ _ _ c.in-Err-eval-2.stopped (binary_tree _ _ _ _ c.in-Binary.is) value (names_kept start mid c.args.names.now first.grows c.requires.inside) (first.keeps s) other
-
-pub eval-eval_arguments-requires-in-Ok-eval-3-clause-inside : goal.eval-eval_arguments-requires-in-Ok-eval-3-clause-inside
-eval-eval_arguments-requires-in-Ok-eval-3-clause-inside g t c = λ κs live. stay_names c.args.cx.now.plan _ c.args.names.now c.in-Ok-eval-3.ensures.grows c.requires.inside
+pub eval-eval_arguments-requires-in-Ok-eval-2-clause-inside : goal.eval-eval_arguments-requires-in-Ok-eval-2-clause-inside
+eval-eval_arguments-requires-in-Ok-eval-2-clause-inside g t c = λ κs live. stay_names c.args.cx.now.plan _ c.args.names.now c.in-Ok-eval-2.ensures.grows c.requires.inside
 
 pub eval-method_value-requires-clause-inside : goal.eval-method_value-requires-clause-inside
-eval-method_value-requires-clause-inside g t c = λ κs live. stays_value _ _ c.in-Ok-eval-3.value c.in-Ok-eval_arguments-2.ensures.grows c.in-Ok-eval-3.ensures.inside
+eval-method_value-requires-clause-inside g t c = λ κs live. stays_value _ _ c.in-Ok-eval-2.value c.in-Ok-eval_arguments-2.ensures.grows c.in-Ok-eval-2.ensures.inside
 
 pub eval_arguments-eval-requires-clause-inside : goal.eval_arguments-eval-requires-clause-inside
 eval_arguments-eval-requires-clause-inside g t c = λ κs live. stay_names c.args.cx.now.plan _ c.args.names.now c.loop-argument.invariant.grows c.requires.inside
@@ -346,3 +315,35 @@ eval_entries-eval-requires-clause-inside g t c = λ κs live. stay_names c.args.
 
 pub eval_items-eval-requires-clause-inside : goal.eval_items-eval-requires-clause-inside
 eval_items-eval-requires-clause-inside g t c = λ κs live. stay_names c.args.cx.now.plan _ c.args.names.now c.loop-item.invariant.grows c.requires.inside
+
+pub eval-eval_right-requires-clause-inside : goal.eval-eval_right-requires-clause-inside
+eval-eval_right-requires-clause-inside g t c = λ κs live. stay_names c.args.cx.now.plan _ c.args.names.now c.in-Ok-eval.ensures.grows c.requires.inside
+
+pub eval-returns-in-Ok-eval-clause-value : goal.eval-returns-in-Ok-eval-clause-value
+eval-returns-in-Ok-eval-clause-value g t c = λ s.
+    let first = c.in-Ok-eval.ensures in
+    let told = subst (λ (b : Bool). IsTrue b) (sym first.tells) s in
+    let start = c.args.cx.now.plan in
+    let mid = c.eval-in-Binary.new.cx.plan in
+    let later = c.eval_right.new.cx.plan in
+    let value = ap (λ x. value_of (names_of start c.args.names.now) (g.S.Store.held c.args.store.now) (tree_of x)) (sym c.deref-in-Binary.ensures) ∙ first.value s in
+    let rest = subst (λ x. GivesOrFails (meaning later) c.eval_right.result (value_of (names_of mid c.args.names.now) (g.S.Store.held c.eval-in-Binary.new.store) (tree_of x) >>= λ w. binary_called c.in-Binary.op (meaning mid c.in-Ok-eval.left) w)) c.deref-in-Ok-eval.ensures (c.eval_right.ensures.value told) in
+    binary_rest (meaning later) (names_of start c.args.names.now) (names_of mid c.args.names.now) (g.S.Store.held c.args.store.now) (g.S.Store.held c.eval-in-Binary.new.store) (tree_of c.args.expr.now) _ _ c.in-Binary.op (meaning mid c.in-Ok-eval.left) c.eval_right.result
+    (binary_tree _ _ _ _ c.in-Binary.is) value (names_kept start mid c.args.names.now first.grows c.requires.inside) (first.keeps s) rest
+
+pub eval-returns-in-Binary-clause-value : goal.eval-returns-in-Binary-clause-value
+eval-returns-in-Binary-clause-value g t c = λ s.
+    let failed = c.in-Err-eval.stopped in
+    let later = c.eval-in-Binary.new.cx.plan in
+    let h = subst (λ x. GivesOrFails (meaning later) (Err failed) (value_of (names_of c.args.cx.now.plan c.args.names.now) (g.S.Store.held c.args.store.now) (tree_of x))) c.deref-in-Binary.ensures (c.in-Err-eval.ensures.value s) in
+    operand_fails (meaning later) (meaning later) (names_of c.args.cx.now.plan c.args.names.now) (g.S.Store.held c.args.store.now) (tree_of c.args.expr.now) _ _ _ failed (binary_tree _ _ _ _ c.in-Binary.is) h
+
+pub eval_right-binary_value-requires-clause-left : goal.eval_right-binary_value-requires-clause-left
+eval_right-binary_value-requires-clause-left g t c = stays_value _ _ c.args.left c.in-Ok.ensures.grows c.requires.left
+
+pub eval_right-returns-in-Ok-clause-value : goal.eval_right-returns-in-Ok-clause-value
+eval_right-returns-in-Ok-clause-value g t c = λ s.
+    let start = c.args.cx.now.plan in
+    let later = c.eval.new.cx.plan in
+    binary_last (meaning c.binary_value.new.plan) (names_of start c.args.names.now) (g.S.Store.held c.args.store.now) (tree_of c.args.expr.now) c.args.op (meaning start c.args.left) (meaning later c.args.left) (meaning later c.in-Ok.right) c.binary_value.result
+    (c.in-Ok.ensures.value s) (meaning_kept start later c.args.left c.in-Ok.ensures.grows c.requires.left) c.binary_value.ensures.value

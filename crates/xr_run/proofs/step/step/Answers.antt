@@ -27,8 +27,8 @@ pub returns-in-Ok-clause-keeps : goal.returns-in-Ok-clause-keeps
 returns-in-Ok-clause-keeps g c = λ s.
     let e = c.in-Ok.ensures in
     let told = subst (λ (b : Bool). IsTrue b) (sym e.tells) s in
-    kept_by c.effect_of.new.cx.plan (line_of c.args.statement.now) c.in-Ok.effect (names_of c.args.cx.now.plan c.args.names.now)
-    (g.S.Store.held c.args.store.now) (g.S.Store.held c.effect_of.new.store) (g.S.Store.held c.perform.new.store) (e.keeps s) (e.effect s) e.fits (c.perform.ensures.keeps told)
+    kept_by (line_of c.args.statement.now) c.in-Ok.effect (names_of c.args.cx.now.plan c.args.names.now)
+    (g.S.Store.held c.args.store.now) (g.S.Store.held c.effect_of.new.store) (g.S.Store.held c.perform.new.store) (e.keeps s) (e.fits s) (c.perform.ensures.keeps told)
 
 pub returns-in-Err-clause-step : goal.returns-in-Err-clause-step
 returns-in-Err-clause-step g c = λ s.

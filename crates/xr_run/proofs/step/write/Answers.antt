@@ -4,7 +4,7 @@ use Rattle.xr_syntax.specs.Syntax.{tree_of, all_arguments}
 use Rattle.xr_values.specs.Meaning.{meaning, given}
 use Rattle.xr_values.proofs.Meaning.{meaning_kept, stays_value}
 use Rattle.xr_run.specs.Named.{names_of}
-use Rattle.xr_run.proofs.Carried.{unargued, unwritten, wrote_file}
+use Rattle.xr_run.proofs.Carried.{put_file, unargued, unwritten, wrote_file}
 use Rattle.xr_run.proofs.NamesKept.{names_kept, stay_names}
 use Rattle.xr_run.proofs.step.write.Goals as goal
 
@@ -23,6 +23,20 @@ returns-in-Ok-written-clause-effect g c = λ s.
     let mid = c.eval.new.cx.plan in
     let later = c.eval_arguments.new.cx.plan in
     wrote_file c.written.new.cx.plan (names_of start c.args.names.now) (names_of mid c.args.names.now) (g.S.Store.held c.args.store.now) (g.S.Store.held c.eval.new.store)
+    (tree_of c.args.receiver.now) (codes "to_netcdf") (all_arguments c.args.arguments.now) (meaning mid c.in-Ok.value) (meaning later c.in-Ok.value)
+    (first.value s) (names_kept start mid c.args.names.now first.grows c.requires.inside) (first.keeps s)
+    (given later c.in-Ok-eval_arguments.args) (second.value told) (meaning_kept mid later c.in-Ok.value second.grows first.inside)
+    c.in-Ok-written.name c.in-Ok-written.pieces c.in-Ok-written.ensures.put
+
+pub returns-in-Ok-written-clause-fits : goal.returns-in-Ok-written-clause-fits
+returns-in-Ok-written-clause-fits g c = λ s.
+    let first = c.in-Ok.ensures in
+    let second = c.in-Ok-eval_arguments.ensures in
+    let told = subst (λ (b : Bool). IsTrue b) (sym first.tells) s in
+    let start = c.args.cx.now.plan in
+    let mid = c.eval.new.cx.plan in
+    let later = c.eval_arguments.new.cx.plan in
+    put_file c.written.new.cx.plan (names_of start c.args.names.now) (names_of mid c.args.names.now) (g.S.Store.held c.args.store.now) (g.S.Store.held c.eval.new.store)
     (tree_of c.args.receiver.now) (codes "to_netcdf") (all_arguments c.args.arguments.now) (meaning mid c.in-Ok.value) (meaning later c.in-Ok.value)
     (first.value s) (names_kept start mid c.args.names.now first.grows c.requires.inside) (first.keeps s)
     (given later c.in-Ok-eval_arguments.args) (second.value told) (meaning_kept mid later c.in-Ok.value second.grows first.inside)
