@@ -25,7 +25,7 @@ fn pieces_in_memory(rt: HostRuntime) -> Result<(), Fail> {
     );
     let second = pieces_of(alloc, &[b"another ", b"text"])?;
     let failed = store.put_pieces(alloc, &name, second);
-    assert!(rt; matches!(failed, Err(StoreFault::Failed)));
+    assert!(rt; failed.is_err());
     assert_eq!(rt;
         store.bytes_of(&name).ok_or("a.nc")?,
         b"two pieces".as_slice()
@@ -33,5 +33,20 @@ fn pieces_in_memory(rt: HostRuntime) -> Result<(), Fail> {
     let none = pieces_of(alloc, &[])?;
     assert!(rt; store.put_pieces(alloc, &name, none).is_ok());
     assert!(rt; store.bytes_of(&name).ok_or("a.nc")?.is_empty());
+    Ok(())
+}
+
+#[test]
+fn a_put_that_fails_takes_no_room(rt: HostRuntime) -> Result<(), Fail> {
+    let alloc = rt.alloc();
+    let mut store = MemStore::new(alloc, &[], 16, &[1]).ok().ok_or("memory")?;
+    let name = TextBytes::from_str(alloc, "a.nc").ok().ok_or("memory")?;
+    let failed = store.put(&name, b"twelve bytes");
+    assert!(rt; failed.is_err());
+    assert!(rt; store.put(&name, b"twelve bytes").is_ok());
+    assert_eq!(rt;
+        store.bytes_of(&name).ok_or("a.nc")?,
+        b"twelve bytes".as_slice()
+    );
     Ok(())
 }
