@@ -1,52 +1,15 @@
 //! The value of a node from those of its inputs.
-ghost use Rattle.std.specs.Prelude.{◌≡◌, ◌<◌, ◌≤◌, [], length, All, IfOk};
-ghost use Rattle.xr_types.specs.Points.{size};
-ghost use Rattle.xr_arrays.specs.Nodes.{value, node_of, AllFit, IsOrder, reordered, widened, most_node_cells};
-ghost use Rattle.plan_core.specs.Widens.{IsWidening};
+ghost use Rattle.std.specs.Prelude.{◌≡◌, ◌<◌, [], length, All, IfOk};
+ghost use Rattle.xr_arrays.specs.Nodes.{value, node_of, AllFit};
 ghost use Rattle.plan_core.specs.Needs.{inputs_at, IsHeld, IsReady};
 
-use crate::arrange::rearrange;
-use crate::axis_take::take;
 use crate::cellwise::{binary, choose, unary};
-use crate::concat::concat;
 use crate::fold::fold;
 use crate::inputs::{input, inputs};
-use crate::reorder::Moving;
 use crate::scan::scan;
-use crate::widen::Widening;
+use arrangement::{concat, reorder, take, widen};
 use std::alloc::{AllocError, Global};
 use xr_arrays::{ArrayValue, Node};
-
-fn reorder(alloc: Global, a: &ArrayValue, order: &[u64]) -> Result<ArrayValue, AllocError>
-    requires each { IsOrder (length a.now.shape) order.now }
-    requires axes { length order.now ≤ 16 }
-    requires few { size a.now.shape ≤ most_node_cells }
-    requires small { size (reordered a.now order.now).shape ≤ most_node_cells }
-    ensures { IfOk result (λ b. b ≡ reordered a.now order.now) }
-{
-    let moving = Moving {
-        shape: a.shape(),
-        order,
-    };
-    rearrange(alloc, a, &moving, None)
-}
-
-fn widen(
-    alloc: Global,
-    a: &ArrayValue,
-    axis: usize,
-    positions: u64,
-) -> Result<ArrayValue, AllocError>
-    requires { IsWidening a.now.shape axis positions }
-    ensures { IfOk result (λ b. b ≡ widened a.now axis positions) }
-{
-    let widening = Widening {
-        shape: a.shape(),
-        axis,
-        size: positions,
-    };
-    rearrange(alloc, a, &widening, None)
-}
 
 // The value of a node whose inputs are held.
 fn value_of(

@@ -12,8 +12,8 @@ ghost use Rattle.plan_whole.specs.Gathers.{point_at, read_from, IsRow};
 
 use crate::gather::gather;
 use crate::numbers::{array_of, numbers_of};
-use crate::shapes::points;
 use crate::total::total;
+use arrangement::points;
 use fold_kernel::Partial;
 use std::alloc::{AllocError, Global};
 use xr_arrays::{ArrayValue, Feed};

@@ -5,7 +5,7 @@ ghost use Rattle.xr_arrays.specs.FeedPositions.{listed};
 ghost use Rattle.xr_arrays.specs.Nodes.{gathered, most_node_cells};
 ghost use Rattle.plan_whole.specs.Gathers.{point_at, read_from, IsRow, Absorbs};
 
-use crate::shapes::points;
+use arrangement::points;
 use fold_kernel::Partial;
 use xr_arrays::{Feed, Positions};
 

@@ -12,8 +12,8 @@ ghost use Rattle.plan_whole.specs.Scans.{sum_to};
 
 use crate::fold::{as_total, total_kind};
 use crate::numbers::{array_of, numbers_of};
-use crate::shapes::points;
 use crate::total::added;
+use arrangement::points;
 use std::alloc::{AllocError, Global};
 use xr_arrays::ArrayValue;
 use xr_types::{DType, Elem, Items};

@@ -10,7 +10,7 @@ ghost use Rattle.xr_indexing.specs.Labels.{HasPositions, IsAlong};
 use crate::axes::{axes_without, position_of};
 use crate::labels::{chosen_axis, label_content};
 use crate::points::{MOST_NODE_CELLS, points, points_with};
-use plan_whole::taken;
+use arrangement::taken;
 use std::alloc::{AllocError, Global};
 use xr_arrays::ArrayValue;
 use xr_defs::{Content, Coord};

@@ -9,7 +9,7 @@ ghost use Rattle.xr_joining.specs.Fitted.{take_unless, takes};
 
 use crate::limits::{MOST_NODE_CELLS, are_below, have_few, points, points_with};
 use align_join::{sources, stays};
-use plan_whole::taken;
+use arrangement::taken;
 use std::alloc::{AllocError, Global};
 use xr_arrays::ArrayValue;
 use xr_defs::{Content, Coord};

@@ -5,7 +5,7 @@ ghost use Rattle.xr_defs.specs.Values.{chosen_axis, chosen_cells, chosen_content
 ghost use Rattle.xr_indexing.specs.Labels.{HasPositions, IsAlong};
 
 use crate::names::position_of;
-use plan_whole::taken;
+use arrangement::taken;
 use std::alloc::{AllocError, Global};
 use xr_arrays::ArrayValue;
 use xr_defs::{Content, Coord};
