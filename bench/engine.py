@@ -23,9 +23,13 @@ k = np.arange(n, dtype='i8')
 a, b, c = spread(k, 31), spread(k, 77), (k + 3) % 7 == 0
 o, t, w = np.zeros(n, 'i4'), np.zeros(n, bool), np.zeros(n, 'i8')
 """
+UNSIGNED = CELLS.replace(" - 504", "").replace("'i4'", "'u4'")
+UNSIGNED_MASKED = UNSIGNED + "\na = np.ma.MaskedArray(a, mask=np.arange(n) % 7 == 0)"
+UNSIGNED_OPERANDS = OPERANDS.replace(" - 504", "").replace("'i4'", "'u4'")
 MASKED_OPERANDS = OPERANDS + """
 a, b, c = np.ma.MaskedArray(a, mask=k % 7 == 0), np.ma.MaskedArray(b, mask=(k + 2) % 7 == 0), np.ma.MaskedArray(c, mask=(k + 4) % 7 == 0)
 """
+UNSIGNED_MASKED_OPERANDS = MASKED_OPERANDS.replace(" - 504", "").replace("'i4'", "'u4'")
 ROWS = OPERANDS + """
 m = n // 3
 o, t, w = o[:3 * m].reshape(m, 3), t[:3 * m].reshape(m, 3), w[:3 * m].reshape(m, 3)
@@ -67,6 +71,32 @@ JOBS = [
         ("choose", "np.ma.where(c, a, b)"),
         ("cast", "a.astype('i8')"),
         ("line scan", "a.cumsum(dtype='i8')"),
+    ]),
+    *((f"unsigned {job}", "numpy", UNSIGNED, code) for job, code in [
+        ("sum", "a.sum(dtype='u8')"),
+        ("max", "a.max()"),
+        ("min", "a.min()"),
+    ]),
+    *((f"unsigned masked {job}", "numpy", UNSIGNED_MASKED, code) for job, code in [
+        ("sum", "a.sum(dtype='u8')"),
+        ("max", "a.max()"),
+    ]),
+    *((f"unsigned {job}", "numpy", UNSIGNED_OPERANDS, code) for job, code in [
+        ("add", "np.add(a, b, out=o)"),
+        ("multiply", "np.multiply(a, b, out=o)"),
+        ("floor divide", "np.floor_divide(a, b, out=o)"),
+        ("remainder", "np.remainder(a, b, out=o)"),
+        ("and", "np.bitwise_and(a, b, out=o)"),
+        ("less", "np.less(a, b, out=t)"),
+        ("choose", "np.where(c, a, b)"),
+        ("cast", "np.copyto(w, a)"),
+    ]),
+    *((f"unsigned masked {job}", "numpy", UNSIGNED_MASKED_OPERANDS, code) for job, code in [
+        ("add", "a + b"),
+        ("multiply", "a * b"),
+        ("floor divide", "a // b"),
+        ("less", "a < b"),
+        ("choose", "np.ma.where(c, a, b)"),
     ]),
     *((f"{rows}: {job}", "numpy", before, code)
       for rows, before in [("rows of 3", ROWS_OF_3), ("3 columns of 4", COLUMNS_OF_4)]

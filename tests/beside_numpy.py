@@ -217,6 +217,25 @@ class Random:
         cells = [of(x, y) for x, y in zip(flat(p), flat(q))]
         return f"{{}} {op} {{}}", Array(dims, [*shape], "bool" if op in COMPARISONS else kind, a.masked or b.masked, cells)
 
+    def chosen(self, a):
+        """A choice by truth values between an array and a literal, missing cells or another array of its shape and kind: its text, with
+        {} for the array, the condition `c`, the other array `d`, and the value."""
+        missing = self.r.choice([0, 0.3])
+        cond = Array(a.dims, a.shape, "bool", False, [None if self.r.random() < missing else self.r.randrange(2) for _ in a.cells])
+        cond.masked = any(n is None for n in cond.cells)
+        least, greatest = bounds(a.kind)
+        number = self.r.choice([least, greatest, 0, 1])
+        other = Array(a.dims, a.shape, a.kind, False, [self.r.choice([least, greatest, 0, 1]) for _ in a.cells])
+        text, cells, misses = self.r.choice([
+            ("NA", [None] * len(a.cells), True),
+            (str(number) if a.kind != "bool" else str(bool(number)), [number] * len(a.cells), False),
+            ("d", other.cells, other.masked),
+        ])
+        form = self.r.choice(["{}.where(c, %s)", "where(c, {}, %s)", "where(c, %s, {})"]) % text
+        first, second = (a.cells, cells) if form != "where(c, %s, {})" % text else (cells, a.cells)
+        found = [None if c is None else (x if c else y) for c, x, y in zip(cond.cells, first, second)]
+        return form, cond, other, Array(a.dims, a.shape, a.kind, cond.masked or a.masked or misses, found)
+
 
 def literal(a):
     spell = lambda n: "NA" if n is None else str(bool(n)) if a.kind == "bool" else str(n)
@@ -247,6 +266,10 @@ def round_of(seed, program, folder):
             if made := r.with_literal(a):
                 lines.append(f"print({made[0].format('a')})")
                 expected.append((lines[-1], made[1]))
+        for _ in range(3):
+            form, c, d, value = r.chosen(a)
+            lines += [f"c = {literal(c)}", f"d = {literal(d)}", f"print({form.format('a')})"]
+            expected.append((lines[-3:], value))
         for _ in range(4):
             if made := r.paired(a, b):
                 lines.append(f"print({made[0].format('a', 'b')})")

@@ -7,13 +7,14 @@ Of each changed file (10,000 by default) the plain readers of classic.py and dat
 nothing has to be refused with its first fault, at its byte. Another is opened as a dataset, which is printed with up to four of its
 parts, written and read again: the texts have to be those of the plain reader, and the same the second time. No run may end by a
 signal, take more than 5 seconds, or more memory than twice the file and 64 MiB. The same seed changes the same files in the same
-way; with --keep the files that were wrong stay in FOLDER.
+way; where none is given it is a new one, which is printed. With --keep the files that were wrong stay in FOLDER.
 """
 import argparse
 import os
 import random
 import tempfile
 
+import classic
 from driving import Driver
 
 HERE = os.path.dirname(os.path.abspath(__file__))
@@ -84,8 +85,22 @@ def joined(random_, data, others):
     return data[:random_.randrange(len(data))] + other[random_.randrange(len(other) + 1):]
 
 
+def with_shared_values(random_, data, _others):
+    """The values of one variable where those of another stand."""
+    try:
+        file = classic.read(data)
+    except classic.Bad:
+        return data
+    if len(file.vars) < 2:
+        return data
+    moved, kept = random_.sample(file.vars, 2)
+    width = 4 if file.version == 1 else 8
+    return data.replace(moved.begin.to_bytes(width, "big"), kept.begin.to_bytes(width, "big"), 1)
+
+
 CHANGES = [with_a_byte, with_a_bit, with_a_number, with_a_number, with_a_step, with_a_step, with_another_value,
-           with_another_value, with_another_value, cut, longer, without_a_part, with_a_part_twice, joined]
+           with_another_value, with_another_value, cut, longer, without_a_part, with_a_part_twice, joined,
+           with_shared_values]
 
 
 def mutation(random_, files):
@@ -102,7 +117,7 @@ def main():
     options = argparse.ArgumentParser()
     options.add_argument("program")
     options.add_argument("--count", type=int, default=10_000)
-    options.add_argument("--seed", type=int, default=20)
+    options.add_argument("--seed", type=int, default=random.SystemRandom().randrange(1 << 32))
     options.add_argument("--keep")
     given = options.parse_args()
     files, random_ = corpus(), random.Random(given.seed)

@@ -26,7 +26,6 @@ use Rattle.xr_defs.specs.Building.{assigned_to_array, assigned_to_set}
 use Rattle.xr_runs.specs.Calls.{method_called, of_both, uncomputed_method}
 use Rattle.plan_core.specs.Plans.{Grows}
 use Rattle.plan_core.proofs.Plans.{grows_by_none}
-use Rattle.xr_values.specs.Stands.{array_in, dataset_in}
 use Rattle.xr_building.specs.Entries.{array_assigned, set_assigned, refused, FollowsArray, FollowsSet}
 use Rattle.dataset_core.specs.Answers.{AnswersValue}
 use Rattle.dataset_core.specs.Assigned.{array_followed, coords_of_layer, coords_told, method_told, FollowsValue}

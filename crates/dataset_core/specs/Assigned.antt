@@ -2,16 +2,14 @@
 -- coordinates, the others compute nothing.
 use Rattle.std.specs.Prelude.{◌≡◌, ℕ, Bool, List, Result, Ok, Err, ⊤, if◌then◌else◌, codes}
 use Rattle.std.specs.Str.{bytes_eq}
-use Rattle.xr_types.specs.declared.fault.Fault.{Fault}
-use Rattle.xr_types.specs.declared.fault.Fault.TheVariants.{UnknownName, WrongKind}
+use Rattle.xr_types.specs.declared.fault.Fault.TheVariants.{WrongKind}
 use Rattle.xr_types.specs.declared.fault.CallFault.{CallFault}
 use Rattle.xr_types.specs.declared.fault.CallFault.TheVariants.{Refused, Declined, NoMemory}
 use Rattle.xr_arrays.specs.declared.node.Node.{Node}
 use Rattle.xr_types.specs.Results.{◌>>=◌}
-use Rattle.xr_defs.specs.Arguments.{slice_given}
 use Rattle.xr_defs.specs.Meanings as of
 use Rattle.xr_defs.specs.Values as values
-use Rattle.xr_runs.specs.Calls.{uncomputed_method}
+use Rattle.xr_runs.specs.Calls.{uncomputed_function, uncomputed_method}
 use Rattle.xr_values.specs.declared.value.Value.{Value}
 use Rattle.xr_values.specs.declared.value.Value.TheOpen as held
 use Rattle.xr_values.specs.declared.value.Value.TheOpen.{Value-F}
@@ -39,13 +37,9 @@ method_told declines nodes v name args =
 abbrev pub array_followed : Result values.DataArray CallFault → Result of.Value CallFault
 array_followed r = r >>= λ a. Ok (of.Array a)
 
--- a function other than `DataArray`, which computes nothing
-abbrev pub other_function : List ℕ → of.Given → Result of.Value Fault
-other_function name g = if bytes_eq name (codes "slice") then slice_given g else Err (UnknownName name)
-
 unfoldable pub function_told : (ℕ → Bool) → List Node → List ℕ → Args → Result of.Value CallFault
 function_told declines nodes name args =
-    if bytes_eq name (codes "DataArray") then array_followed (array_written declines nodes args) else refused (other_function name (given nodes args))
+    if bytes_eq name (codes "DataArray") then array_followed (array_written declines nodes args) else refused (uncomputed_function name (given nodes args))
 
 -- a call answers what is told, unless memory runs out
 abbrev pub FollowsValue : List Node → Result Value CallFault → Result of.Value CallFault → Type 0

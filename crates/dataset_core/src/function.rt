@@ -5,19 +5,21 @@ ghost use Rattle.xr_arrays.specs.declared.node.Node.{Node};
 ghost use Rattle.xr_arrays.specs.Added.{AddsAtMost};
 ghost use Rattle.xr_defs.specs.Room.{portions, room, Portion};
 ghost use Rattle.xr_defs.specs.Building.{data_array};
-ghost use Rattle.xr_runs.specs.Calls.{function_over_values};
+ghost use Rattle.xr_runs.specs.Calls.{function_over_values, uncomputed_function as uncomputed};
 ghost use Rattle.plan_core.specs.Plans.{Grows};
 ghost use Rattle.xr_values.specs.Meaning.{given, meaning, IsValueIn, AreArgsIn};
 ghost use Rattle.xr_building.specs.Written.{array_written};
 ghost use Rattle.dataset_core.specs.Answers.{AnswersValue, array_told};
-ghost use Rattle.dataset_core.specs.Assigned.{array_followed, function_told, other_function, FollowsValue};
+ghost use Rattle.dataset_core.specs.Assigned.{array_followed, function_told, FollowsValue};
 
+use crate::choice::choice;
 use crate::held::array_value;
 use crate::slice::slice_given;
-use plan_core::Compute;
+use plan_core::{Compute, Plan};
 use std::alloc::Global;
 use std::thread::Threads;
 use xr_building::array_written_out;
+use xr_reindexing::times;
 use xr_types::{CallFault, DeepCopy, Fault, TextBytes};
 use xr_values::{Args, Cx, Value};
 
@@ -41,19 +43,34 @@ fn written_out<R: Threads + Sync, C: Compute>(
     Ok(array_value(alloc, array)?)
 }
 
-// Those that compute no cells.
-fn other_function(alloc: Global, name: &TextBytes, args: &Args) -> Result<Value, CallFault>
-    ensures { (nodes : List Node) → AnswersValue nodes result (other_function name.now (given nodes args.now)) }
+// Those that compute no cells at once.
+#[tactic(auto, using(plan_core::proofs::Plans::grows_by_none, plan_core::proofs::Added::adds_none, crate::proofs::Making::inside_answer, crate::proofs::Making::beside_one), unfolding(xr_runs::specs::Calls::uncomputed_function))]
+fn uncomputed_function(
+    alloc: Global,
+    plan: &mut Plan,
+    name: &TextBytes,
+    args: &Args,
+) -> Result<Value, CallFault>
+    requires { AreArgsIn plan.old args.now }
+    ensures answers { AnswersValue plan.new result (uncomputed name.now (given plan.old args.now)) }
+    ensures inside { IfOk result (IsValueIn plan.new) }
+    ensures grows { Grows plan.old plan.new }
+    ensures room { IfOk result (λ v. (p : Portion) → AddsAtMost plan.old plan.new (room (p ∷ portions (meaning plan.new v)))) }
 {
     if name.as_str() == "slice" {
         slice_given(alloc, args)
+    } else if name.as_str() == "times" {
+        times(alloc, args)
+    } else if name.as_str() == "where" {
+        choice(alloc, plan, args)
     } else {
         Err(CallFault::Refused(Fault::UnknownName(name.deep_copy(alloc)?)))
     }
 }
 
 /// The value of a call of a function other than `open_dataset`: `DataArray(data, dims, coords, name, dtype)`, an array that
-/// the script writes out, and `slice(..)`, whose one to three ends and step are plain arguments.
+/// the script writes out, `slice(..)`, whose one to three ends and step are plain arguments, `times(units, LIST, calendar)`, times as
+/// labels, and `where(cond, x, y)`, the choice between two arrays or literals.
 ///
 /// # Errors
 /// `UnknownName` for any other function; then those of the function. Where cells that the call needs are declined, it is that:
@@ -78,6 +95,6 @@ pub fn call_function<R: Threads + Sync, C: Compute>(
     if name.as_str() == "DataArray" {
         written_out(rt, alloc, cx, args)
     } else {
-        other_function(alloc, name, args)
+        uncomputed_function(alloc, &mut cx.plan, name, args)
     }
 }

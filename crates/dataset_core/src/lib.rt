@@ -2,6 +2,7 @@
 #![tactic(auto)]
 
 mod cells;
+mod choice;
 mod coords;
 mod frames;
 mod function;
@@ -12,6 +13,7 @@ mod moves;
 mod open;
 mod operators;
 mod part;
+mod placing;
 mod slice;
 mod write;
 
@@ -20,4 +22,5 @@ pub use method::call_method;
 pub use open::{OpenRequest, open_request};
 pub use operators::{binary_operator, unary_operator};
 pub use part::pick;
+pub use placing::assigned_value;
 pub use write::{WriteRequest, write_request};

@@ -15,8 +15,9 @@ ghost use Rattle.dataset_core.specs.Answers.{AnswersValue, RefusesValue};
 ghost use Rattle.dataset_core.specs.Assigned.{method_told, FollowsValue};
 
 use crate::cells::{cell_method, cumsum, is_cell_method, reduction};
+use crate::choice::choice_of;
 use crate::coords::assign_coords;
-use crate::frames::{assign_attrs, drop_vars, isel, rename, sel, to_dataset, transpose};
+use crate::frames::{assign_attrs, drop_vars, isel, reindex, rename, sel, to_dataset, transpose};
 use crate::moves::{diff, roll, shift};
 use plan_core::{Compute, Plan};
 use std::alloc::Global;
@@ -143,13 +144,16 @@ fn method_on_cells(
     name: &TextBytes,
     args: &Args,
 ) -> Result<Value, CallFault>
-    requires { IsValueIn plan.old on.now }
+    requires on { IsValueIn plan.old on.now }
+    requires given { AreArgsIn plan.old args.now }
     ensures answers { AnswersValue plan.new result (calls.method_on_cells (meaning plan.old on.now) name.now (given plan.old args.now)) }
     ensures grows { Grows plan.old plan.new }
     ensures room { IfOk result (λ v. AddsAtMost plan.old plan.new (room (portions (meaning plan.old on.now) ++ portions (meaning plan.new v)))) }
 {
     if is_cell_method(name) {
         cell_method(alloc, plan, on, name, args)
+    } else if name.as_str() == "where" {
+        choice_of(alloc, plan, on, args)
     } else if name.as_str() == "cumsum" {
         cumsum(alloc, plan, on, args)
     } else {
@@ -166,7 +170,8 @@ fn uncomputed_method(
     name: &TextBytes,
     args: &Args,
 ) -> Result<Value, CallFault>
-    requires { IsValueIn plan.old on.now }
+    requires on { IsValueIn plan.old on.now }
+    requires given { AreArgsIn plan.old args.now }
     ensures answers { AnswersValue plan.new result (uncomputed (meaning plan.old on.now) name.now (given plan.old args.now)) }
     ensures inside { IfOk result (IsValueIn plan.new) }
     ensures grows { Grows plan.old plan.new }
@@ -177,6 +182,8 @@ fn uncomputed_method(
         isel(alloc, plan, on, args)
     } else if called == "sel" {
         sel(alloc, plan, on, args)
+    } else if called == "reindex" {
+        reindex(alloc, plan, on, args)
     } else if called == "transpose" {
         transpose(alloc, plan, on, args)
     } else if called == "drop_vars" {
@@ -192,9 +199,9 @@ fn uncomputed_method(
     }
 }
 
-/// The value of a call of a method: `isel`, `sel`, `drop_vars`, `assign_coords`, `assign_attrs`, `cumsum`, `shift`,
-/// `roll` and reductions of arrays and datasets, and `transpose`, `rename`, `to_dataset`, `isnull`, `notnull`, `astype`, `fillna`,
-/// `diff`, `argmin` and `argmax` of arrays.
+/// The value of a call of a method: `isel`, `sel`, `reindex`, `drop_vars`, `assign_coords`, `assign_attrs`, `cumsum`, `shift`,
+/// `roll`, `diff` and reductions of arrays and datasets, and `transpose`, `rename`, `to_dataset`, `isnull`, `notnull`, `astype`,
+/// `fillna`, `where`, `argmin` and `argmax` of arrays.
 ///
 /// # Errors
 /// `UnknownName` for any other method, but `WouldPromote` for those of arrays and datasets, grouped or not, whose answers

@@ -15,3 +15,4 @@ mod JoinExamples
 mod ReductionRows
 mod SelectionRows
 mod MoveRows
+mod ReindexRows

@@ -6,7 +6,7 @@ ghost use Rattle.xr_types.specs.declared.operation.OpKind.TheVariants.{And, Or, 
 use xr_types::Elem;
 
 /// A cell's type, with the operations on its bits in two's complement.
-pub(crate) trait Bits: Elem {
+pub trait Bits: Elem {
     /// The bits that both numbers have.
     fn both(self, other: Self) -> Self
         ensures { Some (Self.number result) ≡ elem And Self.kind (Some (Self.number self)) (Some (Self.number other)) };

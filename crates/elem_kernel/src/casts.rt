@@ -1,5 +1,5 @@
 //! Casts: what a kind leaves of the numbers of another, and whether they aren't 0.
-ghost use Rattle.std.specs.Prelude.{◌≡◌, ℕ, List};
+ghost use Rattle.std.specs.Prelude.{◌≡◌, ◌<◌, ℕ, List};
 ghost use Rattle.xr_types.specs.Kinds.{wrap_to};
 ghost use Rattle.xr_types.specs.declared.kind.DType.TheVariants.{Bool};
 ghost use Rattle.xr_types.specs.Points.{IsPoint};
@@ -15,8 +15,8 @@ use crate::pairs::map_cells;
 use strided_block::{TypedView, TypedWin, View, Win};
 use xr_types::Elem;
 
-// The cell that is left of another's number.
-fn cast_cell<A: Elem, T: Elem>(x: A) -> T
+/// The cell that is left of another's number.
+pub fn cast_cell<A: Elem, T: Elem>(x: A) -> T
     ensures { T.number result ≡ wrap_to T.kind (A.number x) }
 {
     T::wrap_from(x.widen())
@@ -29,9 +29,10 @@ fn cast_truth<T: Elem>(x: u8) -> T
     T::wrap_from(i128::from(x != 0))
 }
 
-// Whether a cell's number isn't 0, as a truth value.
-fn test_cell<A: Elem>(x: A) -> u8
-    ensures { truth result ≡ cast_to Bool (A.number x) }
+/// Whether a cell's number isn't 0, as a truth value.
+pub fn test_cell<A: Elem>(x: A) -> u8
+    ensures small { result < 2 }
+    ensures truth { truth result ≡ cast_to Bool (A.number x) }
 {
     u8::from(x.widen() != 0)
 }

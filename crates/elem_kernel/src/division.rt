@@ -1,4 +1,4 @@
-//! Quotients of whole numbers, rounded down, what they leave, and negations. A processor divides 64 bits by itself, so wider divisions are left to the ends of the range.
+//! Quotients of whole numbers, rounded down, what they leave, and negations. A processor divides 32 bits several times faster than 64, and more than 64 not by itself, so each division has the least width that holds its numbers.
 ghost use Rattle.std.specs.Prelude.{◌≡◌, ◌≢◌, ◌≤ℤ◌, ◌-ℤ◌, ◌*ℤ◌, neg_ℤ, pos, negsuc, true};
 ghost use Rattle.xr_arrays.specs.Elements.{floor_quotient, unless_zero};
 
@@ -14,6 +14,47 @@ pub(crate) fn floor(x: i128, y: i128) -> i128
     } else {
         (-x).div_euclid(-y)
     }
+}
+
+// The greatest whole number that isn't above x / y, in 32 bits.
+fn floor_int(x: i32, y: i32) -> i32
+    requires from { negsuc 2147483646 ≤ℤ x }
+    requires divisor { negsuc 2147483646 ≤ℤ y }
+    requires some { y ≢ pos 0 }
+    ensures { result ≡ floor_quotient x y }
+{
+    if y > 0 {
+        x.div_euclid(y)
+    } else {
+        (-x).div_euclid(-y)
+    }
+}
+
+// Whether a number and its negation have 32 bits.
+fn is_int(n: i128) -> bool
+    ensures { result ≡ true → (negsuc 2147483646 ≤ℤ n) × (n ≤ℤ pos 2147483647) }
+{
+    n > -2_147_483_648 && n < 2_147_483_648
+}
+
+fn to_int(n: i128) -> i32
+    requires { (negsuc 2147483646 ≤ℤ n) × (n ≤ℤ pos 2147483647) }
+    ensures { result ≡ n }
+{
+    n as i32
+}
+
+// The greatest whole number that isn't above x / y, by a division of 32 bits.
+fn floor_by_int(x: i128, y: i128) -> i128
+    requires from { (negsuc 2147483646 ≤ℤ x) × (x ≤ℤ pos 2147483647) }
+    requires divisor { (negsuc 2147483646 ≤ℤ y) × (y ≤ℤ pos 2147483647) }
+    requires some { y ≢ pos 0 }
+    ensures { result ≡ floor_quotient x y }
+{
+    let dividend = to_int(x);
+    let divisor = to_int(y);
+    let quotient = floor_int(dividend, divisor);
+    i128::from(quotient)
 }
 
 // The greatest whole number that isn't above x / y, in 64 bits.
@@ -91,7 +132,9 @@ fn floor_shortest(x: i128, y: i128) -> i128
     requires some { y ≢ pos 0 }
     ensures { result ≡ floor_quotient x y }
 {
-    if is_long(x) && is_long(y) {
+    if is_int(x) && is_int(y) {
+        floor_by_int(x, y)
+    } else if is_long(x) && is_long(y) {
         floor_by_long(x, y)
     } else if is_word(x) && is_word(y) {
         floor_by_word(x, y)
@@ -122,6 +165,34 @@ pub(crate) fn rest(x: i128, y: i128) -> i128
     } else {
         -(-x).rem_euclid(-y)
     }
+}
+
+// What is left of x by whole multiples of y, in 32 bits.
+#[tactic(auto, using(crate::proofs::Bounds::floor_rest))]
+fn rest_int(x: i32, y: i32) -> i32
+    requires from { negsuc 2147483646 ≤ℤ x }
+    requires divisor { negsuc 2147483646 ≤ℤ y }
+    requires some { y ≢ pos 0 }
+    ensures { result ≡ x -ℤ y *ℤ floor_quotient x y }
+{
+    if y > 0 {
+        x.rem_euclid(y)
+    } else {
+        -(-x).rem_euclid(-y)
+    }
+}
+
+// What is left of x by whole multiples of y, by a division of 32 bits.
+fn rest_by_int(x: i128, y: i128) -> i128
+    requires from { (negsuc 2147483646 ≤ℤ x) × (x ≤ℤ pos 2147483647) }
+    requires divisor { (negsuc 2147483646 ≤ℤ y) × (y ≤ℤ pos 2147483647) }
+    requires some { y ≢ pos 0 }
+    ensures { result ≡ x -ℤ y *ℤ floor_quotient x y }
+{
+    let dividend = to_int(x);
+    let divisor = to_int(y);
+    let left = rest_int(dividend, divisor);
+    i128::from(left)
 }
 
 // What is left of x by whole multiples of y, in 64 bits.
@@ -172,7 +243,9 @@ fn rest_shortest(x: i128, y: i128) -> i128
     requires some { y ≢ pos 0 }
     ensures { result ≡ x -ℤ y *ℤ floor_quotient x y }
 {
-    if is_long(x) && is_long(y) {
+    if is_int(x) && is_int(y) {
+        rest_by_int(x, y)
+    } else if is_long(x) && is_long(y) {
         rest_by_long(x, y)
     } else if is_word(x) && is_word(y) {
         rest_by_word(x, y)

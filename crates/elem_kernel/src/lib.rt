@@ -18,5 +18,12 @@ mod signs;
 mod truths;
 mod typed;
 
+pub use bits::Bits;
 pub use calls::{binary, cast, choose, compare, fill, unary};
+pub use casts::{cast_cell, test_cell};
 pub use cell::one_cell;
+pub use number::{
+    at_most, difference, differs, equal, inversion, less, negation, product, quotient, remainder,
+    sum,
+};
+pub use picks::first_or_second;

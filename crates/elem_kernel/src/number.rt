@@ -1,5 +1,5 @@
 //! The operations on the numbers of cells.
-ghost use Rattle.std.specs.Prelude.{◌≡◌, ◌*ℤ◌, Some, None};
+ghost use Rattle.std.specs.Prelude.{◌≡◌, ◌<◌, ◌*ℤ◌, Some, None};
 ghost use Rattle.std.specs.Int.{int_wrap, w128};
 ghost use Rattle.xr_arrays.specs.Elements.{elem};
 ghost use Rattle.xr_types.specs.declared.operation.OpKind.TheVariants.{Add, Subtract, Multiply, FloorDivide, Remainder, Negate, Invert, Equal, NotEqual, Less, LessEqual};
@@ -10,7 +10,7 @@ use xr_types::Elem;
 
 /// The sum, as the kind leaves it.
 #[tactic(auto, using(crate::proofs::Bounds::kind_bounds))]
-pub(crate) fn sum<T: Elem>(x: T, y: T) -> T
+pub fn sum<T: Elem>(x: T, y: T) -> T
     ensures { Some (T.number result) ≡ elem Add T.kind (Some (T.number x)) (Some (T.number y)) }
 {
     T::wrap_from(x.widen() + y.widen())
@@ -18,7 +18,7 @@ pub(crate) fn sum<T: Elem>(x: T, y: T) -> T
 
 /// The difference, as the kind leaves it.
 #[tactic(auto, using(crate::proofs::Bounds::kind_bounds))]
-pub(crate) fn difference<T: Elem>(x: T, y: T) -> T
+pub fn difference<T: Elem>(x: T, y: T) -> T
     ensures { Some (T.number result) ≡ elem Subtract T.kind (Some (T.number x)) (Some (T.number y)) }
 {
     T::wrap_from(x.widen() - y.widen())
@@ -33,7 +33,7 @@ pub(crate) fn wrapped_product(x: i128, y: i128) -> i128
 }
 
 /// The product, as the kind leaves it.
-pub(crate) fn product<T: Elem>(x: T, y: T) -> T
+pub fn product<T: Elem>(x: T, y: T) -> T
     ensures { Some (T.number result) ≡ elem Multiply T.kind (Some (T.number x)) (Some (T.number y)) }
 {
     T::wrap_from(wrapped_product(x.widen(), y.widen()))
@@ -41,7 +41,7 @@ pub(crate) fn product<T: Elem>(x: T, y: T) -> T
 
 /// The quotient rounded down, as the kind leaves it, and 0 for a divisor of 0.
 #[tactic(auto, using(crate::proofs::Bounds::kind_bounds))]
-pub(crate) fn quotient<T: Elem>(x: T, y: T) -> T
+pub fn quotient<T: Elem>(x: T, y: T) -> T
     ensures { Some (T.number result) ≡ elem FloorDivide T.kind (Some (T.number x)) (Some (T.number y)) }
 {
     T::wrap_from(floor_or_zero(x.widen(), y.widen()))
@@ -49,7 +49,7 @@ pub(crate) fn quotient<T: Elem>(x: T, y: T) -> T
 
 /// What is left by whole multiples of the divisor, and 0 for a divisor of 0.
 #[tactic(auto, using(crate::proofs::Bounds::kind_bounds))]
-pub(crate) fn remainder<T: Elem>(x: T, y: T) -> T
+pub fn remainder<T: Elem>(x: T, y: T) -> T
     ensures { Some (T.number result) ≡ elem Remainder T.kind (Some (T.number x)) (Some (T.number y)) }
 {
     T::wrap_from(rest_or_zero(x.widen(), y.widen()))
@@ -57,7 +57,7 @@ pub(crate) fn remainder<T: Elem>(x: T, y: T) -> T
 
 /// The negated number, as the kind leaves it.
 #[tactic(auto, using(crate::proofs::Bounds::kind_bounds))]
-pub(crate) fn negation<T: Elem>(x: T) -> T
+pub fn negation<T: Elem>(x: T) -> T
     ensures { Some (T.number result) ≡ elem Negate T.kind (Some (T.number x)) None }
 {
     T::wrap_from(opposite(x.widen()))
@@ -65,36 +65,40 @@ pub(crate) fn negation<T: Elem>(x: T) -> T
 
 /// The number with all bits turned.
 #[tactic(auto, using(crate::proofs::Bounds::kind_bounds))]
-pub(crate) fn inversion<T: Elem>(x: T) -> T
+pub fn inversion<T: Elem>(x: T) -> T
     ensures { Some (T.number result) ≡ elem Invert T.kind (Some (T.number x)) None }
 {
     T::wrap_from(turned(x.widen()))
 }
 
 /// Whether the cells hold one number, as a truth value.
-pub(crate) fn equal<T: Elem>(x: T, y: T) -> u8
-    ensures { Some (truth result) ≡ elem Equal T.kind (Some (T.number x)) (Some (T.number y)) }
+pub fn equal<T: Elem>(x: T, y: T) -> u8
+    ensures small { result < 2 }
+    ensures truth { Some (truth result) ≡ elem Equal T.kind (Some (T.number x)) (Some (T.number y)) }
 {
     u8::from(x.widen() == y.widen())
 }
 
 /// Whether the cells hold different numbers, as a truth value.
-pub(crate) fn differs<T: Elem>(x: T, y: T) -> u8
-    ensures { Some (truth result) ≡ elem NotEqual T.kind (Some (T.number x)) (Some (T.number y)) }
+pub fn differs<T: Elem>(x: T, y: T) -> u8
+    ensures small { result < 2 }
+    ensures truth { Some (truth result) ≡ elem NotEqual T.kind (Some (T.number x)) (Some (T.number y)) }
 {
     u8::from(x.widen() != y.widen())
 }
 
 /// Whether the first number is below the second, as a truth value.
-pub(crate) fn less<T: Elem>(x: T, y: T) -> u8
-    ensures { Some (truth result) ≡ elem Less T.kind (Some (T.number x)) (Some (T.number y)) }
+pub fn less<T: Elem>(x: T, y: T) -> u8
+    ensures small { result < 2 }
+    ensures truth { Some (truth result) ≡ elem Less T.kind (Some (T.number x)) (Some (T.number y)) }
 {
     u8::from(x.widen() < y.widen())
 }
 
 /// Whether the first number isn't above the second, as a truth value.
-pub(crate) fn at_most<T: Elem>(x: T, y: T) -> u8
-    ensures { Some (truth result) ≡ elem LessEqual T.kind (Some (T.number x)) (Some (T.number y)) }
+pub fn at_most<T: Elem>(x: T, y: T) -> u8
+    ensures small { result < 2 }
+    ensures truth { Some (truth result) ≡ elem LessEqual T.kind (Some (T.number x)) (Some (T.number y)) }
 {
     u8::from(x.widen() <= y.widen())
 }

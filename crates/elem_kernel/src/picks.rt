@@ -11,8 +11,9 @@ use crate::typed::{bools, bytes, chars, ints, longs, shorts, ubytes, uints, ulon
 use strided_block::{TypedView, TypedWin, View, Win, zip_cells};
 use xr_types::Elem;
 
+/// The first where the byte is 0, else the second.
 #[tactic(auto, using(crate::proofs::Made::taken))]
-fn first_or_second<T: Copy + Drop>(x: T, y: T, by: u8) -> T
+pub fn first_or_second<T: Copy + Drop>(x: T, y: T, by: u8) -> T
     ensures { result ≡ first_at_zero by x y }
 {
     if by == 0 { x } else { y }

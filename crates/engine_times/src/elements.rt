@@ -1,5 +1,5 @@
 //! Operations on the cells of whole blocks, and running sums along a line of one.
-ghost use Rattle.std.specs.Prelude.{◌≡◌, ◌≤◌, [], ◌∷◌, ℕ, List, Some, IfOk, IfSome, length};
+ghost use Rattle.std.specs.Prelude.{◌≡◌, ◌≤◌, [], ◌∷◌, ℕ, List, Some, IfOk, IfSome, length, if◌then◌else◌};
 ghost use Rattle.xr_types.specs.declared.kind.DType.TheVariants as kinds;
 ghost use Rattle.xr_types.specs.Points.{size, IsPoint};
 ghost use Rattle.elem_kernel.specs.Conditions.{IsBinary};
@@ -22,11 +22,12 @@ pub struct Operands {
     rows: u64,
     columns: u64,
     read: u64,
+    unsigned: bool,
     a: CellBlock,
     b: CellBlock,
     cond: CellBlock,
     ghost within: { read ≤ columns },
-    ghost kinds: { (block_kind a.cells ≡ kinds.Int32) × (block_kind b.cells ≡ kinds.Int32) × (block_kind cond.cells ≡ kinds.Bool) },
+    ghost kinds: { (block_kind a.cells ≡ (if unsigned then kinds.UInt32 else kinds.Int32)) × (block_kind b.cells ≡ (if unsigned then kinds.UInt32 else kinds.Int32)) × (block_kind cond.cells ≡ kinds.Bool) },
     ghost shapes: { (a.mask.shape ≡ rows ∷ columns ∷ []) × (b.mask.shape ≡ rows ∷ columns ∷ []) × (cond.mask.shape ≡ rows ∷ columns ∷ []) },
 }
 
@@ -54,6 +55,14 @@ fn spread(cells: &mut [i32], by: u64) {
     }
 }
 
+// Numbers from 1 to 1008.
+fn spread_unsigned(cells: &mut [u32], by: u64) {
+    for i in 0..cells.len() {
+        let n = ((i as u64).wrapping_mul(by) % 1009) as u32;
+        cells[i] = if n == 0 { 7 } else { n };
+    }
+}
+
 // Every seventh byte is 1.
 fn mark(bytes: &mut [u8], from: u64) {
     for i in 0..bytes.len() {
@@ -67,6 +76,15 @@ fn numbers(alloc: Global, count: usize, by: u64) -> Result<Vec<i32>, AllocError>
     let mut cells = Vec::new(alloc);
     cells.resize(count, 0)?;
     spread(cells.as_mut_slice(), by);
+    Ok(cells)
+}
+
+fn unsigned_numbers(alloc: Global, count: usize, by: u64) -> Result<Vec<u32>, AllocError>
+    ensures { IfOk result (λ v. length v.items ≡ count) }
+{
+    let mut cells = Vec::new(alloc);
+    cells.resize(count, 0)?;
+    spread_unsigned(cells.as_mut_slice(), by);
     Ok(cells)
 }
 
@@ -120,22 +138,46 @@ fn with_mask(
     })
 }
 
+// Numbers of kind uint32 or int32.
+fn typed_numbers(
+    alloc: Global,
+    shape: &Shape,
+    unsigned: bool,
+    count: usize,
+    by: u64,
+) -> Result<TypedBlock>
+    requires { count ≡ size shape.now }
+    ensures kind { IfOk result (λ b. block_kind b ≡ (if unsigned then kinds.UInt32 else kinds.Int32)) }
+    ensures shape { IfOk result (λ b. block_shape b ≡ shape.now) }
+{
+    if unsigned {
+        let list = unsigned_numbers(alloc, count, by)?;
+        let cells = Block::from_slice(alloc, shape, list.as_slice())
+            .ok()
+            .context("memory")?;
+        return Ok(TypedBlock::UInt32(cells));
+    }
+    let list = numbers(alloc, count, by)?;
+    let cells = Block::from_slice(alloc, shape, list.as_slice())
+        .ok()
+        .context("memory")?;
+    Ok(TypedBlock::Int32(cells))
+}
+
 fn number_block(
     alloc: Global,
     shape: &Shape,
+    unsigned: bool,
     count: usize,
     by: u64,
     holes: Option<u64>,
 ) -> Result<CellBlock>
     requires { count ≡ size shape.now }
-    ensures kind { IfOk result (λ b. block_kind b.cells ≡ kinds.Int32) }
+    ensures kind { IfOk result (λ b. block_kind b.cells ≡ (if unsigned then kinds.UInt32 else kinds.Int32)) }
     ensures shape { IfOk result (λ b. b.mask.shape ≡ shape.now) }
 {
-    let list = numbers(alloc, count, by)?;
-    let cells = Block::from_slice(alloc, shape, list.as_slice())
-        .ok()
-        .context("memory")?;
-    with_mask(alloc, shape, TypedBlock::Int32(cells), count, holes)
+    let cells = typed_numbers(alloc, shape, unsigned, count, by)?;
+    with_mask(alloc, shape, cells, count, holes)
 }
 
 fn truth_block(alloc: Global, shape: &Shape, count: usize, holes: Option<u64>) -> Result<CellBlock>
@@ -162,11 +204,17 @@ fn zeros(alloc: Global, kind: DType, shape: &Shape) -> Result<CellBlock>
 }
 
 // The kind of a job's results.
-fn kind_of(job: &str) -> DType {
+fn kind_of(job: &str, unsigned: bool) -> DType {
     match job {
         "less" => DType::Bool,
         "cast" | "line scan" => DType::Int64,
-        _ => DType::Int32,
+        _ => {
+            if unsigned {
+                DType::UInt32
+            } else {
+                DType::Int32
+            }
+        }
     }
 }
 
@@ -184,19 +232,27 @@ fn operation_of(job: &str) -> OpKind
 }
 
 impl Operands {
-    fn new(alloc: Global, rows: u64, columns: u64, read: u64, masked: bool) -> Result<Operands>
+    fn new(
+        alloc: Global,
+        rows: u64,
+        columns: u64,
+        read: u64,
+        unsigned: bool,
+        masked: bool,
+    ) -> Result<Operands>
         requires { read ≤ columns }
         ensures { IfOk result (λ o. (o.rows ≡ rows) × (o.read ≡ read)) }
     {
         let shape = Shape::from_slice(&[rows, columns]);
         let count = count_of(rows, columns).context("too many cells")?;
-        let a = number_block(alloc, &shape, count, 31, masked.then_some(0))?;
-        let b = number_block(alloc, &shape, count, 77, masked.then_some(2))?;
+        let a = number_block(alloc, &shape, unsigned, count, 31, masked.then_some(0))?;
+        let b = number_block(alloc, &shape, unsigned, count, 77, masked.then_some(2))?;
         let cond = truth_block(alloc, &shape, count, masked.then_some(4))?;
         Ok(Operands {
             rows,
             columns,
             read,
+            unsigned,
             a,
             b,
             cond,
@@ -205,7 +261,7 @@ impl Operands {
 
     fn combine(&self, op: OpKind, out: &mut CellWin)
         requires op { IsBinary op }
-        requires kind { win_kind out.old.cells ≡ kinds.Int32 }
+        requires kind { win_kind out.old.cells ≡ (if self.now.unsigned then kinds.UInt32 else kinds.Int32) }
         requires shape { out.old.mask.shape ≡ self.now.rows ∷ self.now.read ∷ [] }
         ensures { SameWindow out.old out.new }
     {
@@ -225,7 +281,7 @@ impl Operands {
     }
 
     fn pick(&self, out: &mut CellWin)
-        requires kind { win_kind out.old.cells ≡ kinds.Int32 }
+        requires kind { win_kind out.old.cells ≡ (if self.now.unsigned then kinds.UInt32 else kinds.Int32) }
         requires shape { out.old.mask.shape ≡ self.now.rows ∷ self.now.read ∷ [] }
         ensures { SameWindow out.old out.new }
     {
@@ -247,7 +303,7 @@ impl Operands {
         requires shape { out.old.mask.shape ≡ self.now.rows ∷ self.now.read ∷ [] }
         ensures { SameWindow out.old out.new }
     {
-        if self.rows == 1 && self.read != 0 {
+        if self.rows == 1 && self.read != 0 && !self.unsigned {
             let row = self.a.view().sub(1, 0, self.read);
             let before = Partial::empty(FoldKind::Sum, DType::Int32);
             scan(before, &row, 1, &Shape::from_slice(&[0, 0]), out);
@@ -259,16 +315,16 @@ impl Operands {
         requires { out.old.mask.shape ≡ self.now.rows ∷ self.now.read ∷ [] }
         ensures { SameWindow out.old out.new }
     {
-        match out.kind() {
-            DType::Bool => self.less(out),
-            DType::Int64 => {
+        match (out.kind(), self.unsigned) {
+            (DType::Bool, _) => self.less(out),
+            (DType::Int64, _) => {
                 if job == "cast" {
                     self.widen(out);
                 } else {
                     self.sum_along(out);
                 }
             }
-            DType::Int32 => {
+            (DType::Int32, false) | (DType::UInt32, true) => {
                 if job == "choose" {
                     self.pick(out);
                 } else {
@@ -283,7 +339,7 @@ impl Operands {
 impl Work {
     fn new(alloc: Global, job: &str, operands: Operands) -> Result<Work> {
         let shape = Shape::from_slice(&[operands.rows, operands.read]);
-        let made = zeros(alloc, kind_of(job), &shape)?;
+        let made = zeros(alloc, kind_of(job, operands.unsigned), &shape)?;
         Ok(Work { operands, made })
     }
 
@@ -311,7 +367,7 @@ impl Work {
 }
 
 /// The least time of a job in nanoseconds, and a number that depends on its results. The job reads the first columns of
-/// so many rows.
+/// so many rows. Its numbers are of kind uint32 where they are to be unsigned, and else of kind int32.
 pub fn timed<C: Clock>(
     clock: &C,
     alloc: Global,
@@ -319,12 +375,13 @@ pub fn timed<C: Clock>(
     rows: u64,
     columns: u64,
     read: u64,
+    unsigned: bool,
     masked: bool,
     times: u32,
 ) -> Result<(u128, i128)>
     requires { read ≤ columns }
 {
-    let operands = Operands::new(alloc, rows, columns, read, masked)?;
+    let operands = Operands::new(alloc, rows, columns, read, unsigned, masked)?;
     let mut work = Work::new(alloc, job, operands)?;
     let mut least = u128::MAX;
     for _ in 0..times {

@@ -53,6 +53,14 @@ fn timed<C: Clock>(
             let mut work = folds::Fold::new(alloc, job, cells, true)?;
             least(clock, alloc, times, &mut work)
         }
+        "unsigned sum" | "unsigned max" | "unsigned min" => {
+            let mut work = folds::Fold::unsigned(alloc, job, cells, false)?;
+            least(clock, alloc, times, &mut work)
+        }
+        "unsigned masked sum" | "unsigned masked max" | "unsigned masked min" => {
+            let mut work = folds::Fold::unsigned(alloc, job, cells, true)?;
+            least(clock, alloc, times, &mut work)
+        }
         "scan" => {
             let mut work = folds::Scan::new(alloc, cells)?;
             least(clock, alloc, times, &mut work)
@@ -86,8 +94,8 @@ fn timed<C: Clock>(
     }
 }
 
-// A job on the cells of blocks of one row. If its name begins so, the cells are masked, stand in rows of three, or are
-// the first three of four in each row.
+// A job on the cells of blocks of one row. If its name begins so, the cells are unsigned, masked, stand in rows of three,
+// or are the first three of four in each row.
 fn elements_timed<C: Clock>(
     clock: &C,
     alloc: Global,
@@ -96,14 +104,18 @@ fn elements_timed<C: Clock>(
     times: u32,
 ) -> Result<(u128, i128)> {
     let count = u64::from(cells);
+    let (unsigned, job) = match job.strip_prefix("unsigned ") {
+        Some(rest) => (true, rest),
+        None => (false, job),
+    };
     if let Some(plain) = job.strip_prefix("masked ") {
-        elements::timed(clock, alloc, plain, 1, count, count, true, times)
+        elements::timed(clock, alloc, plain, 1, count, count, unsigned, true, times)
     } else if let Some(plain) = job.strip_prefix("rows of 3: ") {
-        elements::timed(clock, alloc, plain, count / 3, 3, 3, false, times)
+        elements::timed(clock, alloc, plain, count / 3, 3, 3, unsigned, false, times)
     } else if let Some(plain) = job.strip_prefix("3 columns of 4: ") {
-        elements::timed(clock, alloc, plain, count / 3, 4, 3, false, times)
+        elements::timed(clock, alloc, plain, count / 3, 4, 3, unsigned, false, times)
     } else {
-        elements::timed(clock, alloc, job, 1, count, count, false, times)
+        elements::timed(clock, alloc, job, 1, count, count, unsigned, false, times)
     }
 }
 

@@ -13,9 +13,10 @@ ghost use Rattle.xr_arrays.specs.declared.node.Node.TheVariants.{Source};
 ghost use Rattle.plan_tests.specs.Sources.{AreSources};
 ghost use Rattle.plan_core.specs.Takes.{taking_sizes};
 
+use arrangement::taken;
 use bytes::Bytes;
 use plan_core::{Compute, Plan};
-use plan_whole::{Whole, taken};
+use plan_whole::Whole;
 use std::alloc::{AllocError, Global};
 use std::test::Fail;
 use std::thread::Threads;

@@ -14,57 +14,15 @@ use Rattle.xr_arrays.specs.declared.node.Feed.TheVariants as feed
 use Rattle.xr_arrays.specs.Arrays.{Array, at, made, IsArray}
 use Rattle.xr_arrays.specs.Folds.{fold_of, folded_kind, sum_of, total_kind}
 use Rattle.xr_arrays.specs.Nodes.{folded, gathered, kept, AreFed, most_node_cells}
-use Rattle.fold_kernel.specs.Partials.{Folded, StandsFor}
 use Rattle.plan_core.specs.Rows.{those}
 use Rattle.plan_core.proofs.FoldRows.{those_pairs}
 use Rattle.plan_core.proofs.Steps.{first_at}
 use Rattle.plan_core.proofs.Tabs.{flat_same, map-flat, tab_read}
 use Rattle.plan_core.proofs.Valued.{fed_most, folded_is, made_is}
 use Rattle.plan_core.proofs.ElementRanges.{wrap_in}
-use Rattle.plan_whole.specs.Folded.{folded_cells, kept_one}
-use Rattle.plan_whole.specs.Gathers.{point_at, read_from, IsRow, Absorbs}
+use Rattle.plan_whole.specs.Folded.{kept_one}
 use Rattle.plan_whole.proofs.EachCell.{are_those, AreThose}
-use Rattle.plan_whole.proofs.RowPoints.{point_inside, tab_rows}
 use Rattle.plan_whole.proofs.Totals.{wrapped_again}
-
--- ---- one row
-
-pub row_is : (k : FoldKind) (t : DType) (feeds : List Feed) (shape sizes : List ℕ) (row count : ℕ) (cells : List (Option ℤ)) (empty full : Folded) (c : Option ℤ) → IsRow feeds shape sizes row 0 count → StandsFor empty [] → (empty.kind ≡ k) × (empty.of ≡ t)
-    → Absorbs empty full (gathered 0 feeds shape (point_at sizes row) (read_from cells 0 shape)) → ((all : List (ℕ × Option ℤ)) → StandsFor full all → c ≡ fold_of full.kind full.of all) → c ≡ fold_of k t (gathered 0 feeds shape (point_at sizes row) (read_from cells 0 shape))
-row_is k t feeds shape sizes row count cells empty full c r stands same absorbs finish =
-    let all = gathered 0 feeds shape (point_at sizes row) (read_from cells 0 shape) in
-    let here : IsPoint (kept feeds shape) (point_at sizes row) = subst (λ z. IsPoint z (point_at sizes row)) r.sizes_are (point_inside sizes row r.inside) in
-    let most = fed_most 0 feeds shape (point_at sizes row) (read_from cells 0 shape) r.long r.fed here in
-    let whole = r.whole in
-    let few = r.few in
-    finish all (absorbs.stands [] stands (omega arith)) ∙ ap (λ j. fold_of j full.of all) (absorbs.kind ∙ same.0) ∙ ap (λ u. fold_of k u all) (absorbs.of ∙ same.1)
-
--- ---- all rows
-
-pub rows_done : (k : FoldKind) (t : DType) (feeds : List Feed) (shape sizes : List ℕ) (cells out : List (Option ℤ)) (i end : ℕ) → sizes ≡ kept feeds shape → size sizes ≤ most_node_cells → end ≡ min (size sizes) (2 ^ 64 - 1) → end ≤ i → i ≤ end
-    → out ≡ map (λ r. fold_of k t (gathered 0 feeds shape (point_at sizes r) (read_from cells 0 shape))) (range_with_len 0 i) → out ≡ folded_cells k t feeds shape cells
-rows_done k t feeds shape sizes cells out i end is few is_end low high so_far =
-    let f = λ (p : List ℕ). fold_of k t (gathered 0 feeds shape p (read_from cells 0 shape)) in
-    let n : i ≡ size sizes = omega arith in
-    so_far ∙ ap (λ m. map (λ r. f (point_at sizes r)) (range_with_len 0 m)) n ∙ tab_rows sizes f ∙ ap (λ z. tab z f) is
-
-pub rows_more : (k : FoldKind) (t : DType) (feeds : List Feed) (shape sizes : List ℕ) (cells out more : List (Option ℤ)) (i : ℕ) (c : Option ℤ) → more ≡ out ++ c ∷ [] → c ≡ fold_of k t (gathered 0 feeds shape (point_at sizes i) (read_from cells 0 shape))
-    → out ≡ map (λ r. fold_of k t (gathered 0 feeds shape (point_at sizes r) (read_from cells 0 shape))) (range_with_len 0 i) → more ≡ map (λ r. fold_of k t (gathered 0 feeds shape (point_at sizes r) (read_from cells 0 shape))) (range_with_len 0 (i + 1))
-rows_more k t feeds shape sizes cells out more i c is_more is so_far =
-    let g = λ (r : ℕ). fold_of k t (gathered 0 feeds shape (point_at sizes r) (read_from cells 0 shape)) in
-    is_more ∙ ap (λ x. out ++ x ∷ []) is ∙ ap (λ xs. xs ++ g i ∷ []) so_far ∙ sym (map-range_with_len_more g 0 i i (omega arith))
-
-from_start : (a : Array) → read_from a.cells 0 a.shape ≡ at a
-from_start a = λ k q. ap (λ m. get_or a.cells m None) (front (place a.shape q)) k
-  where
-    front : (n : ℕ) → 0 + n ≡ n
-    front n = omega arith
-
-pub fold_here : (k : FoldKind) (kind t : DType) (feeds : List Feed) (a : Array) (shape sizes now : List ℕ) (xs cells : List (Option ℤ)) → IsArray a → length feeds ≡ length a.shape → AreFed feeds a.shape → size a.shape ≤ most_node_cells → kind ≡ folded_kind k a.kind → t ≡ a.kind → now ≡ a.shape
-    → sizes ≡ kept feeds shape → shape ≡ a.shape → xs ≡ a.cells → cells ≡ folded_cells k t feeds now xs → AreThose (folded k feeds a) kind sizes cells
-fold_here k kind t feeds a shape sizes now xs cells is long fed few is_kind is_t is_now is_sizes is_shape same is_cells =
-    are_those (folded k feeds a) kind sizes cells (folded_is k feeds a long fed few is) is_kind (is_sizes ∙ ap (kept feeds) is_shape)
-    (is_cells ∙ (λ i. folded_cells k (is_t i) feeds (is_now i) (same i)) ∙ ap (λ f. tab (kept feeds a.shape) (λ p. fold_of k a.kind (gathered 0 feeds a.shape p f))) (from_start a))
 
 -- ---- the sizes that stay
 

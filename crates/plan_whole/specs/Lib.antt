@@ -1,4 +1,1 @@
-pub mod Cellwise
-pub mod Gathers
 pub mod Folded
-pub mod Scans

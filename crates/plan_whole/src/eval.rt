@@ -3,11 +3,11 @@ ghost use Rattle.std.specs.Prelude.{◌≡◌, ◌<◌, [], length, All, IfOk};
 ghost use Rattle.xr_arrays.specs.Nodes.{value, node_of, AllFit};
 ghost use Rattle.plan_core.specs.Needs.{inputs_at, IsHeld, IsReady};
 
-use crate::cellwise::{binary, choose, unary};
 use crate::fold::fold;
 use crate::inputs::{input, inputs};
-use crate::scan::scan;
 use arrangement::{concat, reorder, take, widen};
+use cell_strips::{binary, choose, unary};
+use row_folds::scan;
 use std::alloc::{AllocError, Global};
 use xr_arrays::{ArrayValue, Node};
 

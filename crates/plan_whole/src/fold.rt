@@ -4,17 +4,13 @@ ghost use Rattle.xr_types.specs.Kinds.{wrap_to};
 ghost use Rattle.xr_types.specs.Points.{size};
 ghost use Rattle.xr_types.specs.declared.operation.FoldKind.TheVariants.{Sum};
 ghost use Rattle.xr_arrays.specs.Arrays.{made, IsArray};
-ghost use Rattle.xr_arrays.specs.Folds.{folded_kind, fold_of, total_kind, sum_of};
-ghost use Rattle.xr_arrays.specs.Nodes.{kept, folded, gathered, AreFed, most_node_cells};
+ghost use Rattle.xr_arrays.specs.Folds.{total_kind, sum_of};
+ghost use Rattle.xr_arrays.specs.Nodes.{kept, folded, AreFed, most_node_cells};
 ghost use Rattle.plan_core.specs.Rows.{those};
-ghost use Rattle.plan_whole.specs.Folded.{kept_one, folded_cells};
-ghost use Rattle.plan_whole.specs.Gathers.{point_at, read_from, IsRow};
+ghost use Rattle.plan_whole.specs.Folded.{kept_one};
 
-use crate::gather::gather;
-use crate::numbers::{array_of, numbers_of};
+use crate::numbers::array_of;
 use crate::total::total;
-use arrangement::points;
-use fold_kernel::Partial;
 use std::alloc::{AllocError, Global};
 use xr_arrays::{ArrayValue, Feed};
 use xr_types::{DType, FoldKind, Items, is_unsigned, wrap};
@@ -27,17 +23,6 @@ pub fn total_kind(kind: DType) -> DType
         DType::UInt64
     } else {
         DType::Int64
-    }
-}
-
-fn folded_kind(fold: FoldKind, kind: DType) -> DType
-    ensures { result ≡ folded_kind fold kind }
-{
-    match fold {
-        FoldKind::Min | FoldKind::Max | FoldKind::First | FoldKind::Last => kind,
-        FoldKind::Any | FoldKind::All => DType::Bool,
-        FoldKind::Sum | FoldKind::Prod => total_kind(kind),
-        FoldKind::ArgMin | FoldKind::ArgMax | FoldKind::Count => DType::Int64,
     }
 }
 
@@ -69,47 +54,6 @@ fn kept_sizes(alloc: Global, feeds: &[Feed], shape: &[u64]) -> Result<Vec<u64>, 
         push_kept(&mut sizes, &feeds[i], shape[i])?;
     }
     Ok(sizes)
-}
-
-fn fold_row(
-    fold: FoldKind,
-    kind: DType,
-    feeds: &[Feed],
-    shape: &[u64],
-    sizes: &[u64],
-    row: u64,
-    cells: &[Option<i128>],
-) -> Option<i128>
-    requires { IsRow feeds.now shape.now sizes.now row 0 (length cells.now) }
-    ensures { result ≡ fold_of fold kind (gathered 0 feeds.now shape.now (point_at sizes.now row) (read_from cells.now 0 shape.now)) }
-{
-    let mut partial = Partial::empty(fold, kind);
-    gather(&mut partial, 0, feeds, shape, sizes, row, cells, 0);
-    partial.finish()
-}
-
-fn fold_cells(
-    alloc: Global,
-    fold: FoldKind,
-    kind: DType,
-    feeds: &[Feed],
-    shape: &[u64],
-    sizes: &[u64],
-    cells: &[Option<i128>],
-) -> Result<Vec<Option<i128>>, AllocError>
-    requires long { length feeds.now ≡ length shape.now }
-    requires fed { AreFed feeds.now shape.now }
-    requires sizes { sizes.now ≡ kept feeds.now shape.now }
-    requires few_rows { size sizes.now ≤ most_node_cells }
-    requires whole { length cells.now ≡ size shape.now }
-    requires few { size shape.now ≤ most_node_cells }
-    ensures { IfOk result (λ v. v.items ≡ folded_cells fold kind feeds.now shape.now cells.now) }
-{
-    let mut folds = Vec::new(alloc);
-    for row in 0..points(sizes) {
-        folds.push(fold_row(fold, kind, feeds, shape, sizes, row, cells))?;
-    }
-    Ok(folds)
 }
 
 // Whether a fold that keeps axes of these sizes is the sum of all cells.
@@ -153,7 +97,5 @@ pub fn fold(
     if sums_all(fold, &sizes) {
         return sum(alloc, a);
     }
-    let cells = numbers_of(alloc, a)?;
-    let folds = fold_cells(alloc, fold, a.kind(), feeds, a.shape(), &sizes, &cells)?;
-    array_of(alloc, folded_kind(fold, a.kind()), Items::of(sizes), &folds)
+    row_folds::fold(alloc, fold, a, feeds)
 }

@@ -1,6 +1,6 @@
 -- How a run ends, by its status.
-use Rattle.std.proofs.Common.{◌≡◌, ◌<◌, ◌≤◌, ◌++◌, ℕ, Bool, List, [], length, Option, Some, None, inl, inr, ltb, true, false, refl, sym, ap, subst, ◌∙◌, rules, tests}
-use Rattle.std.specs.Prelude.{IsTrue, MatchOption}
+use Rattle.std.proofs.Common.{◌≡◌, ◌<◌, ◌++◌, ℕ, Bool, List, length, Option, Some, None, inl, inr, ltb, true, refl, sym, subst, rules, tests}
+use Rattle.std.specs.Prelude.{MatchOption}
 use Rattle.std.proofs.lemmas.List.{append-nil}
 use Rattle.xr_types.specs.declared.status.ScriptFault.{ScriptFault}
 use Rattle.xr_types.specs.declared.status.ScriptKind.TheVariants.{TooMany}
@@ -11,11 +11,11 @@ use Rattle.xr_defs.specs.Messages.{status_line}
 use Rattle.xr_syntax.specs.Syntax.{Line}
 use Rattle.xr_syntax.specs.Tokens.{text_fault, tokens_of}
 use Rattle.xr_syntax.specs.Scripts.{IsScriptText, IsFirstFault, FirstFault}
-use Rattle.xr_runs.specs.Runs.{Ended, ended, start, run_from, Run, no_words, no_script, script, ScriptRun, not_begun, begun as run_begun, IsPutInRun, put_by}
+use Rattle.xr_runs.specs.Runs.{ended, start, run_from, no_words, no_script, script, not_begun, begun as run_begun, put_by}
 use Rattle.xr_run.specs.declared.stopped.Stopped.{Stopped}
 use Rattle.xr_run.specs.declared.stopped.Stopped.TheVariants as stops
 use Rattle.xr_outside.specs.Outside.{Rose}
-use Rattle.xr_run.specs.Ends.{IsEnd, Ends, ScriptEnds, CommandEnds, StatementsKeep, ScriptKeeps, CommandKeeps, StatusTallied, Untouched, status_of}
+use Rattle.xr_run.specs.Ends.{Ends, ScriptEnds, CommandEnds, StatementsKeep, ScriptKeeps, CommandKeeps, StatusTallied, Untouched, status_of}
 use Rattle.xr_run.specs.Top.{RunEnds, RunCounted, unsaid}
 
 abbrev pub too_long : ScriptFault

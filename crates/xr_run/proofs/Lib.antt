@@ -11,3 +11,4 @@ mod Performed
 mod Stepped
 mod Timed
 mod ValuesKept
+mod Placing

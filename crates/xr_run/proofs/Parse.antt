@@ -1,5 +1,5 @@
 -- What a parse of the command's words says.
-use Rattle.std.proofs.Common.{ap, refl, sym, subst, ◌≡◌, ◌∙◌, List, [], ◌∷◌, true, Option, Some, None, Ok, Err, inl, inr, codes}
+use Rattle.std.proofs.Common.{ap, refl, sym, subst, ◌≡◌, ◌∙◌, List, [], ◌∷◌, true, Option, None, Ok, Err, inl, inr, codes}
 use Rattle.clap.specs.Words.{App, HasKind, HasMatchesOf, IsAmong, Kinds, Text, fault_of, first_value, found_of, is_simple, is_simple_and_free, kind_of, first_of, matches_of}
 use Rattle.clap.specs.declared.error.Error.{Error}
 use Rattle.clap.specs.declared.error.kind.ErrorKind.{ErrorKind}

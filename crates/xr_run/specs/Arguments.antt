@@ -1,5 +1,5 @@
 -- The lists of an expression from left to right, as the program walks them.
-use Rattle.std.specs.Prelude.{List, [], ◌∷◌, Option, Some, None, Result, Ok}
+use Rattle.std.specs.Prelude.{ℕ, List, [], ◌∷◌, Option, Some, None, Result, Ok}
 use Rattle.xr_types.specs.declared.text.TextBytes.{TextBytes}
 use Rattle.xr_types.specs.declared.fault.Fault.{Fault}
 use Rattle.xr_types.specs.declared.operation.OpKind.{OpKind}
@@ -7,9 +7,10 @@ use Rattle.xr_syntax.specs.declared.syntax.Expr.{Expr}
 use Rattle.xr_types.specs.Results.{◌>>=◌}
 use Rattle.xr_defs.specs.Stores.{Files}
 use Rattle.xr_syntax.specs.Syntax.{tree_of}
+use Rattle.xr_relations.specs.Aligning.{value_assigned}
 use Rattle.xr_defs.specs.Meanings.{Value, Values, Entries, With, Entry, Given}
 use Rattle.xr_operations.specs.Arithmetic.{binary_called}
-use Rattle.xr_runs.specs.Evaluation.{Names, value_of}
+use Rattle.xr_runs.specs.Evaluation.{named, value_of, Names}
 use Rattle.xr_defs.specs.Meanings.{and_plain, and_keyed}
 
 -- an argument more, by its keyword where it has one
@@ -32,3 +33,7 @@ entries_rest names files vs (e ∷ es) = value_of names files (tree_of e.1) >>= 
 -- an operator behind a value, once its right operand is told
 abbrev pub with_right : OpKind → Value → Result Value Fault → Result Value Fault
 with_right op v told = told >>= λ w. binary_called op v w
+
+-- a value put as a variable into the dataset that a name stands for
+abbrev pub placed_of : Names → List ℕ → List ℕ → Value → Result Value Fault
+placed_of names name variable v = named names name >>= λ w. value_assigned w variable v

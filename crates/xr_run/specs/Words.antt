@@ -1,5 +1,5 @@
 -- The words of the command, as `clap` defines it: `xrs [SCRIPT]`, with neither help nor version.
-use Rattle.std.specs.Prelude.{◌≡◌, ℕ, List, [], ◌∷◌, Option, Some, None, Result, Ok, Err, codes, true}
+use Rattle.std.specs.Prelude.{◌≡◌, List, [], ◌∷◌, Option, None, Result, Ok, Err, codes, true}
 use Rattle.clap.specs.Words.{App, Kinds, Text, fault_of, first_of, first_value, found_of, matches_of, new_app, new_rule, with_rule}
 use Rattle.clap.specs.Simple.{on_top}
 use Rattle.clap.specs.declared.parser.matches.ArgMatches.{ArgMatches}

@@ -9,14 +9,14 @@ ghost use Rattle.xr_runs.specs.Calls.{method_called, part_picked};
 ghost use Rattle.xr_defs.specs.Meanings.{Number, Text, Sequence, Table, With, Entry};
 ghost use Rattle.plan_core.specs.Plans.{Grows};
 ghost use Rattle.xr_values.specs.Meaning.{meaning, given, all_values as values_meant, all_entries as entries_meant, IsValueIn, IsEntryIn, AreArgsIn};
-ghost use Rattle.xr_run.specs.Arguments.{and_argument, with_right};
+ghost use Rattle.xr_run.specs.Arguments.{and_argument, placed_of, with_right};
 ghost use Rattle.xr_run.specs.Named.{names_of, AreNamesIn};
 ghost use Rattle.xr_run.specs.Answers.{Gives, GivesOrFails, Tallied};
 
 use crate::functions::call_function;
 use crate::names::NameMap;
 use crate::stopped::Stopped;
-use dataset_core::{binary_operator, call_method, pick, unary_operator};
+use dataset_core::{assigned_value, binary_operator, call_method, pick, unary_operator};
 use plan_core::Plan;
 use plan_whole::Whole;
 use std::alloc::{AllocError, Global};
@@ -116,6 +116,29 @@ fn picked_value(
 {
     match pick(alloc, plan, value, name) {
         Ok(value) => Ok(value),
+        Err(fault) => Err(Stopped::from(fault)),
+    }
+}
+
+/// The dataset that a name stands for, with a value put into it as a variable.
+#[tactic(auto, using(plan_core::proofs::Plans::grows_by_none))]
+pub(crate) fn placed_value(
+    alloc: Global,
+    plan: &mut Plan,
+    names: &NameMap,
+    name: &TextBytes,
+    variable: &TextBytes,
+    value: &Value,
+) -> Result<Value, Stopped>
+    requires names { AreNamesIn plan.old names.now }
+    requires value { IsValueIn plan.old value.now }
+    ensures value { Gives (meaning plan.new) result (placed_of (names_of plan.old names.now) name.now variable.now (meaning plan.old value.now)) }
+    ensures inside { IfOk result (IsValueIn plan.new) }
+    ensures grows { Grows plan.old plan.new }
+{
+    let target = value_named(alloc, names, name)?;
+    match assigned_value(alloc, plan, &target, variable, value) {
+        Ok(placed) => Ok(placed),
         Err(fault) => Err(Stopped::from(fault)),
     }
 }

@@ -9,7 +9,7 @@ ghost use Rattle.xr_run.specs.Named.{names_of, AreNamesIn};
 ghost use Rattle.xr_run.specs.Steps.{EffectIs, EffectFits, IsEffectIn, PerformIs, PerformKeeps, StepIs, StepKeeps, PerformTallied, BothTallied};
 
 use crate::effect::Effect;
-use crate::eval::{eval, eval_arguments};
+use crate::eval::{eval, eval_arguments, placed_value};
 use crate::names::NameMap;
 use crate::printing::printed;
 use crate::stopped::Stopped;
@@ -80,7 +80,7 @@ fn align<R: Threads + Sync, S: Store>(
     }
 }
 
-// `name["v"] = expr`. No variable is set in a dataset so far.
+// `name["v"] = expr`
 #[tactic(auto, unfolding(xr_runs::specs::Runs::step))]
 fn place<R: Threads + Sync, S: Store>(
     rt: &R,
@@ -102,13 +102,11 @@ fn place<R: Threads + Sync, S: Store>(
     ensures tells { S.tells store.new ≡ S.tells store.old }
     ensures tallied { Tallied (S.faults store.old) (S.faults store.new) result }
 {
-    let _ = variable;
     match eval(rt, alloc, expr, names, store, cx) {
         Ok(value) => {
-            drop(value);
-            match names.get(name) {
-                Some(_) => Err(Stopped::Refused(Fault::WrongKind)),
-                None => Err(Stopped::Refused(Fault::UnknownName(name.deep_copy(alloc)?))),
+            match placed_value(alloc, &mut cx.plan, names, name, variable, &value) {
+                Ok(set) => Ok(Effect::Bind(name.deep_copy(alloc)?, set)),
+                Err(stopped) => Err(stopped),
             }
         }
         Err(stopped) => Err(stopped),

@@ -17,10 +17,13 @@ use Rattle.xr_defs.specs.Printing.{array_text, set_text}
 use Rattle.xr_defs.specs.Selecting.{isel_array, isel_set}
 use Rattle.xr_defs.specs.Parts.{picked_of_set, picked_of_array, renamed, to_dataset, own_name, as_set, array_with_attrs, set_with_attrs, transposed, dropped_of_array, dropped_of_set}
 use Rattle.xr_defs.specs.Building.{bound, argument, option, required, data_array, assigned_to_array, assigned_to_set}
+use Rattle.xr_operations.specs.CellMethods.{where_called, where_method}
 use Rattle.xr_operations.specs.Methods.{array_method, is_cell_method}
 use Rattle.xr_operations.specs.Moves.{diff_array, diff_set, roll_array, roll_set, shift_array, shift_set}
 use Rattle.xr_operations.specs.Reductions.{cumsum_array, cumsum_set, reduced_array, reduced_set, reduction_named}
 use Rattle.xr_operations.specs.Selection.{sel_array, sel_set}
+use Rattle.xr_relations.specs.Reindexing.{reindex_array, reindex_set}
+use Rattle.xr_relations.specs.Times.{times_given}
 use Rattle.xr_defs.specs.Meanings.{Value, Truth, Number, Text, Array, Set, GroupedArray, GroupedSet, Given}
 use Rattle.xr_defs.specs.Arguments.{wrong, unfit, as_text, slice_given}
 
@@ -44,12 +47,17 @@ open_asked g =
 unfoldable pub open_dataset : Files → Given → Result Dataset Fault
 open_dataset files g = open_asked g >>= λ w. opened_set files w.0 w.1
 
--- a function that takes no file
-unfoldable pub function_over_values : List ℕ → Given → Result Value Fault
-function_over_values name g =
-    if bytes_eq name (codes "DataArray") then (data_array g >>= λ a. Ok (Array a))
-    else if bytes_eq name (codes "slice") then slice_given g
+-- a function over values that computes no cells at once
+unfoldable pub uncomputed_function : List ℕ → Given → Result Value Fault
+uncomputed_function name g =
+    if bytes_eq name (codes "slice") then slice_given g
+    else if bytes_eq name (codes "times") then times_given g
+    else if bytes_eq name (codes "where") then (where_called g >>= λ a. Ok (Array a))
     else Err (UnknownName name)
+
+-- a function that takes no file: those, and the one that computes the arrays that become coordinates
+unfoldable pub function_over_values : List ℕ → Given → Result Value Fault
+function_over_values name g = if bytes_eq name (codes "DataArray") then (data_array g >>= λ a. Ok (Array a)) else uncomputed_function name g
 
 unfoldable pub function_called : Files → List ℕ → Given → Result Value Fault
 function_called files name g =
@@ -106,10 +114,11 @@ move_or_reduction v name g =
     else if bytes_eq name (codes "diff") then of_both (λ a. diff_array a g) (λ s. diff_set s g) v
     else reduction_called v name g
 
--- those that give new cells: cell by cell, by running sums, moved, and by reductions
+-- those that give new cells: cell by cell, chosen, by running sums, moved, and by reductions
 unfoldable pub method_on_cells : Value → List ℕ → Given → Result Value Fault
 method_on_cells v name g =
     if is_cell_method name then of_array (λ a. array_method name a g >>= λ b. Ok (Array b)) v
+    else if bytes_eq name (codes "where") then of_array (λ a. where_method a g >>= λ b. Ok (Array b)) v
     else if bytes_eq name (codes "cumsum") then of_both (λ a. cumsum_array a g) (λ s. cumsum_set s g) v
     else move_or_reduction v name g
 
@@ -118,6 +127,7 @@ unfoldable pub uncomputed_method : Value → List ℕ → Given → Result Value
 uncomputed_method v name g =
     if bytes_eq name (codes "isel") then of_both (λ a. isel_array a g) (λ s. isel_set s g) v
     else if bytes_eq name (codes "sel") then of_both (λ a. sel_array a g) (λ s. sel_set s g) v
+    else if bytes_eq name (codes "reindex") then of_both (λ a. reindex_array a g) (λ s. reindex_set s g) v
     else if bytes_eq name (codes "transpose") then of_array (λ a. transposed a g >>= λ b. Ok (Array b)) v
     else if bytes_eq name (codes "drop_vars") then of_both (λ a. dropped_of_array a g) (λ s. dropped_of_set s g) v
     else if bytes_eq name (codes "assign_attrs") then of_both (array_with_attrs g) (set_with_attrs g) v

@@ -12,6 +12,7 @@ use Rattle.xr_syntax.specs.Syntax.{Line, Tree}
 use Rattle.xr_syntax.specs.Scripts.{IsScriptText, IsFirstFault}
 use Rattle.xr_defs.specs.Stores.{Files}
 use Rattle.xr_defs.specs.Meanings.{Value}
+use Rattle.xr_relations.specs.Aligning.{value_assigned}
 use Rattle.xr_runs.specs.Calls.{text_printed, set_written}
 use Rattle.xr_runs.specs.Evaluation.{Names, named, value_of, given_of}
 
@@ -40,12 +41,12 @@ unfoldable pub written_by : Names → Files → Tree → Result (List ℕ × Lis
 written_by names files (tree.Method e f gs) = value_of names files e >>= λ v. given_of names files gs >>= λ g. set_written v g
 written_by names files e = Err WrongKind
 
--- The next state, or the statement's first fault. No function aligns, and no variable is set in a dataset, so far.
+-- The next state, or the statement's first fault. No function aligns so far.
 unfoldable pub step : Line → State → Result State Fault
 step (tree.Assigned name e) s = value_of s.names s.files e >>= λ v. Ok (with_name s name v)
 step (tree.Aligned names (tree.Call f gs)) s = given_of s.names s.files gs >>= λ g. Err (UnknownName f)
 step (tree.Aligned names e) s = Err WrongKind
-step (tree.Placed name variable e) s = value_of s.names s.files e >>= λ v. named s.names name >>= λ w. Err WrongKind
+step (tree.Placed name variable e) s = value_of s.names s.files e >>= λ v. named s.names name >>= λ w. value_assigned w variable v >>= λ t. Ok (with_name s name t)
 step (tree.Printed e) s = value_of s.names s.files e >>= λ v. text_printed v >>= λ text. Ok (with_text s text)
 step (tree.Written e) s = written_by s.names s.files e >>= λ w. Ok (with_file s w.0 w.1)
 

@@ -24,7 +24,8 @@ fn is_label(value: &Value) -> bool
     }
 }
 
-fn are_all_labels(list: &[Value]) -> bool
+/// Whether each value is a number or a text.
+pub fn are_all_labels(list: &[Value]) -> bool
     ensures { (nodes : List Node) → result ≡ list_all of.is_label (map (meaning nodes) list.now) }
 {
     for value in list {

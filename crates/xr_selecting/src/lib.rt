@@ -2,7 +2,7 @@
 #![tactic(auto)]
 
 mod ends;
-mod found;
+mod finding;
 mod kinds;
 mod labels;
 mod located;
@@ -10,5 +10,8 @@ mod options;
 mod positions;
 mod sel;
 
-pub use options::Search;
+pub use finding::{are_kin, check_search, found};
+pub use kinds::are_all_labels;
+pub use labels::as_labels;
+pub use options::{Search, is_option, option, search_given};
 pub use sel::{sel_array, sel_set};

@@ -13,7 +13,7 @@ ghost use Rattle.xr_indexing.specs.Choices.{selector_in};
 ghost use Rattle.xr_selecting.specs.Searches.{search_in};
 
 use crate::ends::between_ends;
-use crate::found::{check_list, each_found, found};
+use crate::finding::{check_list, each_found, found};
 use crate::labels::{as_label, as_labels};
 use crate::options::Search;
 use label_index::Index;

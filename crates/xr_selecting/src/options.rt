@@ -35,9 +35,9 @@ fn keyword<'a>(name: &str, keyed: &'a [(TextBytes, Value)]) -> Option<&'a Value>
     }
 }
 
-// The argument by this keyword, where `None` is no argument.
+/// The argument by this keyword, where `None` is no argument.
 #[tactic(auto, using(xr_arguments::proofs::Variants::is_absent, xr_values::proofs::Meaning::meaning_out))]
-fn option<'a>(name: &str, keyed: &'a [(TextBytes, Value)]) -> Option<&'a Value>
+pub fn option<'a>(name: &str, keyed: &'a [(TextBytes, Value)]) -> Option<&'a Value>
     ensures { (nodes : List Node) → option_map (λ v. meaning nodes v.now) result ≡ calls.given_value (calls.keyword name.now (map (with_key nodes) keyed.now)) }
 {
     match keyword(name, keyed) {

@@ -3,11 +3,14 @@ ghost use Rattle.std.specs.Prelude.{◌≡◌, ℕ, List, None, false};
 
 use crate::beside::Beside;
 use crate::disk::Disk;
+use crate::place::{folder_of, led_to};
+use crate::size_limit::size_limit;
 use crate::to_disk::write_all_of;
 use bytes::{Buf, BytesQueue};
 use std::alloc::Global;
-use std::fs::{File, OpenFile, OpenOptions};
+use std::fs::{File, Metadata, OpenFile, OpenOptions};
 use std::io::{Error, ErrorKind};
+use std::os::unix::fs::OpenOptionsExt;
 use std::rt::Files;
 use std::thread::Threads;
 use std::{fs, io};
@@ -18,69 +21,131 @@ use xr_types::TextBytes;
 #[derive(Drop)]
 pub struct FileStore<'a, R> {
     rt: &'a R,
+    alloc: Global,
+    names: NewNames,
     faults: u64,
 }
 
 impl<'a, R: Files> FileStore<'a, R> {
-    pub fn new(rt: &'a R) -> Self
+    /// The files of the system, which the process of this number writes.
+    pub fn new(rt: &'a R, alloc: Global, process: u32) -> Self
         ensures { result.faults ≡ 0 }
     {
-        FileStore { rt, faults: 0 }
+        FileStore {
+            rt,
+            alloc,
+            names: NewNames { process, next: 0 },
+            faults: 0,
+        }
     }
 }
 
-// Writes the bytes into what is no regular file: a device, a pipe, or what a link leads to.
+// The names that new files get until they are written: those of the process from this number on.
+#[derive(Drop)]
+struct NewNames {
+    process: u32,
+    next: u32,
+}
+
+// Writes the bytes into what is no regular file: a device or a pipe.
 fn write_through<R: Files, B: Buf + Drop>(rt: &R, name: &str, bytes: B) -> io::Result<()> {
-    let mut file = OpenOptions::new()
-        .write(true)
-        .truncate(true)
-        .open(rt, name)?;
+    let mut file = OpenOptions::new().write(true).open(rt, name)?;
     write_all_of(&mut file, bytes)
 }
 
-// Writes the bytes to a new file, with the permissions of the old one, and to the disk.
+// What is known of the file that stands at a place. One that may not be written is an error, though its folder could be.
+fn old_at<R: Files>(rt: &R, place: &str) -> io::Result<Option<Metadata>> {
+    match OpenOptions::new().write(true).open(rt, place) {
+        Ok(file) => Ok(Some(file.metadata()?)),
+        Err(e) if e.kind() == ErrorKind::NotFound => Ok(None),
+        Err(e) => Err(e),
+    }
+}
+
+// A new file. Where it replaces an old one, nobody else may open it before it has the permissions of that one.
+fn create<R: Files>(rt: &R, path: &str, replaces: bool) -> io::Result<R::File> {
+    let mut how = OpenOptions::new();
+    how.write(true).create_new(true);
+    if replaces {
+        how.mode(0o600);
+    }
+    how.open(rt, path)
+}
+
+// Fills a new file with the bytes, up to the disk.
 fn fill<R: Disk + Threads, B: Buf + Drop>(
     rt: &R,
-    name: &str,
     file: R::File,
+    old: Option<Metadata>,
     bytes: B,
 ) -> io::Result<()> {
-    if let Ok(old) = fs::metadata(rt, name) {
-        file.set_permissions(old.permissions())?;
+    if let Some(old) = old {
+        rt.take_over(&file, &old)?;
     }
     rt.write_to_disk(rt, file, bytes)
 }
 
-// Fills a new file beside the other, and gives it the other's name once its bytes are on the disk. Where something
-// fails, the new file is removed, and the old one is as it was.
+// Sends to the disk which names the folder of a path has. A folder that may not be read isn't, nor one whose file system
+// can't.
+fn sync_folder<R: Files>(rt: &R, path: &str) -> io::Result<()> {
+    let folder = folder_of(path);
+    let folder = if folder.is_empty() { "." } else { folder };
+    let synced = match File::open(rt, folder) {
+        Ok(file) => file.sync_all(),
+        Err(e) if e.kind() == ErrorKind::PermissionDenied => return Ok(()),
+        Err(e) => Err(e),
+    };
+    match synced {
+        Err(e) if e.kind() == ErrorKind::InvalidInput || e.kind() == ErrorKind::Unsupported => {
+            Ok(())
+        }
+        other => other,
+    }
+}
+
+// Fills the new file at the path beside, and moves it to the place once its bytes are on the disk. Where something fails
+// the new file is removed, and the old one is as it was.
 fn replace<R: Disk + Threads, B: Buf + Drop>(
     rt: &R,
-    name: &str,
+    place: &str,
+    old: Option<Metadata>,
     beside: &str,
     file: R::File,
     bytes: B,
 ) -> io::Result<()> {
-    let moved = match fill(rt, name, file, bytes) {
-        Ok(()) => fs::rename(rt, beside, name),
+    let moved = match fill(rt, file, old, bytes) {
+        Ok(()) => fs::rename(rt, beside, place),
         Err(e) => Err(e),
     };
-    if moved.is_err() {
-        let _removed = fs::remove_file(rt, beside);
+    match moved {
+        Ok(()) => sync_folder(rt, place),
+        Err(e) => {
+            let _removed = fs::remove_file(rt, beside);
+            Err(e)
+        }
     }
-    moved
 }
 
-// Tries new names beside the name until one is free.
-fn write_beside<R: Disk + Threads, B: Buf + Drop>(rt: &R, name: &str, bytes: B) -> io::Result<()> {
-    let Some(mut beside) = Beside::of(name) else {
+// Tries new names beside the place until one is free.
+fn write_beside<R: Disk + Threads, B: Buf + Drop>(
+    rt: &R,
+    names: &mut NewNames,
+    place: &str,
+    old: Option<Metadata>,
+    bytes: B,
+) -> io::Result<()> {
+    let Some(mut beside) = Beside::of(place, names.process) else {
         return Err(Error::from(ErrorKind::InvalidFilename));
     };
-    for number in 0..Beside::COUNT {
+    for number in names.next..u32::MAX {
         let Some(path) = beside.path(number) else {
             return Err(Error::from(ErrorKind::InvalidFilename));
         };
-        match File::create_new(rt, path) {
-            Ok(file) => return replace(rt, name, path, file, bytes),
+        match create(rt, path, old.is_some()) {
+            Ok(file) => {
+                names.next = number + 1;
+                return replace(rt, place, old, path, file, bytes);
+            }
             Err(e) if e.kind() == ErrorKind::AlreadyExists => {}
             Err(e) => return Err(e),
         }
@@ -88,22 +153,46 @@ fn write_beside<R: Disk + Threads, B: Buf + Drop>(rt: &R, name: &str, bytes: B) 
     Err(Error::from(ErrorKind::AlreadyExists))
 }
 
-fn write_file<R: Disk + Threads, B: Buf + Drop>(rt: &R, name: &str, bytes: B) -> io::Result<()> {
-    if name.is_empty() {
-        return Err(Error::from(ErrorKind::NotFound));
+// Writes a whole file at a place. One past the limit of the process isn't begun, since the system would end the process.
+fn write_whole<R: Disk + Threads, B: Buf + Drop>(
+    rt: &R,
+    names: &mut NewNames,
+    place: &str,
+    old: Option<Metadata>,
+    bytes: B,
+) -> io::Result<()> {
+    if let Some(limit) = size_limit(rt)
+        && bytes.remaining() as u64 > limit
+    {
+        return Err(Error::from(ErrorKind::FileTooLarge));
     }
-    match fs::symlink_metadata(rt, name) {
-        Ok(known) => {
-            if known.is_file() {
-                // A file that may not be written stays, though its folder could be.
-                let _old = OpenOptions::new().write(true).open(rt, name)?;
-                write_beside(rt, name, bytes)
-            } else {
-                write_through(rt, name, bytes)
+    write_beside(rt, names, place, old, bytes)
+}
+
+// Writes a file where the name leads. A link that isn't to a name, as those of open files are, leads to no place where a
+// new file could stand.
+fn write_file<R: Disk + Threads, B: Buf + Drop>(
+    rt: &R,
+    alloc: Global,
+    names: &mut NewNames,
+    name: &str,
+    bytes: B,
+) -> io::Result<()> {
+    let stands = match fs::metadata(rt, name) {
+        Ok(known) if !known.is_file() => return write_through(rt, name, bytes),
+        Ok(_) => true,
+        Err(e) if e.kind() == ErrorKind::NotFound && !name.is_empty() => false,
+        Err(e) => return Err(e),
+    };
+    match led_to(rt, alloc, name)? {
+        None => write_whole(rt, names, name, old_at(rt, name)?, bytes),
+        Some(place) => {
+            let old = old_at(rt, place.as_str())?;
+            if stands && old.is_none() {
+                return Err(Error::from(ErrorKind::NotFound));
             }
+            write_whole(rt, names, place.as_str(), old, bytes)
         }
-        Err(e) if e.kind() == ErrorKind::NotFound => write_beside(rt, name, bytes),
-        Err(e) => Err(e),
     }
 }
 
@@ -135,7 +224,7 @@ impl<'a, R: Disk + Threads> Store for FileStore<'a, R> {
 
     fn put(&mut self, name: &TextBytes, bytes: &[u8]) -> Result<(), StoreFailed> {
         let faults = self.faults;
-        match write_file(self.rt, name.as_str(), bytes) {
+        match write_file(self.rt, self.alloc, &mut self.names, name.as_str(), bytes) {
             Ok(()) => Ok(()),
             Err(_) => {
                 self.faults = faults.saturating_add(1);
@@ -146,12 +235,12 @@ impl<'a, R: Disk + Threads> Store for FileStore<'a, R> {
 
     fn put_pieces(
         &mut self,
-        _alloc: Global,
+        alloc: Global,
         name: &TextBytes,
         pieces: BytesQueue,
     ) -> Result<(), StoreFault> {
         let faults = self.faults;
-        match write_file(self.rt, name.as_str(), pieces) {
+        match write_file(self.rt, alloc, &mut self.names, name.as_str(), pieces) {
             Ok(()) => Ok(()),
             Err(_) => {
                 self.faults = faults.saturating_add(1);

@@ -1,10 +1,13 @@
 //! The program `xrs`: runs a script over the files of the system.
 #![tactic(auto)]
 
+mod belongings;
 mod beside;
 mod disk;
 mod file_store;
 mod from_disk;
+mod place;
+mod size_limit;
 mod std_sink;
 #[cfg(test)]
 mod tests;
@@ -13,10 +16,10 @@ mod to_disk;
 use crate::file_store::FileStore;
 use crate::std_sink::StdSink;
 use std::alloc::{AllocError, Global};
-use std::env;
 use std::io::ErrorKind;
 use std::process::ExitCode;
 use std::rt::Env;
+use std::{env, process};
 use xr_run::{NoGate, Sink, exit_number, run};
 use xr_types::{Status, TextBytes};
 
@@ -45,7 +48,7 @@ fn main(rt: HostRuntime) -> ExitCode {
         let _told = err.put(b"xrs: out of memory\n");
         return ExitCode::from(exit_number(&Status::NoMemory));
     };
-    let mut store = FileStore::new(&rt);
+    let mut store = FileStore::new(&rt, alloc, process::id(rt.process()));
     let mut out = StdSink::new(rt.stdout());
     let status = run(&rt, alloc, &words, &mut store, &mut out, &mut err, &NoGate);
     ExitCode::from(exit_number(&status))

@@ -1,7 +1,11 @@
 use crate::file_store::FileStore;
 use crate::std_sink::StdSink;
 use bytes::{Bytes, BytesQueue};
+use std::fs::File;
+use std::io::Read;
+use std::os::unix::fs::symlink;
 use std::test::Fail;
+use std::{fs, process};
 use xr_run::{Got, Sink, Store, StoreFault, one_end_fits};
 use xr_types::TextBytes;
 
@@ -15,7 +19,7 @@ fn found(got: Result<Got, StoreFault>) -> Option<Vec<u8>> {
 #[test]
 fn a_file_is_put_and_got_and_nothing_stays_beside_it(rt: HostRuntime) -> Result<(), Fail> {
     let alloc = rt.alloc();
-    let mut store = FileStore::new(&rt);
+    let mut store = FileStore::new(&rt, alloc, process::id(rt.process()));
     let name = TextBytes::from_str(alloc, "a.nc")?;
     let empty = TextBytes::from_str(alloc, "")?;
     let absent = store.get(alloc, &name, 9);
@@ -27,16 +31,47 @@ fn a_file_is_put_and_got_and_nothing_stays_beside_it(rt: HostRuntime) -> Result<
     let long = store.get(alloc, &name, 8);
     assert!(rt; matches!(long, Ok(Got::TooLong)));
     assert!(rt; store.put(&empty, b"x").is_err());
-    let beside = TextBytes::from_str(alloc, ".xrs-00000")?;
-    let gone = store.get(alloc, &beside, 9);
-    assert!(rt; matches!(gone, Ok(Got::Absent)));
+    for entry in fs::read_dir(&rt, ".")? {
+        let entry = entry?;
+        assert!(rt; !entry.file_name().starts_with(".xrs-"));
+    }
+    Ok(())
+}
+
+#[test]
+fn who_reads_the_old_file_reads_on(rt: HostRuntime) -> Result<(), Fail> {
+    let alloc = rt.alloc();
+    let mut store = FileStore::new(&rt, alloc, process::id(rt.process()));
+    let name = TextBytes::from_str(alloc, "d.nc")?;
+    assert!(rt; store.put(&name, b"old").is_ok());
+    let mut reader = File::open(&rt, "d.nc")?;
+    assert!(rt; store.put(&name, b"new bytes").is_ok());
+    let mut bytes = Vec::new(alloc);
+    reader.read_to_end(&mut bytes)?;
+    assert_eq!(rt; bytes.as_slice(), b"old".as_slice());
+    Ok(())
+}
+
+#[test]
+fn a_link_leads_to_the_file_that_is_put(rt: HostRuntime) -> Result<(), Fail> {
+    let alloc = rt.alloc();
+    let mut store = FileStore::new(&rt, alloc, process::id(rt.process()));
+    let link = TextBytes::from_str(alloc, "link.nc")?;
+    let name = TextBytes::from_str(alloc, "e.nc")?;
+    symlink(&rt, "e.nc", "link.nc")?;
+    for bytes in [b"one", b"two"] {
+        assert!(rt; store.put(&link, bytes.as_slice()).is_ok());
+        let held = found(store.get(alloc, &name, 9)).ok_or("no bytes")?;
+        assert_eq!(rt; held.as_slice(), bytes.as_slice());
+        assert!(rt; fs::symlink_metadata(&rt, "link.nc")?.is_symlink());
+    }
     Ok(())
 }
 
 #[test]
 fn pieces_are_put_in_a_row(rt: HostRuntime) -> Result<(), Fail> {
     let alloc = rt.alloc();
-    let mut store = FileStore::new(&rt);
+    let mut store = FileStore::new(&rt, alloc, process::id(rt.process()));
     let name = TextBytes::from_str(alloc, "b.nc")?;
     let mut pieces = BytesQueue::new(alloc);
     pieces.push(Bytes::from_static(b"two "))?;
@@ -60,7 +95,7 @@ const MANY: usize = 5 << 20;
 #[test]
 fn a_large_file_is_put_and_got_whole(rt: HostRuntime) -> Result<(), Fail> {
     let alloc = rt.alloc();
-    let mut store = FileStore::new(&rt);
+    let mut store = FileStore::new(&rt, alloc, process::id(rt.process()));
     let name = TextBytes::from_str(alloc, "c.nc")?;
     let mut pieces = BytesQueue::new(alloc);
     for value in 1..=4u8 {

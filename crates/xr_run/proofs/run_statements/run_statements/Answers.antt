@@ -1,6 +1,5 @@
 use Rattle.std.proofs.Common.{◌≡◌, ◌+◌, ◌∙◌, subst, sym, refl, Bool, rules, arith}
 use Rattle.std.specs.Prelude.{IsTrue}
-use Rattle.xr_run.proofs.Ended.{begun}
 use Rattle.xr_run.proofs.Stepped.{leads_none, leads_more, leads_stopped, leads_all, keeps_more, tallied_stopped}
 use Rattle.xr_run.proofs.run_statements.run_statements.Goals as goal
 

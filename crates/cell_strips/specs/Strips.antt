@@ -1,0 +1,70 @@
+-- Strips of arrays: so many cells in row order from a place on, as an array of one axis.
+use Rattle.std.specs.Prelude.{◌≡◌, ◌≤◌, ◌++◌, ℕ, true, List, [], ◌∷◌, take, drop, replicate, Option, Some, None}
+use Rattle.xr_types.specs.declared.kind.DType.{DType}
+use Rattle.xr_types.specs.declared.kind.DType.TheVariants as kinds
+use Rattle.xr_types.specs.declared.operation.OpKind.{OpKind}
+use Rattle.xr_types.specs.Points.{size}
+use Rattle.xr_arrays.specs.Arrays.{Array, InKind, IsArray}
+use Rattle.xr_arrays.specs.Elements.{takes_one, takes_two, Gives, Suits}
+use Rattle.xr_arrays.specs.Nodes.{most_node_cells}
+use Rattle.xr_arrays.specs.declared.typed.Cells.{Cells}
+use Rattle.xr_arrays.specs.declared.typed.Cells.TheVariants.{Bool, Char, Int8, Int16, Int32, Int64, UInt8, UInt16, UInt32, UInt64}
+use Rattle.cell_strips.specs.declared.collect.Collected.{Collected}
+use Rattle.cell_strips.specs.Rows.{count, Covers}
+
+abbrev pub strip : ℕ → ℕ → Array → Array
+strip from n a = record { kind = a.kind; shape = n ∷ []; cells = take n (drop from a.cells) }
+
+abbrev pub cells_strip : ℕ → ℕ → Cells → Cells
+cells_strip from n (Bool v) = Bool (take n (drop from v))
+cells_strip from n (Char v) = Char (take n (drop from v))
+cells_strip from n (Int8 v) = Int8 (take n (drop from v))
+cells_strip from n (Int16 v) = Int16 (take n (drop from v))
+cells_strip from n (Int32 v) = Int32 (take n (drop from v))
+cells_strip from n (Int64 v) = Int64 (take n (drop from v))
+cells_strip from n (UInt8 v) = UInt8 (take n (drop from v))
+cells_strip from n (UInt16 v) = UInt16 (take n (drop from v))
+cells_strip from n (UInt32 v) = UInt32 (take n (drop from v))
+cells_strip from n (UInt64 v) = UInt64 (take n (drop from v))
+
+-- ---- strips one after the other
+
+-- the mask of n cells and k more: none where neither has one
+abbrev pub joined_masks : ℕ → ℕ → Option (List ℕ) → Option (List ℕ) → Option (List ℕ)
+joined_masks n k None None = None
+joined_masks n k (Some m) (Some w) = Some (m ++ w)
+joined_masks n k (Some m) None = Some (m ++ replicate k 0)
+joined_masks n k None (Some w) = Some (replicate n 0 ++ w)
+
+-- cells that were collected, with a byte of the mask for each
+pub record IsWhole (c : Collected) : Type 0 where
+  pub range : InKind c.cells
+  pub covers : Covers (count c.cells) c.mask
+
+-- ---- operands that fit, and aren't too large
+
+pub record IsOperand (op : OpKind) (kind : DType) (a : Array) : Type 0 where
+  pub array : IsArray a
+  pub one : takes_one op ≡ true
+  pub gives : Gives op kind a.kind
+  pub suits : Suits op a.kind
+  pub few : size a.shape ≤ most_node_cells
+
+pub record AreOperands (op : OpKind) (a b : Array) : Type 0 where
+  pub array : IsArray a
+  pub other : IsArray b
+  pub two : takes_two op ≡ true
+  pub shape : b.shape ≡ a.shape
+  pub kind : b.kind ≡ a.kind
+  pub suits : Suits op a.kind
+  pub few : size a.shape ≤ most_node_cells
+
+pub record AreChoices (c a b : Array) : Type 0 where
+  pub cond : IsArray c
+  pub array : IsArray a
+  pub other : IsArray b
+  pub cond_kind : c.kind ≡ kinds.Bool
+  pub cond_shape : c.shape ≡ a.shape
+  pub shape : b.shape ≡ a.shape
+  pub kind : b.kind ≡ a.kind
+  pub few : size a.shape ≤ most_node_cells

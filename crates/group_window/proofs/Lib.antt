@@ -1,0 +1,3 @@
+pub mod Fits
+pub mod Lists
+pub mod Ranked

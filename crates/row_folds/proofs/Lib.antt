@@ -1,0 +1,10 @@
+pub mod Steps
+pub mod Sources
+pub mod Absorbed
+pub mod Ways
+pub mod Results
+pub mod Totals
+pub mod Meanings
+pub mod Kept
+pub mod Parts
+pub mod SumsTo

@@ -1,0 +1,131 @@
+//! All cells of an array, absorbed into the rows of a fold's result in the order in which the cells lie.
+ghost use Rattle.std.specs.Prelude.{◌≡◌, ◌<◌, length, [], ◌∷◌, drop, get_or, true, false};
+ghost use Rattle.xr_arrays.specs.declared.node.Feed.TheVariants.{All};
+ghost use Rattle.xr_arrays.specs.FeedPositions.{listed};
+ghost use Rattle.xr_arrays.specs.Nodes.{gathered};
+ghost use Rattle.row_folds.specs.Rows.{read_from, AllKept, AreRows, Absorbs};
+
+use crate::accumulator::Accumulator;
+use crate::leaf::{absorb_row, absorb_run};
+use crate::sizes::{begin, behind, points};
+use crate::source::Source;
+use xr_arrays::{Feed, Positions};
+use xr_types::Elem;
+
+fn feeds_behind(feeds: &[Feed]) -> &[Feed]
+    requires { 0 < length feeds.now }
+    ensures { result.now ≡ drop 1 feeds.now }
+{
+    &feeds[1..]
+}
+
+fn count(positions: Positions<'_>) -> u64
+    ensures { result ≡ length (listed positions.entry) }
+{
+    match positions {
+        Positions::Range { from, to } => to.saturating_sub(from),
+        Positions::List(positions) => positions.len() as u64,
+    }
+}
+
+fn nth(positions: Positions<'_>, i: u64) -> u64
+    requires { i < length (listed positions) }
+    ensures { result ≡ get_or (listed positions.entry) i 0 }
+{
+    match positions {
+        Positions::Range { from, .. } => from + i,
+        Positions::List(positions) => u64::from(positions[i as usize]),
+    }
+}
+
+// Whether all axes stay.
+fn are_kept(feeds: &[Feed]) -> bool
+    ensures kept { result ≡ true → AllKept feeds.now }
+    ensures some { result ≡ false → 0 < length feeds.now }
+{
+    match feeds {
+        [] => true,
+        [Feed::Keep, rest @ ..] => are_kept(rest),
+        _ => false,
+    }
+}
+
+// Whether there is one axis, and it is folded as a whole.
+fn is_run(feeds: &[Feed]) -> bool
+    ensures { result ≡ true → feeds.now ≡ All ∷ [] }
+{
+    match feeds {
+        [Feed::All] => true,
+        _ => false,
+    }
+}
+
+/// Absorbs the cells of a shape, which lie from `start` on, into the accumulators of the sizes that stay, which lie from `at`
+/// on. The position is that along the last axis before that was folded.
+pub fn absorb<T: Elem, A: Accumulator<T>, S: Source<T>>(
+    rows: &mut [A],
+    at: usize,
+    position: u64,
+    feeds: &[Feed],
+    shape: &[u64],
+    sizes: &[u64],
+    source: S,
+    start: usize,
+)
+    requires { AreRows feeds.now shape.now sizes.now at (length rows.old) start (length (S.cells source)) position }
+    ensures { Absorbs A.Is rows.old rows.new at sizes.now (λ p. gathered position feeds.now shape.now p (read_from (S.cells source) start shape.now)) }
+{
+    if are_kept(feeds) {
+        absorb_row(rows, at, points(sizes) as usize, position, source, start);
+        return;
+    }
+    if is_run(feeds) {
+        absorb_run(rows, at, shape[0] as usize, source, start);
+        return;
+    }
+    let rest = feeds_behind(feeds);
+    match &feeds[0] {
+        Feed::Keep => {
+            for i in 0..shape[0] {
+                let row = begin(sizes, at, i);
+                let cells = begin(shape, start, i);
+                absorb(
+                    rows,
+                    row,
+                    position,
+                    rest,
+                    behind(shape),
+                    behind(sizes),
+                    source,
+                    cells,
+                );
+            }
+        }
+        Feed::All => {
+            for i in 0..shape[0] {
+                let cells = begin(shape, start, i);
+                absorb(rows, at, i, rest, behind(shape), sizes, source, cells);
+            }
+        }
+        Feed::By(lists) => {
+            for place in 0..lists.len() {
+                let row = begin(sizes, at, place);
+                let positions = lists.positions(place);
+                for i in 0..count(positions) {
+                    let one = nth(positions, i);
+                    let cells = begin(shape, start, one);
+                    absorb(
+                        rows,
+                        row,
+                        one,
+                        rest,
+                        behind(shape),
+                        behind(sizes),
+                        source,
+                        cells,
+                    );
+                }
+            }
+        }
+    }
+}

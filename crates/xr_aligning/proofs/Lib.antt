@@ -1,0 +1,11 @@
+mod Swapped
+mod Joining
+mod Reaching
+mod Takes
+mod Along
+mod Called
+mod Formed
+mod ArraysAfter
+mod Limited
+mod Assigning
+mod Checked

@@ -1,0 +1,92 @@
+-- The answer of a method of an array in groups by dates.
+use Rattle.std.proofs.Common.{◌≡◌, ◌≤◌, ◌||◌, Bool, true, false, cond, ℕ, List, [], ◌∷◌, None, Ok, refl, sym, ap, subst, ◌∙◌}
+use Rattle.std.specs.Str.{bytes_eq}
+use Rattle.xr_types.specs.Names.{among, axis_names, shape_over}
+use Rattle.xr_values.proofs.Named.{bytes_eq_swap}
+use Rattle.xr_types.specs.Points.{size}
+use Rattle.xr_types.specs.Results.{unless}
+use Rattle.xr_types.specs.declared.axis.Axis.{Axis}
+use Rattle.xr_types.specs.declared.fault.Fault.{Fault}
+use Rattle.xr_types.specs.declared.fault.Fault.TheVariants.{BadArgument}
+use Rattle.xr_types.specs.declared.operation.FoldKind.{FoldKind}
+use Rattle.xr_arrays.specs.declared.node.Node.{Node}
+use Rattle.xr_arrays.specs.declared.time.Field.{Field}
+use Rattle.xr_defs.specs.Arguments.{nothing_given}
+use Rattle.xr_defs.specs.Meanings.{Given}
+use Rattle.xr_defs.specs.declared.grouping.Grouping.TheVariants.{Dates}
+use Rattle.xr_defs.specs.declared.value.Coord.{Coord}
+use Rattle.xr_values.specs.declared.data_array.DataArray.{DataArray}
+use Rattle.xr_values.specs.Stands.{array_in, IsArrayIn}
+use Rattle.xr_formulas.specs.declared.made.Made.{Made}
+use Rattle.xr_formulas.specs.Mades.{made_in, IsMade}
+use Rattle.xr_operations.specs.Reductions.{check_size, masked_after}
+use Rattle.xr_reducing.proofs.Reduced.{size_passed}
+use Rattle.xr_groups.specs.declared.change.Change.{Change}
+use Rattle.xr_groups.specs.declared.change.Least.TheVariants.{Never}
+use Rattle.xr_groups.specs.Groupings.{grouped_changes}
+use Rattle.xr_groups.specs.Listed.{axes_by, is_grouped}
+use Rattle.xr_groups.specs.Methods.{array_by, array_listed, of_groups}
+use Rattle.xr_grouping.specs.Mades.{dated_of, folded_made}
+use Rattle.xr_grouping.proofs.Facts.{dated, IsDated}
+use Rattle.xr_grouping.proofs.Folding.{is_listed, is_made}
+
+pub passes : (b : Bool) (f : Fault) → unless b f ≡ Ok tt → b ≡ true
+unfolding unless
+passes true f e = refl
+passes false f e = absurd cc
+
+-- one that has a grouped dimension is grouped
+pub grouped_one : (c : Change) (names : List (List ℕ)) → among names c.dimension ≡ true → is_grouped (c ∷ []) names ≡ true
+grouped_one c [] has = absurd cc
+grouped_one c (n ∷ ns) has = by (bytes_eq c.dimension n) (bytes_eq_swap n c.dimension) has (grouped_one c ns)
+  where
+    by : (b : Bool) → bytes_eq n c.dimension ≡ b → (b || among ns c.dimension) ≡ true → (among ns c.dimension ≡ true → is_grouped (c ∷ []) ns ≡ true) → ((bytes_eq n c.dimension || false) || is_grouped (c ∷ []) ns) ≡ true
+    by true t has rest = ap (λ b. (b || false) || is_grouped (c ∷ []) ns) t
+    by false t has rest = ap (λ b. (b || false) || is_grouped (c ∷ []) ns) t ∙ rest has
+
+-- how an array in groups answers
+abbrev Answers : List Node → FoldKind → List ℕ → Field → DataArray → Given → Made → Type 0
+Answers nodes k d field a g m = (dated_of k d field (array_in nodes a) g ≡ Ok (made_in nodes m)) × IsMade nodes m
+
+module _ (nodes : List Node) (k : FoldKind) (d : List ℕ) (field : Field) (a : DataArray) (g : Given) (cs : List Change) (m : Made) (is : IsArrayIn nodes a)
+    (method : unless (of_groups k) BadArgument ≡ Ok tt) (none : nothing_given g ≡ Ok tt) (changes : grouped_changes (Dates d field) a.axes a.coords [] ≡ Ok cs)
+    (few : check_size (shape_over (axes_by cs a.axes)) ≡ Ok tt) (em : m ≡ folded_made k (masked_after k a.masked) cs a) where
+  facts : IsDated a.axes a.coords cs
+  facts = dated d field a.axes a.coords cs (record { dims = is.formed.axes; over = is.formed.coords; distinct = is.formed.distinct }) changes
+
+  abbrev c : Change
+  c = facts.change
+
+  has : of_groups k ≡ true
+  has = passes (of_groups k) BadArgument method
+
+  grouped : is_grouped cs (axis_names a.axes) ≡ true
+  grouped = ap (λ ds. is_grouped ds (axis_names a.axes)) facts.is ∙ grouped_one c (axis_names a.axes) facts.formed.has
+
+  small : size (shape_over (axes_by (c ∷ []) a.axes)) ≤ 33554432
+  small = size_passed (shape_over (axes_by (c ∷ []) a.axes)) (subst (λ ds. check_size (shape_over (axes_by ds a.axes)) ≡ Ok tt) facts.is few)
+
+  made_is : m ≡ folded_made k (masked_after k a.masked) (c ∷ []) a
+  made_is = em ∙ ap (λ ds. folded_made k (masked_after k a.masked) ds a) facts.is
+
+  answer : dated_of k d field (array_in nodes a) g ≡ Ok (array_by k Never false cs None (array_in nodes a))
+  unfolding dated_of
+  answer = rw (method, none, changes, few) refl
+
+  pub told : Answers nodes k d field a g m
+  told = (
+    answer ∙ ap (λ b. Ok (cond b (array_listed k Never false cs None (array_in nodes a)) (array_in nodes a))) grouped
+        ∙ ap (λ ds. Ok (array_listed k Never false ds None (array_in nodes a))) facts.is
+        ∙ ap Ok (sym (ap (made_in nodes) made_is ∙ is_listed nodes k c a is has facts.formed small)),
+    subst (IsMade nodes) (sym made_is) (is_made nodes k c a is has facts.formed small facts.full),
+  )
+
+-- as the code hands them on
+pub array_told_by : (nodes : List Node) (k : FoldKind) (d : List ℕ) (field : Field) (a : DataArray) (g : Given) (own axes : List Axis) (coords : List Coord) (slice cs : List Change) (m : Made) → IsArrayIn nodes a
+    → own ≡ a.axes → coords ≡ a.coords → slice ≡ cs → unless (of_groups k) BadArgument ≡ Ok tt → nothing_given g ≡ Ok tt → grouped_changes (Dates d field) own coords [] ≡ Ok cs → axes ≡ axes_by slice own → check_size (shape_over axes) ≡ Ok tt
+    → m ≡ folded_made k (masked_after k a.masked) slice a → Answers nodes k d field a g m
+array_told_by nodes k d field a g own axes coords slice cs m is eo ec es method none changes eaxes few em =
+    told nodes k d field a g cs m is method none
+    (subst (λ xs. grouped_changes (Dates d field) xs a.coords [] ≡ Ok cs) eo (subst (λ ys. grouped_changes (Dates d field) own ys [] ≡ Ok cs) ec changes))
+    (subst (λ (xs : List Axis). check_size (shape_over xs) ≡ Ok tt) (eaxes ∙ ap (λ ds. axes_by ds own) es ∙ ap (axes_by cs) eo) few)
+    (em ∙ ap (λ ds. folded_made k (masked_after k a.masked) ds a) es)

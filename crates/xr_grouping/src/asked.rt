@@ -1,0 +1,62 @@
+//! What a method of a grouped value is asked, and what refuses it.
+ghost use Rattle.std.specs.Prelude.{◌≡◌};
+ghost use Rattle.xr_arrays.specs.Folds as folds;
+ghost use Rattle.xr_types.specs.Results.{Answers, unless};
+ghost use Rattle.xr_types.specs.declared.fault.Fault.TheVariants.{BadArgument};
+ghost use Rattle.xr_groups.specs.Methods as calls;
+ghost use Rattle.xr_operations.specs.Reductions as reductions;
+
+use xr_types::{CallFault, DType, Fault, FoldKind, is_unsigned};
+
+/// The kind of a fold of cells of a kind.
+pub(crate) fn folded_kind(fold: FoldKind, kind: DType) -> DType
+    ensures { result ≡ folds.folded_kind fold kind }
+{
+    match fold {
+        FoldKind::Min | FoldKind::Max | FoldKind::First | FoldKind::Last => kind,
+        FoldKind::Any | FoldKind::All => DType::Bool,
+        FoldKind::Sum | FoldKind::Prod => {
+            if is_unsigned(kind) {
+                DType::UInt64
+            } else {
+                DType::Int64
+            }
+        }
+        FoldKind::ArgMin | FoldKind::ArgMax | FoldKind::Count => DType::Int64,
+    }
+}
+
+/// Whether a fold gives nothing of no cell.
+pub(crate) fn needs_cells(fold: FoldKind) -> bool
+    ensures { result ≡ reductions.needs_cells fold }
+{
+    match fold {
+        FoldKind::Min | FoldKind::Max | FoldKind::First | FoldKind::Last => true,
+        FoldKind::ArgMin | FoldKind::ArgMax => true,
+        FoldKind::Sum | FoldKind::Prod | FoldKind::Count => false,
+        FoldKind::Any | FoldKind::All => false,
+    }
+}
+
+fn of_groups(fold: FoldKind) -> bool
+    ensures { result ≡ calls.of_groups fold }
+{
+    match fold {
+        FoldKind::ArgMin | FoldKind::ArgMax => false,
+        FoldKind::Sum | FoldKind::Prod | FoldKind::Min | FoldKind::Max => true,
+        FoldKind::Count | FoldKind::Any | FoldKind::All => true,
+        FoldKind::First | FoldKind::Last => true,
+    }
+}
+
+/// Refuses a method that groups and bins don't have.
+#[tactic(auto, unfolding(xr_types::specs::Results::unless))]
+pub(crate) fn check_method(fold: FoldKind) -> Result<(), CallFault>
+    ensures { Answers (λ u. u) result (unless (calls.of_groups fold) BadArgument) }
+{
+    if of_groups(fold) {
+        Ok(())
+    } else {
+        Err(CallFault::Refused(Fault::BadArgument))
+    }
+}

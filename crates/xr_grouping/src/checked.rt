@@ -1,0 +1,104 @@
+//! How dates and bins group the dimensions of an array or a dataset, once a new name is free.
+ghost use Rattle.std.specs.Prelude.{◌≡◌, ℕ, List, IfOk};
+ghost use Rattle.std.specs.List.{AllByRecursion};
+ghost use Rattle.xr_types.specs.Names.{among, axis_names};
+ghost use Rattle.xr_types.specs.Results.{Answers};
+ghost use Rattle.xr_defs.specs.WellFormed.{names_of, IsDimension};
+ghost use Rattle.xr_groups.specs.Groupings as of;
+ghost use Rattle.xr_defs.specs.declared.grouping.Grouping.TheVariants.{Bins, Dates};
+ghost use Rattle.xr_defs.specs.declared.value.Coord.{Coord};
+ghost use Rattle.xr_grouping.specs.Mades.{IsTimed};
+
+use crate::changes::{bin_change, date_change, one};
+use crate::fields::field_name;
+use std::alloc::Global;
+use xr_arrays::{Field, Freq};
+use xr_defs::Coord;
+use xr_groups::Change;
+use xr_types::{Axis, CallFault, Fault, Items, TextBytes};
+
+fn is_among(names: &[TextBytes], name: &str) -> bool
+    ensures { result ≡ among names.now name.now }
+{
+    match names {
+        [] => false,
+        [first, rest @ ..] => name == first.as_str() || is_among(rest, name),
+    }
+}
+
+fn has_axis(axes: &[Axis], name: &str) -> bool
+    ensures { result ≡ among (axis_names axes.now) name.now }
+{
+    match axes {
+        [] => false,
+        [axis, rest @ ..] => name == axis.name.as_str() || has_axis(rest, name),
+    }
+}
+
+fn has_coord(coords: &[Coord], name: &str) -> bool
+    ensures { result ≡ among (names_of coords.now) name.now }
+{
+    match coords {
+        [] => false,
+        [coord, rest @ ..] => name == coord.name.as_str() || has_coord(rest, name),
+    }
+}
+
+fn is_free(name: &str, axes: &[Axis], coords: &[Coord], others: &[TextBytes]) -> bool
+    ensures { result ≡ of.is_free name.now axes.now coords.now others.now }
+{
+    !(has_axis(axes, name) || has_coord(coords, name) || is_among(others, name))
+}
+
+// The name of the groups is the dimension's own, or a free one.
+#[tactic(auto, unfolding(xr_groups::specs::Groupings::check_name, xr_types::specs::Results::unless))]
+fn check_name(
+    axes: &[Axis],
+    coords: &[Coord],
+    others: &[TextBytes],
+    dimension: &TextBytes,
+    field: Field,
+) -> Result<(), CallFault>
+    ensures { Answers (λ u. u) result (of.check_name axes.now coords.now others.now (Dates dimension.now field)) }
+{
+    let name = field_name(field);
+    if name == dimension.as_str() || is_free(name, axes, coords, others) {
+        Ok(())
+    } else {
+        Err(CallFault::Refused(Fault::DuplicateName))
+    }
+}
+
+/// How a field of the dates of a dimension groups it, beside data variables of these names.
+#[tactic(auto, unfolding(xr_groups::specs::Groupings::grouped_changes, xr_groups::specs::Groupings::changes_of))]
+pub(crate) fn dated_changes(
+    alloc: Global,
+    dimension: &TextBytes,
+    field: Field,
+    axes: &[Axis],
+    coords: &[Coord],
+    others: &[TextBytes],
+) -> Result<Items<Change>, CallFault>
+    requires { AllByRecursion IsDimension axes.now }
+    ensures { Answers (λ cs. cs) result (of.grouped_changes (Dates dimension.now field) axes.now coords.now others.now) }
+{
+    let change = date_change(alloc, dimension, field, axes)?;
+    check_name(axes, coords, others, dimension, field)?;
+    Ok(one(alloc, change)?)
+}
+
+/// How bins of the times of a dimension group it.
+#[tactic(auto, unfolding(xr_groups::specs::Groupings::grouped_changes, xr_groups::specs::Groupings::changes_of, xr_groups::specs::Groupings::check_name))]
+pub(crate) fn binned_changes(
+    alloc: Global,
+    dimension: &TextBytes,
+    freq: Freq,
+    axes: &[Axis],
+) -> Result<Items<Change>, CallFault>
+    requires { AllByRecursion IsDimension axes.now }
+    ensures answers { (coords : List Coord) (others : List (List ℕ)) → Answers (λ cs. cs) result (of.grouped_changes (Bins dimension.now freq) axes.now coords others) }
+    ensures timed { IfOk result (AllByRecursion IsTimed) }
+{
+    let change = bin_change(alloc, dimension, freq, axes)?;
+    Ok(one(alloc, change)?)
+}

@@ -1,0 +1,5 @@
+pub mod Asked
+pub mod Steps
+pub mod Sizes
+pub mod Changed
+pub mod Made

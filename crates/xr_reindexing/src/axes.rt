@@ -1,0 +1,178 @@
+//! Axes with new labels.
+ghost use Rattle.std.specs.Prelude.{◌≡◌, ◌++◌, ⊤, Some, map, option_map, All, IfOk, OnOk, MatchOption};
+ghost use Rattle.xr_types.specs.Kinds.{InRange};
+ghost use Rattle.xr_types.specs.declared.kind.DType.TheVariants as kinds;
+ghost use Rattle.xr_arrays.specs.Times.{IsTime};
+ghost use Rattle.xr_defs.specs.WellFormed.{AreLabels, IsIndex};
+ghost use Rattle.xr_operations.specs.Alignment.{number_of, relisted, text_of};
+ghost use Rattle.xr_relations.specs.Reindexing as of;
+ghost use Rattle.xr_reindexing.specs.Steps.{AreIndexed};
+
+use crate::named::change_called;
+use std::alloc::Global;
+use xr_relations::Change;
+use xr_types::{
+    Axis, DType, DeepCopy, Integers, Items, Label, LabelList, Labels, NoMemory, Shared, TextBytes,
+};
+
+// The number of a label. One past 64 bits, which is refused before, wants memory.
+fn number_of(label: &Label) -> Result<i64, NoMemory>
+    ensures { IfOk result (λ n. n ≡ number_of label.now) }
+{
+    match label {
+        Label::Int(n) => {
+            if *n < i64::MIN as i128 || *n > i64::MAX as i128 {
+                return Err(NoMemory);
+            }
+            Ok(*n as i64)
+        }
+        Label::Time(time) => Ok(*time),
+        Label::Text(_) => Ok(0),
+    }
+}
+
+fn numbers_of(alloc: Global, labels: &[Label]) -> Result<Items<i64>, NoMemory>
+    ensures is { IfOk result (λ ns. ns ≡ map number_of labels.now) }
+    ensures range { IfOk result (All (InRange kinds.Int64)) }
+{
+    let mut numbers = Items::new(alloc);
+    for label in labels {
+        numbers.push(number_of(label)?)?;
+    }
+    Ok(numbers)
+}
+
+// The time of a label. One outside the years 1 to 9999, which no text of a date has, wants memory.
+fn time_of(label: &Label) -> Result<i64, NoMemory>
+    ensures is { IfOk result (λ n. n ≡ number_of label.now) }
+    ensures time { IfOk result IsTime }
+{
+    let time = number_of(label)?;
+    if time < -62_135_596_800 || time >= 253_402_300_800 {
+        return Err(NoMemory);
+    }
+    Ok(time)
+}
+
+fn times_of(alloc: Global, labels: &[Label]) -> Result<Items<i64>, NoMemory>
+    ensures is { IfOk result (λ ns. ns ≡ map number_of labels.now) }
+    ensures times { IfOk result (All IsTime) }
+{
+    let mut times = Items::new(alloc);
+    for label in labels {
+        times.push(time_of(label)?)?;
+    }
+    Ok(times)
+}
+
+fn text_of(alloc: Global, label: &Label) -> Result<TextBytes, NoMemory>
+    ensures { IfOk result (λ t. t ≡ text_of label.now) }
+{
+    match label {
+        Label::Text(text) => Ok(text.deep_copy(alloc)?),
+        Label::Int(_) => Ok(TextBytes::from_str(alloc, "")?),
+        Label::Time(_) => Ok(TextBytes::from_str(alloc, "")?),
+    }
+}
+
+fn texts_of(alloc: Global, labels: &[Label]) -> Result<Items<TextBytes>, NoMemory>
+    ensures { IfOk result (λ ts. ts ≡ map text_of labels.now) }
+{
+    let mut texts = Items::new(alloc);
+    for label in labels {
+        texts.push(text_of(alloc, label)?)?;
+    }
+    Ok(texts)
+}
+
+// Labels of the sort of a list, whole numbers as those of kind int64.
+fn relisted(alloc: Global, list: &LabelList, labels: &[Label]) -> Result<LabelList, NoMemory>
+    ensures is { IfOk result (λ l. l ≡ relisted kinds.Int64 list.now labels.now) }
+    ensures range { IfOk result AreLabels }
+{
+    match list {
+        LabelList::Numbers(_, _) => {
+            let numbers = Integers::signed(alloc, numbers_of(alloc, labels)?)?;
+            Ok(LabelList::Numbers(DType::Int64, numbers))
+        }
+        LabelList::Times(coding, _) => {
+            let times = Shared::of(alloc, times_of(alloc, labels)?)?;
+            Ok(LabelList::Times(coding.deep_copy(alloc)?, times))
+        }
+        LabelList::Texts(_) => {
+            let texts = Shared::of(alloc, texts_of(alloc, labels)?)?;
+            Ok(LabelList::Texts(texts))
+        }
+    }
+}
+
+// The labels of an axis, as a change has them.
+fn new_labels(
+    alloc: Global,
+    change: &Change,
+    labels: &Option<Labels>,
+) -> Result<Option<Labels>, NoMemory>
+    ensures is { IfOk result (λ m. m ≡ option_map (of.new_labels change.now) labels.now) }
+    ensures range { IfOk result (λ m. MatchOption m ⊤ (λ l. AreLabels l.list)) }
+{
+    match labels {
+        None => Ok(None),
+        Some(labels) => {
+            let list = relisted(alloc, &labels.list, change.labels.as_slice())?;
+            let attrs = labels.attrs.deep_copy(alloc)?;
+            Ok(Some(Labels { list, attrs }))
+        }
+    }
+}
+
+fn changed_axis(alloc: Global, axis: &Axis, change: &Change) -> Result<Axis, NoMemory>
+    ensures is { IfOk result (λ x. x ≡ of.changed_axis axis.now (Some change.now)) }
+    ensures index { MatchOption axis.now.labels ⊤ (IsIndex axis.now.size) → IfOk result (λ x. MatchOption x.labels ⊤ (IsIndex x.size)) }
+{
+    if change.labels.as_slice().len() != change.from.as_slice().len() {
+        return Err(NoMemory);
+    }
+    let name = axis.name.deep_copy(alloc)?;
+    let size = change.from.as_slice().len() as u64;
+    let labels = new_labels(alloc, change, &axis.labels)?;
+    Ok(Axis { name, size, labels })
+}
+
+fn new_axis(alloc: Global, changes: &[Change], axis: &Axis) -> Result<Axis, NoMemory>
+    ensures is { IfOk result (λ x. x ≡ of.new_axis changes.now axis.now) }
+    ensures index { MatchOption axis.now.labels ⊤ (IsIndex axis.now.size) → IfOk result (λ x. MatchOption x.labels ⊤ (IsIndex x.size)) }
+{
+    match change_called(changes, &axis.name) {
+        None => Ok(axis.deep_copy(alloc)?),
+        Some(change) => changed_axis(alloc, axis, change),
+    }
+}
+
+/// Axes with the labels that changes give them.
+pub fn new_axes(alloc: Global, changes: &[Change], axes: &[Axis]) -> Result<Items<Axis>, NoMemory>
+    ensures is { IfOk result (λ xs. xs ≡ map (of.new_axis changes.now) axes.now) }
+    ensures indexes { IfOk result (λ xs. AreIndexed changes.now axes.now) }
+{
+    let mut out = Items::new(alloc);
+    push_new(alloc, &mut out, changes, axes)?;
+    Ok(out)
+}
+
+fn push_new(
+    alloc: Global,
+    out: &mut Items<Axis>,
+    changes: &[Change],
+    axes: &[Axis],
+) -> Result<(), NoMemory>
+    ensures is { OnOk result (out.new ≡ out.old ++ map (of.new_axis changes.now) axes.now) }
+    ensures indexes { OnOk result (AreIndexed changes.now axes.now) }
+{
+    match axes {
+        [] => Ok(()),
+        [axis, rest @ ..] => {
+            let new = new_axis(alloc, changes, axis)?;
+            out.push(new)?;
+            push_new(alloc, out, changes, rest)
+        }
+    }
+}

@@ -1,0 +1,263 @@
+//! The limits of a result, from its sizes alone.
+ghost use Rattle.std.specs.Prelude.{◌≡◌, ◌-◌, ◌^◌, ◌++◌, ◌&&◌, ℤ, List, Option, min, map, nat_le, IfOk, OnOk};
+ghost use Rattle.std.specs.List.{list_all};
+ghost use Rattle.xr_arrays.specs.declared.node.Node.{Node};
+ghost use Rattle.xr_types.specs.Names.{shape_over};
+ghost use Rattle.xr_types.specs.declared.axis.Axis.{Axis as OneAxis};
+ghost use Rattle.xr_types.specs.Points.{size};
+ghost use Rattle.xr_types.specs.Results.{Answers};
+ghost use Rattle.xr_defs.specs.Limits.{most_cells};
+ghost use Rattle.xr_defs.specs.Selecting as limits;
+ghost use Rattle.xr_relations.specs.declared.change.Change.{Change as OneChange};
+ghost use Rattle.xr_relations.specs.Reindexing as of;
+ghost use Rattle.xr_values.specs.Stands.{array_in, dataset_in, variable_in};
+ghost use Rattle.xr_reindexing.specs.Sizes.{are_named_within, are_vars_within, sizes_named};
+
+use crate::named::change_called;
+use std::alloc::{AllocError, Global};
+use xr_defs::Coord;
+use xr_relations::Change;
+use xr_types::{
+    Axis, CallFault, Fault, Items, MOST_CELLS, MOST_DIMENSIONS, MOST_VARIABLES, Name, TextBytes,
+};
+use xr_values::{DataArray, Dataset, Variable};
+
+fn new_size(changes: &[Change], axis: &Axis) -> u64
+    ensures { result ≡ (of.new_axis changes.now axis.now).size }
+{
+    match change_called(changes, &axis.name) {
+        None => axis.size,
+        Some(change) => change.from.as_slice().len() as u64,
+    }
+}
+
+fn push_sizes(sizes: &mut Items<u64>, changes: &[Change], axes: &[Axis]) -> Result<(), AllocError>
+    ensures { OnOk result (sizes.new ≡ sizes.old ++ shape_over (map (of.new_axis changes.now) axes.now)) }
+{
+    match axes {
+        [] => Ok(()),
+        [axis, rest @ ..] => {
+            sizes.push(new_size(changes, axis))?;
+            push_sizes(sizes, changes, rest)
+        }
+    }
+}
+
+// The sizes of axes after changes.
+fn sizes_over(alloc: Global, changes: &[Change], axes: &[Axis]) -> Result<Items<u64>, AllocError>
+    ensures { IfOk result (λ s. s ≡ shape_over (map (of.new_axis changes.now) axes.now)) }
+{
+    let mut sizes = Items::new(alloc);
+    push_sizes(&mut sizes, changes, axes)?;
+    Ok(sizes)
+}
+
+#[tactic(auto, using(plan_core::proofs::Products::saturates))]
+fn points(shape: &[u64]) -> u64
+    ensures { result ≡ min (size shape.now) (2 ^ 64 - 1) }
+{
+    match shape {
+        [] => 1,
+        [n, rest @ ..] => n.saturating_mul(points(rest)),
+    }
+}
+
+fn are_short(shape: &[u64]) -> bool
+    ensures { result ≡ list_all (λ n. nat_le n most_cells) shape.now }
+{
+    match shape {
+        [] => true,
+        [n, rest @ ..] => *n <= MOST_CELLS && are_short(rest),
+    }
+}
+
+fn is_within(shape: &[u64]) -> bool
+    ensures { result ≡ limits.is_within shape.now }
+{
+    shape.len() <= MOST_DIMENSIONS && are_short(shape) && points(shape) <= MOST_CELLS
+}
+
+fn are_within(alloc: Global, changes: &[Change], coords: &[Coord]) -> Result<bool, AllocError>
+    ensures { (fill : Option ℤ) → IfOk result (λ b. b ≡ limits.are_within (map (of.changed_coord changes.now fill) coords.now)) }
+{
+    match coords {
+        [] => Ok(true),
+        [coord, rest @ ..] => {
+            let sizes = sizes_over(alloc, changes, coord.axes.as_slice())?;
+            if !is_within(sizes.as_slice()) {
+                return Ok(false);
+            }
+            are_within(alloc, changes, rest)
+        }
+    }
+}
+
+/// Refuses an array that would be too large.
+#[tactic(auto, unfolding(xr_defs::specs::Selecting::check_array, xr_types::specs::Results::unless))]
+pub fn check_array(alloc: Global, changes: &[Change], on: &DataArray) -> Result<(), CallFault>
+    ensures { (nodes : List Node) (fill : Option ℤ) → Answers (λ u. u) result (limits.check_array (of.changed_array changes.now fill (array_in nodes on.now))) }
+{
+    let sizes = sizes_over(alloc, changes, on.axes.as_slice())?;
+    if is_within(sizes.as_slice()) && are_within(alloc, changes, on.coords.as_slice())? {
+        Ok(())
+    } else {
+        Err(CallFault::Refused(Fault::TooLarge))
+    }
+}
+
+// ---- datasets
+
+// The size that the axis of a name has after changes.
+#[tactic(auto, using(xr_parts::proofs::Axes::called_cons, crate::proofs::NewAxes::name_kept))]
+fn size_called(changes: &[Change], axes: &[Axis], name: &TextBytes) -> u64
+    ensures { result ≡ (limits.axis_called (map (of.new_axis changes.now) axes.now) name.now).size }
+{
+    match axes {
+        [] => 0,
+        [axis, rest @ ..] => {
+            if axis.name.is(name) {
+                new_size(changes, axis)
+            } else {
+                size_called(changes, rest, name)
+            }
+        }
+    }
+}
+
+fn push_named(
+    sizes: &mut Items<u64>,
+    changes: &[Change],
+    axes: &[Axis],
+    dims: &[Name],
+) -> Result<(), AllocError>
+    ensures { OnOk result (sizes.new ≡ sizes.old ++ sizes_named (map (of.new_axis changes.now) axes.now) dims.now) }
+{
+    match dims {
+        [] => Ok(()),
+        [dim, rest @ ..] => {
+            sizes.push(size_called(changes, axes, dim))?;
+            push_named(sizes, changes, axes, rest)
+        }
+    }
+}
+
+fn sizes_named(
+    alloc: Global,
+    changes: &[Change],
+    axes: &[Axis],
+    dims: &[Name],
+) -> Result<Items<u64>, AllocError>
+    ensures { IfOk result (λ s. s ≡ sizes_named (map (of.new_axis changes.now) axes.now) dims.now) }
+{
+    let mut sizes = Items::new(alloc);
+    push_named(&mut sizes, changes, axes, dims)?;
+    Ok(sizes)
+}
+
+#[tactic(auto, using(xr_parts::proofs::Axes::called_cons))]
+fn old_size_called(axes: &[Axis], name: &TextBytes) -> u64
+    ensures { result ≡ (limits.axis_called axes.now name.now).size }
+{
+    match axes {
+        [] => 0,
+        [axis, rest @ ..] => {
+            if axis.name.is(name) {
+                axis.size
+            } else {
+                old_size_called(rest, name)
+            }
+        }
+    }
+}
+
+fn push_old(sizes: &mut Items<u64>, axes: &[Axis], dims: &[Name]) -> Result<(), AllocError>
+    ensures { OnOk result (sizes.new ≡ sizes.old ++ sizes_named axes.now dims.now) }
+{
+    match dims {
+        [] => Ok(()),
+        [dim, rest @ ..] => {
+            sizes.push(old_size_called(axes, dim))?;
+            push_old(sizes, axes, rest)
+        }
+    }
+}
+
+/// The sizes of the axes of these names.
+pub fn old_sizes(alloc: Global, axes: &[Axis], dims: &[Name]) -> Result<Items<u64>, AllocError>
+    ensures { IfOk result (λ s. s ≡ sizes_named axes.now dims.now) }
+{
+    let mut sizes = Items::new(alloc);
+    push_old(&mut sizes, axes, dims)?;
+    Ok(sizes)
+}
+
+fn are_named_within(
+    alloc: Global,
+    changes: &[Change],
+    axes: &[Axis],
+    vars: &[Variable],
+) -> Result<bool, AllocError>
+    ensures { IfOk result (λ b. b ≡ are_named_within (map (of.new_axis changes.now) axes.now) vars.now) }
+{
+    match vars {
+        [] => Ok(true),
+        [var, rest @ ..] => {
+            let sizes = sizes_named(alloc, changes, axes, var.dims.as_slice())?;
+            if !is_within(sizes.as_slice()) {
+                return Ok(false);
+            }
+            are_named_within(alloc, changes, axes, rest)
+        }
+    }
+}
+
+#[tactic(auto, using(crate::proofs::NewAxes::named_within))]
+fn are_vars_within(
+    alloc: Global,
+    changes: &[Change],
+    axes: &[Axis],
+    vars: &[Variable],
+) -> Result<bool, AllocError>
+    ensures { (nodes : List Node) (fill : Option ℤ) → IfOk result (λ b. b ≡ are_vars_within (map (of.new_axis changes.now) axes.now) (map (of.changed_variable changes.now fill axes.now) (map (variable_in nodes) vars.now))) }
+{
+    let within = are_named_within(alloc, changes, axes, vars)?;
+    Ok(within)
+}
+
+fn are_axes_short(changes: &[Change], axes: &[Axis]) -> bool
+    ensures { result ≡ list_all (λ (x : OneAxis). nat_le x.size most_cells) (map (of.new_axis changes.now) axes.now) }
+{
+    match axes {
+        [] => true,
+        [axis, rest @ ..] => new_size(changes, axis) <= MOST_CELLS && are_axes_short(changes, rest),
+    }
+}
+
+#[tactic(auto, using(crate::proofs::NewAxes::few_kept))]
+fn are_few(on: &Dataset) -> bool
+    ensures { (changes : List OneChange) (nodes : List Node) (fill : Option ℤ) → result ≡ limits.are_few (of.changed_set changes fill (dataset_in nodes on.now)) }
+{
+    on.coords
+        .as_slice()
+        .len()
+        .saturating_add(on.vars.as_slice().len())
+        <= MOST_VARIABLES
+}
+
+/// Refuses a dataset that would be too large.
+#[tactic(auto, unfolding(xr_defs::specs::Selecting::check_set, xr_types::specs::Results::unless))]
+pub fn check_set(alloc: Global, changes: &[Change], on: &Dataset) -> Result<(), CallFault>
+    ensures { (nodes : List Node) (fill : Option ℤ) → Answers (λ u. u) result (limits.check_set (of.changed_set changes.now fill (dataset_in nodes on.now))) }
+{
+    let own = on.axes.as_slice();
+    if !are_axes_short(changes, own) {
+        return Err(CallFault::Refused(Fault::TooLarge));
+    }
+    if !are_within(alloc, changes, on.coords.as_slice())? {
+        return Err(CallFault::Refused(Fault::TooLarge));
+    }
+    if !are_vars_within(alloc, changes, own, on.vars.as_slice())? || !are_few(on) {
+        return Err(CallFault::Refused(Fault::TooLarge));
+    }
+    Ok(())
+}

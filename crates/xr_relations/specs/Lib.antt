@@ -1,0 +1,3 @@
+pub mod Aligning
+pub mod Reindexing
+pub mod Times
