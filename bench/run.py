@@ -138,12 +138,12 @@ def opened(names, masked):
     return "\n".join(f'{n} = open_dataset("{n}.nc"{", mask=True" if masked else ""})["v"]' for n in names) + "\n"
 
 
-def opened_by_xarray(names, masked):
+def opened_by_xarray(names, masked, dated):
     flag = "" if masked else ", mask_and_scale=False"
-    return "\n".join(f'{n} = xarray.open_dataset("{n}.nc", decode_times=False, engine="scipy"{flag})["v"]' for n in names) + "\n"
+    return "\n".join(f'{n} = xarray.open_dataset("{n}.nc", decode_times={dated}, engine="scipy"{flag})["v"]' for n in names) + "\n"
 
 
-def over(name, files, names, ours, theirs=None, tools=(), masked=False, answer="print"):
+def over(name, files, names, ours, theirs=None, tools=(), masked=False, answer="print", dated=False):
     """Statements over variables `v` of files, and the same in xarray: `ours` and `theirs` are expressions."""
     theirs = theirs or ours
     if answer == "print":
@@ -154,7 +154,7 @@ def over(name, files, names, ours, theirs=None, tools=(), masked=False, answer="
         script = f'r = {ours}\nr.to_netcdf("w.nc", format="NETCDF3_64BIT"{fill})\n'
         code = f'r = {theirs}\nr.to_netcdf("x.nc", format="NETCDF3_64BIT", engine="scipy")\nanswer = "written"'
     return Job(name + (", with missing cells" if masked else ""), files, opened(names, masked) + script,
-               inside=opened_by_xarray(names, masked) + code, tools=list(tools), answer=answer)
+               inside=opened_by_xarray(names, masked, dated) + code, tools=list(tools), answer=answer)
 
 
 def sh(*commands):
@@ -209,6 +209,16 @@ JOBS = [
         over("where the least over time is", A, "a", 'a.argmin("time").sum()', masked=m),
         over("running sums over time", A, "a", 'a.cumsum("time").max()', masked=m),
         over("differences over time", A, "a", 'a.diff("time").max()', masked=m, tools=[sh("cdo -s -O deltat a.nc n.nc")]),
+        over("the sum of one year, cut out by its date", A, "a", 'a.sel(time=slice("2003", "2003")).sum()', masked=m, dated=True,
+             tools=[sh("ncks -O -v v -d time,1096,1460 a.nc m.nc", "ncwa -O -y ttl m.nc n.nc"), sh("cdo -s -O -b F64 fldsum -timsum -selyear,2003 a.nc n.nc")]),
+        over("sums by the month of the year", A, "a", 'a.groupby("time.month").sum().max()', masked=m, dated=True, tools=[sh("cdo -s -O -b F64 ymonsum a.nc n.nc")]),
+        over("the greatest of each month", A, "a", 'a.resample(time="MS").max().sum()', masked=m, dated=True, tools=[sh("cdo -s -O monmax a.nc n.nc")]),
+        over("counts of each ten days", A, "a", 'a.resample(time="10D").count().max()', masked=m, dated=True),
+        *[over(f"{what} of {width} times before each", A, "a", f"a.rolling(time={width}, min_periods=1).{call}().sum()", masked=m,
+               tools=[sh(f"cdo -s -O -b F64 run{call},{width} a.nc n.nc")]) for what, call in (("sums", "sum"), ("the greatest", "max")) for width in (5, 500)],
+        over("sums of 5 cells along x", A, "a", "a.rolling(x=5, min_periods=1).sum().sum()", masked=m),
+        over("sums of blocks of 2 by 2", A, "a", 'a.coarsen(y=2, x=2, coord_func="min").sum().max()', "a.coarsen(y=2, x=2).sum().max()", masked=m,
+             tools=[sh("cdo -s -O -b F64 gridboxsum,2,2 a.nc n.nc")]),
         over("cells one time later", A, "a", "a.shift(time=1, fill_value=0).sum()", masked=m),
     ]),
 ]

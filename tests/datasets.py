@@ -3,6 +3,7 @@ printed form. The tests compare the program with it; it takes nothing from the p
 """
 from dataclasses import dataclass, field
 
+import cf_times
 import classic
 
 BYTE, CHAR, SHORT, INT, FLOAT, DOUBLE, UBYTE, USHORT, UINT, INT64, UINT64 = range(1, 12)
@@ -18,6 +19,7 @@ class TooLarge(Exception):
 
 @dataclass
 class Index:
+    """The labels of a dimension: whole numbers of a kind, or those of kind `time` or `text`."""
     kind: str
     labels: list
     attrs: list
@@ -82,6 +84,16 @@ def is_skipped(file, var):
             or product(shape) > MOST_CELLS or any(n > MOST_CELLS for n in shape))
 
 
+def time_index(var, counts, attrs):
+    """The times that a variable counts, if its units and calendar are read and each count is one."""
+    if any(a.name == "calendar" and a.type != CHAR for a in var.attrs):
+        return None
+    units = text_of(var.attrs, "units")
+    coding = cf_times.coding_of(units, text_of(var.attrs, "calendar")) if units is not None else None
+    times = [cf_times.decoded(coding, n) for n in counts] if coding else [None]
+    return None if None in times else Index("time", times, without(without(attrs, "units"), "calendar"))
+
+
 def index_of(file, var):
     """The labels that a variable holds, where it is an index."""
     dims, shape = [file.dims[d][0] for d in var.dims], file.shape(var)
@@ -89,7 +101,8 @@ def index_of(file, var):
         return None
     attrs = without(var.attrs, "coordinates")
     if len(dims) == 1 and var.type in WHOLE:
-        return Index(WHOLE[var.type], numbers(var.type, var.raw), attrs)
+        counts = numbers(var.type, var.raw)
+        return time_index(var, counts, attrs) or Index(WHOLE[var.type], counts, attrs)
     if len(dims) == 2 and var.type == CHAR:
         rows = [text_in(var.raw[i * shape[1]:(i + 1) * shape[1]]) for i in range(shape[0])]
         return None if None in rows else Index("text", rows, attrs)
@@ -215,13 +228,13 @@ def set_text(set_):
 
 
 def array_text(set_, name):
-    """The printed form of a part of a dataset by its name; None for a text, which is no array."""
+    """The printed form of a part of a dataset by its name; None for texts and times, which are no array."""
     if name in set_.indexes and name not in set_.vars:
         index = set_.indexes[name]
         array = Array(name, [name], index.kind, index.labels, index.attrs)
     else:
         array = set_.vars.get(name) or set_.coords[name]
-    if array.kind == "text":
+    if array.kind in ("text", "time"):
         return None
     shape = [set_.sizes[d] for d in array.dims]
     dims = ", ".join(f"{printed(d)}: {n}" for d, n in zip(array.dims, shape))

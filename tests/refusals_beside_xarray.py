@@ -15,7 +15,9 @@ import tempfile
 PYTHON = "/usr/bin/python3"
 TOP = os.path.join(os.path.dirname(os.path.abspath(__file__)), "..")
 try:
+    import cftime
     import numpy
+    import pandas
     import xarray
 except ImportError:
     has_peer = os.path.exists(PYTHON) and os.path.realpath(sys.executable) != os.path.realpath(PYTHON)
@@ -25,7 +27,8 @@ except ImportError:
     sys.exit(0)
 
 # What stands before each line.
-BEFORE = ['ds = open_dataset("labels.nc")', 'a = ds["v"]', 'n = DataArray([1, 2, 3], ["x"], {"x": [5, 7, 6]})', 'm = DataArray([1, 2], ["x"])']
+BEFORE = ['ds = open_dataset("labels.nc")', 'a = ds["v"]', 'n = DataArray([1, 2, 3], ["x"], {"x": [5, 7, 6]})', 'm = DataArray([1, 2], ["x"])',
+          't = DataArray([1, 2, 4], ["time"], {"time": times("days since 2000-01-01", [0, 4, 31])})']
 LINES = [
     ('x = open_dataset("b.nc")', 23, FileNotFoundError),
     ('x = ds["w"]', 2, KeyError),
@@ -70,6 +73,19 @@ LINES = [
     ('ds["w"] = DataArray([1, 2, 3], ["x"], {"x": [1, 2, 2]})', 8, ValueError),
     ('ds["v"] = ds', 4, TypeError),
     ('q["w"] = a', 1, NameError),
+    ('x = a.groupby("x.month").sum()', 16, AttributeError),
+    ('x = t.groupby("time.fortnight").sum()', 5, AttributeError),
+    ('x = a.resample(x="MS").sum()', 16, TypeError),
+    ('x = t.resample(time="no").sum()', 5, ValueError),
+    ('x = t.resample(y="MS").sum()', 3, KeyError),
+    ('x = a.rolling(x=0).sum()', 5, ValueError),
+    ('x = a.rolling(y=2).sum()', 3, KeyError),
+    ('x = a.rolling(x=2, min_periods=0).sum()', 5, ValueError),
+    ('x = t.sel(time="2000-01-09T00:00:00")', 6, KeyError),
+    ('x = t.sel(time="1999-12-31T00:00:00", method="pad")', 6, KeyError),
+    ('x = t.sel(time=slice("2000-02-30", None))', 5, TypeError),
+    ('x = DataArray([1, 2], ["t"], {"t": times("days since 2000-01-01", [1])})', 13, ValueError),
+    ('x = t + DataArray([1, 2, 4], ["time"], {"time": times("days since 2000-01-01", [0, 0, 1])})', 8, ValueError),
 ]
 
 
@@ -77,12 +93,16 @@ def data_array(data, dims, coords=None):
     return xarray.DataArray(numpy.array(data), dims=dims).assign_coords(coords or {})
 
 
+def times(units, counts):
+    return pandas.DatetimeIndex([cftime.num2date(n, units, "proleptic_gregorian").isoformat() for n in counts])
+
+
 def error_of(line, folder):
     """What xarray raises."""
     here = os.getcwd()
     os.chdir(folder)
     try:
-        names = {"DataArray": data_array, "open_dataset": lambda name: xarray.open_dataset(name, mask_and_scale=False).load()}
+        names = {"DataArray": data_array, "times": times, "open_dataset": lambda name: xarray.open_dataset(name, mask_and_scale=False).load()}
         exec("\n".join(BEFORE), names)
         try:
             exec(line, names)

@@ -19,7 +19,9 @@ PYTHON = "/usr/bin/python3"
 FUNCTIONS = ["where", "align", "concat", "merge", "combine_by_coords"]
 ROWS = os.path.join(os.path.dirname(os.path.abspath(__file__)), "..", "crates", "run_rows")
 try:
+    import cftime
     import numpy
+    import pandas
     import xarray
 except ImportError:
     has_peer = os.path.exists(PYTHON) and os.path.realpath(sys.executable) != os.path.realpath(PYTHON)
@@ -59,14 +61,28 @@ def data_array(data, dims, coords=None, name=None, dtype=None):
     return made.assign_coords(coords or {})
 
 
+def times(units, counts, calendar="proleptic_gregorian"):
+    """Dates as xarray has them: of the civil calendar those of numpy, of others those of cftime."""
+    dates = [cftime.num2date(n, units, calendar) for n in counts]
+    if calendar in ("standard", "gregorian", "proleptic_gregorian"):
+        return pandas.DatetimeIndex([it.isoformat() for it in dates])
+    return xarray.CFTimeIndex(dates)
+
+
 def spelled(value):
     """A cell or a label as it is printed."""
+    if isinstance(value, numpy.datetime64):
+        return numpy.datetime_as_string(value, "s")
+    if isinstance(value, cftime.datetime):
+        return f"{value.year:04}-{value.month:02}-{value.day:02}T{value.hour:02}:{value.minute:02}:{value.second:02}"
     if isinstance(value, (str, numpy.str_)):
         return '"' + str(value) + '"'
     return str(bool(value)) if isinstance(value, (bool, numpy.bool_)) else str(int(value))
 
 
 def kind(variable):
+    if variable.dtype.kind == "M" or variable.size and isinstance(numpy.ravel(variable.values)[0], cftime.datetime):
+        return "time"
     return "text" if variable.dtype.kind in "UO" else str(variable.dtype)
 
 
@@ -75,8 +91,7 @@ def coordinate_lines(it):
     others = sorted(name for name in it.coords if name not in it.dims)
     for name in labels + others:
         c = it.coords[name]
-        cells = " ".join(map(spelled, numpy.ravel(c.values)))
-        yield f"coord {name} {kind(c)} ({', '.join(c.dims)}): {cells}"
+        yield " ".join([f"coord {name} {kind(c)} ({', '.join(c.dims)}):", *map(spelled, numpy.ravel(c.values))])
 
 
 def attribute_lines(it):
@@ -87,8 +102,7 @@ def attribute_lines(it):
 def array_lines(it):
     sizes = ", ".join(f"{d}: {n}" for d, n in zip(it.dims, it.shape))
     yield f"DataArray {it.name or '-'} ({sizes}) {kind(it)}"
-    cells = it.values.reshape(-1, it.shape[-1]) if it.ndim else it.values.reshape(1, 1)
-    for row in cells:
+    for row in it.values.reshape(-1, it.shape[-1] if it.ndim else 1) if it.size else []:
         yield " ".join(map(spelled, row))
     yield from coordinate_lines(it)
     yield from attribute_lines(it)
@@ -113,7 +127,7 @@ def carried_out(lines):
         out.write("".join(line + "\n" for line in lines))
 
     with xarray.set_options(keep_attrs=True):
-        exec("\n".join(lines), {"DataArray": data_array, "print": shown} | {it: getattr(xarray, it) for it in FUNCTIONS})
+        exec("\n".join(lines), {"DataArray": data_array, "times": times, "print": shown} | {it: getattr(xarray, it) for it in FUNCTIONS})
     return out.getvalue()
 
 
@@ -128,6 +142,8 @@ def main():
             except NameError as fault:
                 print(f"skipped: the row {name!r} is no program of xarray: {fault}")
                 continue
+            except Exception as fault:
+                got = repr(fault)
             holds, said = got == text and status == 0, f"{got!r}, not {text!r}"
         elif "xarray: refused too" in remark:
             try:

@@ -63,6 +63,24 @@ FILES = {
          "lon": Var("short", ["lon"], [5, 6], units="degrees_east"),
          "rain": Var("short", ["time", "lat", "lon"], [0, None, 5, 5], units="0.1 mm", _FillValue=-999)},
         title="rain of four days"),
+    "dates": File(
+        'a = DataArray([[1, 2], [3, 4]], dims=["time", "x"], name="v", dtype="int16", coords={"time": times("hours since 2001-02-28 06:00", [0, 18], calendar="noleap")})\n'
+        'a.assign_attrs(units="m").to_netcdf("dates.nc", format="NETCDF3_64BIT", unlimited_dims="time")',
+        2, {"time": 2, "x": 2},
+        {"time": Var("int", ["time"], [0, 18], units="hours since 2001-02-28 06:00", calendar="noleap"), "v": Var("short", ["time", "x"], [1, 2, 3, 4], units="m")},
+        records="time"),
+    "finer": File(
+        'a = DataArray([1, 2], dims=["time"], name="v", dtype="int32", coords={"time": times("days since 1600-02-29T12:00", [0, 1], calendar="standard")})\n'
+        'a.reindex(time=["1600-02-29T00:00:00", "1600-03-01 12:00:00"], fill_value=-1).to_netcdf("finer.nc")',
+        5, {"time": 2},
+        {"time": Var("int64", ["time"], [-12, 24], units="hours since 1600-02-29T12:00", calendar="standard"), "v": Var("int", ["time"], [-1, 2])}),
+    "single": File(
+        'open_dataset("rain.nc").sel(time="2000-02-01T00:00:00", lat=[50], lon=[7]).to_netcdf("single.nc", format="NETCDF3_CLASSIC")',
+        1, {"lat": 1, "lon": 1},
+        {"lat": Var("short", ["lat"], [50], units="degrees_north"), "lon": Var("short", ["lon"], [7], units="degrees_east"),
+         "time": Var("int", [], [31], units="days since 2000-01-01"),
+         "rain": Var("short", ["lat", "lon"], [5], units="0.1 mm", _FillValue=-999, coordinates="time")},
+        title="rain of four days"),
 }
 
 SUFFIX = {"byte": "b", "short": "s", "int": "", "ubyte": "UB", "ushort": "US", "uint": "U", "int64": "LL", "uint64": "ULL", "char": ""}

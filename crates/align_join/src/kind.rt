@@ -3,7 +3,8 @@ ghost use Rattle.std.specs.Prelude.{◌≡◌, map, MatchOption, Ok, Err};
 ghost use Rattle.std.specs.List.{list_all};
 ghost use Rattle.xr_types.specs.declared.fault.Fault.TheVariants.{WouldPromote};
 ghost use Rattle.xr_types.specs.Results.{Answers};
-ghost use Rattle.xr_operations.specs.Alignment.{are_kin, common_kind, number_kind, same_calendar};
+ghost use Rattle.xr_times.specs.Times.{same_calendar};
+ghost use Rattle.xr_operations.specs.Alignment.{are_kin, common_kind, number_kind};
 
 use xr_types::{Calendar, CallFault, DType, Fault, LabelList, promote};
 

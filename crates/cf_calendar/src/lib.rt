@@ -8,4 +8,5 @@ mod number;
 
 pub use date::CalDate;
 pub use laws::{date_again, number_again};
-pub use number::{date_of, day_of};
+pub use month::{month_days, year_days};
+pub use number::{date_at, date_of, day_of, place};

@@ -28,7 +28,7 @@ fn date_with(calendar: Calendar, year: i64, month: i64, day: i64) -> Option<CalD
 }
 
 /// How many dates there are before a date.
-fn place(calendar: Calendar, date: CalDate) -> u32
+pub fn place(calendar: Calendar, date: CalDate) -> u32
     requires served { calendar ≢ Civil }
     requires date { IsDate calendar date }
     ensures value { result ≡ place calendar date }
@@ -39,7 +39,7 @@ fn place(calendar: Calendar, date: CalDate) -> u32
 }
 
 /// The date before which there are so many dates.
-fn date_at(calendar: Calendar, at: u32) -> CalDate
+pub fn date_at(calendar: Calendar, at: u32) -> CalDate
     requires served { calendar ≢ Civil }
     requires within { at < 9999 * year_days calendar }
     ensures date { IsDate calendar result }

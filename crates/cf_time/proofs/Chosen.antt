@@ -1,6 +1,7 @@
 -- Tests read off answers that are there or not.
 use Rattle.std.proofs.Common.{◌≡◌, ◌≤◌, ℕ, Bool, true, false, Option, Some, None, refl, sym, ◌∙◌, ap, if◌then◌else◌}
-use Rattle.xr_arrays.specs.Times.{IsCivil, month_days}
+use Rattle.xr_types.specs.declared.axis.Calendar.{Calendar}
+use Rattle.xr_times.specs.Times.{IsDate, month_days}
 
 pub some_if : {A : Type 0} (b : Bool) (v x : A) → Some x ≡ (if b then Some v else None) → b ≡ true
 some_if true v x h = refl
@@ -26,8 +27,8 @@ pub none_second : {A : Type 0} (a b : Bool) (x : Option A) → a ≡ true → b 
 none_second a b x f g = sym (ap (λ k. if k then (if b then x else None) else None) f ∙ ap (λ k. if k then x else None) g)
 
 -- the parts of a date that were read are in their ranges
-pub civil : (y m d : ℕ) → (1 ≤ y) × (y ≤ 9999) → (1 ≤ m) × (m ≤ 12) → (1 ≤ d) × (d ≤ month_days y m) → IsCivil y m d
-civil y m d year month day = record {
+pub date : (c : Calendar) (y m d : ℕ) → (1 ≤ y) × (y ≤ 9999) → (1 ≤ m) × (m ≤ 12) → (1 ≤ d) × (d ≤ month_days c y m) → IsDate c y m d
+date c y m d year month day = record {
   year_from = year.0;
   year_to = year.1;
   month_from = month.0;

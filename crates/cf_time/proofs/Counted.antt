@@ -5,7 +5,7 @@ use Rattle.std.proofs.lemmas.Int.{ints}
 use Rattle.std.proofs.lemmas.Bool.Decides.{nat_tests}
 use Rattle.xr_types.specs.declared.axis.TimeUnit.{TimeUnit}
 use Rattle.xr_types.specs.declared.axis.TimeUnit.TheVariants.{Days, Hours, Minutes, Seconds}
-use Rattle.xr_arrays.specs.Times.{unit_seconds}
+use Rattle.xr_times.specs.Times.{unit_seconds}
 
 behind : (u : TimeUnit) (z : ℤ) → unsigned_abs z % unit_seconds u ≡ 0 → pos 0 ≤ℤ z → pos (unsigned_abs z / unit_seconds u) *ℤ pos (unit_seconds u) ≡ z
 behind Days (pos a) h up = omega (arith, ints, h)

@@ -1,3 +1,5 @@
+pub mod Epochs
+pub mod Alike
 pub mod Linked
 pub mod Chosen
 pub mod Runs

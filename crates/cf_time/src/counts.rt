@@ -1,7 +1,7 @@
 //! Times as a file counts them when it is written.
 ghost use Rattle.std.specs.Prelude.{◌≡◌, ◌<◌, pos, neg_ℤ};
-ghost use Rattle.xr_arrays.specs.Times.{unit_seconds};
-ghost use Rattle.xr_arrays.specs.Counts.{is_count, are_counts, IsCount, written_unit};
+ghost use Rattle.xr_times.specs.Times.{unit_seconds};
+ghost use Rattle.xr_times.specs.Counts.{is_count, are_counts, IsCount, written_unit};
 
 use xr_types::{TimeUnit, Units};
 

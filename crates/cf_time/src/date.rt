@@ -1,81 +1,37 @@
-//! The date of a time, its fields and its text.
-ghost use Rattle.std.specs.Prelude.{◌≡◌, ◌+◌, ◌<◌, ◌≤◌, pos};
-ghost use Rattle.xr_arrays.specs.Times.{IsTime, IsCivil, day_number, seconds_since, day_since, second_of_day, year_at, month_at, day_at, day_in_year, field_of, digit, time_text};
-ghost use Rattle.jiff_core.specs.Date.{ordinal, weekday_of};
+//! The fields and the text of a time.
+ghost use Rattle.std.specs.Prelude.{◌≡◌, ◌*◌, ◌<◌, pos};
+ghost use Rattle.xr_times.specs.Times.{IsTime, all_days, seconds_since, field_of, digit, time_text};
 
-use jiff_core::civil::Date;
-use xr_arrays::Field;
+use crate::calendar::{date_at, epoch};
+use xr_times::Field;
+use xr_types::Calendar;
+
 /// The seconds from 0001-01-01T00:00:00 to a time.
-pub fn since(label: i64) -> u64
-    requires { IsTime label }
-    ensures value { result ≡ seconds_since label }
+#[tactic(auto, using(crate::proofs::Epochs::most_days))]
+pub fn since(label: i64, calendar: Calendar) -> u64
+    requires { IsTime calendar label }
+    ensures value { result ≡ seconds_since calendar label }
+    ensures within { result < 86400 * all_days calendar }
     ensures bound { result < 315537897600 }
 {
-    (label + 62_135_596_800) as u64
-}
-
-/// The date that many days after 0001-01-01.
-pub fn date_at(day: u64) -> Date
-    requires { day < 3652059 }
-    ensures year { result.year ≡ pos (year_at day) }
-    ensures month { result.month ≡ month_at day }
-    ensures day { result.day ≡ day_at day }
-    ensures ordinal { ordinal result ≡ day_in_year day + 1 }
-    ensures number { day_number (year_at day) (month_at day) (day_at day) ≡ day }
-    ensures civil { IsCivil (year_at day) (month_at day) (day_at day) }
-    ensures years { (1 ≤ year_at day) × (year_at day ≤ 9999) }
-    ensures months { (1 ≤ month_at day) × (month_at day ≤ 12) }
-    ensures days { 1 ≤ day_at day }
-{
-    Date::from_days_since_min(day as u32 + 3_652_425)
-}
-
-/// A date by its numbers: the year, the month, the day of the month and the day of the year.
-#[derive(Clone, Copy)]
-pub struct Parts {
-    pub year: u16,
-    pub month: u8,
-    pub day: u8,
-    pub ordinal: u16,
-}
-
-/// The date that many days after 0001-01-01, by its numbers.
-pub fn parts_at(day: u64) -> Parts
-    requires { day < 3652059 }
-    ensures year { result.year ≡ year_at day }
-    ensures month { result.month ≡ month_at day }
-    ensures day { result.day ≡ day_at day }
-    ensures ordinal { result.ordinal ≡ day_in_year day + 1 }
-    ensures number { day_number (year_at day) (month_at day) (day_at day) ≡ day }
-    ensures civil { IsCivil (year_at day) (month_at day) (day_at day) }
-    ensures years { (1 ≤ year_at day) × (year_at day ≤ 9999) }
-    ensures months { (1 ≤ month_at day) × (month_at day ≤ 12) }
-    ensures days { 1 ≤ day_at day }
-{
-    let date = date_at(day);
-    Parts {
-        year: date.year as u16,
-        month: date.month,
-        day: date.day,
-        ordinal: date.day_of_year(),
-    }
+    (label + epoch(calendar)) as u64
 }
 
 /// A field of a time.
-pub fn field(label: i64, field: Field) -> i64
-    requires { IsTime label }
-    ensures { result ≡ pos (field_of label field) }
+pub fn field(label: i64, field: Field, calendar: Calendar) -> i64
+    requires { IsTime calendar label }
+    ensures { result ≡ pos (field_of calendar label field) }
 {
-    let since = since(label);
+    let since = since(label, calendar);
     let (day, second) = (since / 86_400, since % 86_400);
     match field {
-        Field::Year => i64::from(date_at(day).year),
-        Field::Month => i64::from(date_at(day).month),
-        Field::Day => i64::from(date_at(day).day),
+        Field::Year => i64::from(date_at(calendar, day).year),
+        Field::Month => i64::from(date_at(calendar, day).month),
+        Field::Day => i64::from(date_at(calendar, day).day),
         Field::Hour => (second / 3_600) as i64,
         Field::Minute => (second % 3_600 / 60) as i64,
         Field::Second => (second % 60) as i64,
-        Field::DayOfYear => i64::from(date_at(day).day_of_year()),
+        Field::DayOfYear => i64::from(date_at(calendar, day).ordinal),
         Field::DayOfWeek => (day % 7) as i64,
     }
 }
@@ -88,14 +44,18 @@ fn digit(number: u64) -> u8
 }
 
 /// The text of a time, `YYYY-MM-DDThh:mm:ss`.
-pub fn text(label: i64) -> [u8; 19]
-    requires { IsTime label }
-    ensures { result ≡ time_text label }
+pub fn text(label: i64, calendar: Calendar) -> [u8; 19]
+    requires { IsTime calendar label }
+    ensures { result ≡ time_text calendar label }
 {
-    let since = since(label);
+    let since = since(label, calendar);
     let second = since % 86_400;
-    let date = date_at(since / 86_400);
-    let (year, month, day) = (date.year as u64, date.month as u64, date.day as u64);
+    let date = date_at(calendar, since / 86_400);
+    let (year, month, day) = (
+        u64::from(date.year),
+        u64::from(date.month),
+        u64::from(date.day),
+    );
     let (hour, minute, second) = (second / 3_600, second % 3_600 / 60, second % 60);
     [
         digit(year / 1000),

@@ -2,6 +2,7 @@
 #![tactic(auto)]
 
 mod binning;
+mod calendar;
 mod counts;
 mod date;
 mod each_field;
@@ -16,5 +17,5 @@ pub use date::{field, text};
 pub use each_field::fields;
 pub use read::read_date;
 pub use units::decode;
-pub use units_text::read_units;
-pub use xr_arrays::BinList;
+pub use units_text::{calendar_named, read_units};
+pub use xr_times::BinList;

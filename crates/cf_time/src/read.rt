@@ -1,20 +1,10 @@
 //! Date texts of a script.
 ghost use Rattle.std.specs.Prelude.{◌≡◌, ◌≤◌, ◌<◌, ◌+◌, ◌*◌, ◌-ℤ◌, ◌&&◌, pos, length, true, if◌then◌else◌, Some, None, IfSome};
-ghost use Rattle.xr_arrays.specs.Units.{is_civil};
-ghost use Rattle.xr_arrays.specs.Times.{IsCivil, day_number, epoch, time_of, month_days, is_digit, has_two, two_at, has_year, year_in, has_month, has_day, has_clock, period, year_period, month_period, day_period, clock_period, second_period, date_period};
+ghost use Rattle.xr_times.specs.Times.{IsDate, month_days, is_digit, has_two, two_at, has_year, year_in, has_month, has_day, has_clock, period, year_period, month_period, day_period, clock_period, second_period, date_period};
 
-use jiff_core::civil;
-use jiff_core::civil::Date;
-use xr_arrays::Period;
-/// The time of a second of a date.
-pub fn time_at(year: u16, month: u8, day: u8, second: u32) -> i64
-    requires civil { IsCivil year month day }
-    requires second { second < 86400 }
-    ensures { result ≡ pos (86400 * day_number year month day + second) -ℤ pos epoch }
-{
-    let day = Date::constrain(year as i16, month, day).to_unix_epoch_day();
-    i64::from(day) * 86_400 + i64::from(second)
-}
+use crate::calendar::{month_days, time_at};
+use xr_times::Period;
+use xr_types::Calendar;
 
 /// Whether two digits stand at a place.
 fn has_two(text: &[u8], at: usize) -> bool
@@ -67,26 +57,28 @@ fn month(text: &[u8]) -> Option<u8>
 }
 
 /// The day behind a month.
-fn day(text: &[u8], year: u16, month: u8) -> Option<u8>
+fn day(text: &[u8], calendar: Calendar, year: u16, month: u8) -> Option<u8>
     requires within { 10 ≤ length text.now }
     requires year { year ≡ year_in text.now }
     requires month { month ≡ two_at text.now 5 }
     requires years { year ≤ 9999 }
-    ensures value { result ≡ (if has_day text.now then Some (two_at text.now 8) else None) }
-    ensures range { IfSome result (λ d. (1 ≤ d) × (d ≤ month_days year month)) }
+    requires from { 1 ≤ month }
+    requires to { month ≤ 12 }
+    ensures value { result ≡ (if has_day calendar text.now then Some (two_at text.now 8) else None) }
+    ensures range { IfSome result (λ d. (1 ≤ d) × (d ≤ month_days calendar year month)) }
 {
     if text[7] != b'-' || !has_two(text, 8) {
         return None;
     }
     let day = two_at(text, 8);
-    if day == 0 || day > civil::days_in_month(year as i16, month) {
+    if day == 0 || day > month_days(calendar, year, month) {
         return None;
     }
     Some(day)
 }
 
 /// The second of the day behind a date.
-#[tactic(auto, unfolding(xr_arrays::specs::Times::has_clock))]
+#[tactic(auto, unfolding(xr_times::specs::Times::has_clock))]
 fn clock(text: &[u8]) -> Option<u32>
     requires { 19 ≤ length text.now }
     ensures value { result ≡ (if has_clock text.now then Some (3600 * two_at text.now 11 + 60 * two_at text.now 14 + two_at text.now 17) else None) }
@@ -109,56 +101,47 @@ fn clock(text: &[u8]) -> Option<u32>
     Some(u32::from(hour) * 3_600 + u32::from(minute) * 60 + u32::from(second))
 }
 
-/// The days of a month.
-pub fn month_days(year: u16, month: u8) -> u8
-    requires { year ≤ 9999 }
-    ensures { result ≡ month_days year month }
-{
-    civil::days_in_month(year as i16, month)
-}
-
-/// Whether the calendar has a date, in the years 1 to 9999.
-pub fn is_date(year: u16, month: u16, day: u16) -> bool
-    ensures { result ≡ is_civil year month day }
-{
-    if year == 0 || year > 9999 || month == 0 || month > 12 || day == 0 {
-        return false;
-    }
-    day <= u16::from(civil::days_in_month(year as i16, month as u8))
-}
-
 /// The period from a date's first second to another's last.
-fn period(year: u16, month: u8, day: u8, last_month: u8, last_day: u8) -> Period
-    requires from { IsCivil year month day }
-    requires to { IsCivil year last_month last_day }
-    ensures { result ≡ period year month day last_month last_day }
+fn period(calendar: Calendar, year: u16, month: u8, day: u8, last_month: u8, last_day: u8) -> Period
+    requires from { IsDate calendar year month day }
+    requires to { IsDate calendar year last_month last_day }
+    ensures { result ≡ period calendar year month day last_month last_day }
 {
     Period {
-        first: time_at(year, month, day, 0),
-        last: time_at(year, last_month, last_day, 86_399),
+        first: time_at(calendar, year, month, day, 0),
+        last: time_at(calendar, year, last_month, last_day, 86_399),
     }
 }
 
-fn of_year(text: &[u8]) -> Option<Period>
+#[tactic(auto, using(crate::proofs::Epochs::some_days))]
+fn of_year(text: &[u8], calendar: Calendar) -> Option<Period>
     requires { length text.now ≡ 4 }
-    ensures { result ≡ year_period text.now }
+    ensures { result ≡ year_period calendar text.now }
 {
     let year = year(text)?;
-    Some(period(year, 1, 1, 12, 31))
+    Some(period(calendar, year, 1, 1, 12, month_days(calendar, year, 12)))
 }
 
-fn of_month(text: &[u8]) -> Option<Period>
+#[tactic(auto, using(crate::proofs::Epochs::some_days))]
+fn of_month(text: &[u8], calendar: Calendar) -> Option<Period>
     requires { length text.now ≡ 7 }
-    ensures { result ≡ month_period text.now }
+    ensures { result ≡ month_period calendar text.now }
 {
     let year = year(text)?;
     let month = month(text)?;
-    Some(period(year, month, 1, month, month_days(year, month)))
+    Some(period(
+        calendar,
+        year,
+        month,
+        1,
+        month,
+        month_days(calendar, year, month),
+    ))
 }
 
-fn of_day(text: &[u8]) -> Option<Period>
+fn of_day(text: &[u8], calendar: Calendar) -> Option<Period>
     requires { length text.now ≡ 10 }
-    ensures { result ≡ day_period text.now }
+    ensures { result ≡ day_period calendar text.now }
 {
     let Some(year) = year(text) else {
         return None;
@@ -166,34 +149,34 @@ fn of_day(text: &[u8]) -> Option<Period>
     let Some(month) = month(text) else {
         return None;
     };
-    let Some(day) = day(text, year, month) else {
+    let Some(day) = day(text, calendar, year, month) else {
         return None;
     };
-    Some(period(year, month, day, month, day))
+    Some(period(calendar, year, month, day, month, day))
 }
 
 /// The one second of a date and the time behind it.
-fn at_clock(text: &[u8], year: u16, month: u8, day: u8) -> Option<Period>
+fn at_clock(text: &[u8], calendar: Calendar, year: u16, month: u8, day: u8) -> Option<Period>
     requires within { 19 ≤ length text.now }
     requires year { year ≡ year_in text.now }
     requires month { month ≡ two_at text.now 5 }
     requires day { day ≡ two_at text.now 8 }
-    requires civil { IsCivil year month day }
-    ensures { result ≡ clock_period text.now }
+    requires date { IsDate calendar year month day }
+    ensures { result ≡ clock_period calendar text.now }
 {
     let Some(second) = clock(text) else {
         return None;
     };
-    let time = time_at(year, month, day, second);
+    let time = time_at(calendar, year, month, day, second);
     Some(Period {
         first: time,
         last: time,
     })
 }
 
-fn of_second(text: &[u8]) -> Option<Period>
+fn of_second(text: &[u8], calendar: Calendar) -> Option<Period>
     requires { length text.now ≡ 19 }
-    ensures { result ≡ second_period text.now }
+    ensures { result ≡ second_period calendar text.now }
 {
     let Some(year) = year(text) else {
         return None;
@@ -201,22 +184,22 @@ fn of_second(text: &[u8]) -> Option<Period>
     let Some(month) = month(text) else {
         return None;
     };
-    let Some(day) = day(text, year, month) else {
+    let Some(day) = day(text, calendar, year, month) else {
         return None;
     };
-    at_clock(text, year, month, day)
+    at_clock(text, calendar, year, month, day)
 }
 
 /// The period of a date text of a script, from its first to its last second: `YYYY`, `YYYY-MM`, `YYYY-MM-DD`,
 /// or that with `T` or a blank and `hh:mm:ss`. None where the text is none or there is no such date.
-pub fn read_date(text: &[u8]) -> Option<Period>
-    ensures { result ≡ date_period text.now }
+pub fn read_date(text: &[u8], calendar: Calendar) -> Option<Period>
+    ensures { result ≡ date_period calendar text.now }
 {
     match text.len() {
-        4 => of_year(text),
-        7 => of_month(text),
-        10 => of_day(text),
-        19 => of_second(text),
+        4 => of_year(text, calendar),
+        7 => of_month(text, calendar),
+        10 => of_day(text, calendar),
+        19 => of_second(text, calendar),
         _ => None,
     }
 }

@@ -1,13 +1,14 @@
 //! Runs of times that lie in one bin.
 ghost use Rattle.std.specs.Prelude.{◌≡◌, ◌-◌, ◌+◌, ◌*◌, ◌/◌, ◌<◌, ◌≤◌, ℕ, ℤ};
-ghost use Rattle.xr_arrays.specs.Times.{IsTime, seconds_since, year_at, month_at, year_days};
-ghost use Rattle.xr_arrays.specs.declared.time.Freq.TheVariants as freqs;
-ghost use Rattle.xr_arrays.specs.Bins.{IsFreq, IsRun, IsBin, bin_number};
+ghost use Rattle.xr_times.specs.Times.{IsTime, all_days, seconds_since, year_at, month_at};
+ghost use Rattle.xr_times.specs.declared.time.Freq.TheVariants as freqs;
+ghost use Rattle.xr_times.specs.Bins.{IsFreq, IsRun, IsBin, bin_number};
 
-use crate::date::{parts_at, since};
-use crate::read::month_days;
-use jiff_core::civil;
-use xr_arrays::Freq;
+use crate::calendar::{date_at, month_days, year_days};
+use crate::date::since;
+use xr_times::Freq;
+use xr_types::Calendar;
+
 /// The number of a bin, and the times in it from one to before another, in seconds from 0001-01-01T00:00:00.
 #[derive(Clone, Copy)]
 pub struct Run {
@@ -17,13 +18,14 @@ pub struct Run {
 }
 
 /// The bin of a width.
-fn of_width(width: u64, first: u64, since: u64) -> Run
+#[tactic(auto, using(crate::proofs::Epochs::most_days))]
+fn of_width(calendar: Calendar, width: u64, first: u64, since: u64) -> Run
     requires width { 0 < width }
-    requires first { first < 315537897600 }
-    requires since { since < 315537897600 }
+    requires first { first < 86400 * all_days calendar }
+    requires since { since < 86400 * all_days calendar }
     ensures number { result.number ≡ (since - first) / width }
-    ensures run { IsRun (freqs.Seconds width) first result.number result.from result.to }
-    ensures bin { IsBin (freqs.Seconds width) first result.number }
+    ensures run { IsRun calendar (freqs.Seconds width) first result.number result.from result.to }
+    ensures bin { IsBin calendar (freqs.Seconds width) first result.number }
     ensures small { result.number < 315537897600 }
 {
     let behind = since.saturating_sub(first);
@@ -34,16 +36,16 @@ fn of_width(width: u64, first: u64, since: u64) -> Run
 }
 
 /// The calendar month of a day, counted from 0001-01-01.
-fn of_month(day: u64) -> Run
-    requires { day < 3652059 }
-    ensures number { result.number ≡ 12 * year_at day + month_at day - 1 }
-    ensures run { (first : ℕ) → IsRun freqs.Months first result.number result.from result.to }
-    ensures bin { (first : ℕ) → IsBin freqs.Months first result.number }
+fn of_month(calendar: Calendar, day: u64) -> Run
+    requires { day < all_days calendar }
+    ensures number { result.number ≡ 12 * year_at calendar day + month_at calendar day - 1 }
+    ensures run { (first : ℕ) → IsRun calendar freqs.Months first result.number result.from result.to }
+    ensures bin { (first : ℕ) → IsBin calendar freqs.Months first result.number }
     ensures small { result.number < 120000 }
 {
-    let date = parts_at(day);
+    let date = date_at(calendar, day);
     let from = day + 1 - u64::from(date.day);
-    let to = from + u64::from(month_days(date.year, date.month));
+    let to = from + u64::from(month_days(calendar, date.year, date.month));
     Run {
         number: 12 * u64::from(date.year) + u64::from(date.month) - 1,
         from: 86_400 * from,
@@ -51,25 +53,17 @@ fn of_month(day: u64) -> Run
     }
 }
 
-/// The days of a year.
-fn year_days(year: u16) -> u16
-    requires { year ≤ 9999 }
-    ensures { result ≡ year_days year }
-{
-    civil::days_in_year(year as i16)
-}
-
 /// The year of a day, counted from 0001-01-01.
-fn of_year(day: u64) -> Run
-    requires { day < 3652059 }
-    ensures number { result.number ≡ year_at day }
-    ensures run { (first : ℕ) → IsRun freqs.Years first result.number result.from result.to }
-    ensures bin { (first : ℕ) → IsBin freqs.Years first result.number }
+fn of_year(calendar: Calendar, day: u64) -> Run
+    requires { day < all_days calendar }
+    ensures number { result.number ≡ year_at calendar day }
+    ensures run { (first : ℕ) → IsRun calendar freqs.Years first result.number result.from result.to }
+    ensures bin { (first : ℕ) → IsBin calendar freqs.Years first result.number }
     ensures small { result.number < 120000 }
 {
-    let date = parts_at(day);
+    let date = date_at(calendar, day);
     let from = day + 1 - u64::from(date.ordinal);
-    let to = from + u64::from(year_days(date.year));
+    let to = from + u64::from(year_days(calendar, date.year));
     Run {
         number: u64::from(date.year),
         from: 86_400 * from,
@@ -78,36 +72,36 @@ fn of_year(day: u64) -> Run
 }
 
 /// The bin of a time, in seconds from 0001-01-01T00:00:00.
-pub fn run_at(freq: Freq, first: u64, since: u64) -> Run
+pub fn run_at(calendar: Calendar, freq: Freq, first: u64, since: u64) -> Run
     requires freq { IsFreq freq }
-    requires first { first < 315537897600 }
-    requires since { since < 315537897600 }
-    ensures number { (t : ℤ) → seconds_since t ≡ since → bin_number freq first t ≡ result.number }
-    ensures run { IsRun freq first result.number result.from result.to }
-    ensures bin { IsBin freq first result.number }
+    requires first { first < 86400 * all_days calendar }
+    requires since { since < 86400 * all_days calendar }
+    ensures number { (t : ℤ) → seconds_since calendar t ≡ since → bin_number calendar freq first t ≡ result.number }
+    ensures run { IsRun calendar freq first result.number result.from result.to }
+    ensures bin { IsBin calendar freq first result.number }
     ensures small { result.number < 315537897600 }
 {
     match freq {
-        Freq::Seconds(width) => of_width(width, first, since),
-        Freq::Months => of_month(since / 86_400),
-        Freq::Years => of_year(since / 86_400),
+        Freq::Seconds(width) => of_width(calendar, width, first, since),
+        Freq::Months => of_month(calendar, since / 86_400),
+        Freq::Years => of_year(calendar, since / 86_400),
     }
 }
 
 /// The bin of a label: the one at hand, where the label lies in it.
-pub fn next_run(freq: Freq, first: u64, run: Run, label: i64) -> Run
+pub fn next_run(calendar: Calendar, freq: Freq, first: u64, run: Run, label: i64) -> Run
     requires freq { IsFreq freq }
-    requires first { first < 315537897600 }
-    requires run { IsRun freq first run.number run.from run.to }
-    requires bin { IsBin freq first run.number }
-    requires label { IsTime label }
-    ensures number { result.number ≡ bin_number freq first label }
-    ensures run { IsRun freq first result.number result.from result.to }
-    ensures bin { IsBin freq first result.number }
+    requires first { first < 86400 * all_days calendar }
+    requires run { IsRun calendar freq first run.number run.from run.to }
+    requires bin { IsBin calendar freq first run.number }
+    requires label { IsTime calendar label }
+    ensures number { result.number ≡ bin_number calendar freq first label }
+    ensures run { IsRun calendar freq first result.number result.from result.to }
+    ensures bin { IsBin calendar freq first result.number }
 {
-    let since = since(label);
+    let since = since(label, calendar);
     if run.from <= since && since < run.to {
         return run;
     }
-    run_at(freq, first, since)
+    run_at(calendar, freq, first, since)
 }

@@ -1,8 +1,9 @@
 //! Times as a file counts them.
 ghost use Rattle.std.specs.Prelude.{◌≡◌, ◌&&◌, ◌||◌, pos, IfSome, Some, None, if◌then◌else◌};
-ghost use Rattle.xr_arrays.specs.Units.{units};
-ghost use Rattle.xr_arrays.specs.Times.{IsTime, unit_seconds, is_time, is_gregorian, decoded};
+ghost use Rattle.xr_times.specs.Units.{units};
+ghost use Rattle.xr_times.specs.Times.{IsTime, unit_seconds, is_time, is_gregorian, decoded};
 
+use crate::calendar::{end, epoch};
 use xr_types::{Calendar, TimeUnit, Units};
 
 /// The seconds of a unit.
@@ -17,17 +18,29 @@ fn unit_seconds(unit: TimeUnit) -> i128
     }
 }
 
-/// A time that the units decode.
-fn bounded(early: bool, time: i128) -> Option<i64>
-    ensures value { result ≡ (if is_time time && (early || is_gregorian time) then Some time else None) }
-    ensures time { IfSome result IsTime }
+/// Whether a time lies in the years 1 to 9999.
+fn is_time(calendar: Calendar, time: i128) -> bool
+    ensures { result ≡ is_time calendar time }
 {
-    let first = if early {
-        -62_135_596_800
-    } else {
-        -12_219_292_800
-    };
-    if time < first || time >= 253_402_300_800 {
+    time >= -i128::from(epoch(calendar)) && time < i128::from(end(calendar))
+}
+
+/// Whether a time isn't before 1582-10-15.
+fn is_gregorian(time: i128) -> bool
+    ensures { result ≡ is_gregorian time }
+{
+    time >= -12_219_292_800
+}
+
+/// A time that the units decode.
+fn bounded(calendar: Calendar, early: bool, time: i128) -> Option<i64>
+    ensures value { result ≡ (if is_time calendar time && (early || is_gregorian time) then Some time else None) }
+    ensures time { IfSome result (λ t. IsTime calendar t) }
+{
+    if !is_time(calendar, time) {
+        return None;
+    }
+    if !early && !is_gregorian(time) {
         return None;
     }
     Some(time as i64)
@@ -37,7 +50,7 @@ fn bounded(early: bool, time: i128) -> Option<i64>
 /// the unit. There is none outside the years 1 to 9999 and, where early times aren't decoded, before 1582-10-15.
 pub fn decode(units: &Units, count: i128) -> Option<i64>
     ensures value { result ≡ decoded units.now count }
-    ensures time { IfSome result IsTime }
+    ensures time { IfSome result (λ t. IsTime units.now.calendar t) }
 {
     let reference = i128::from(units.reference);
     let Some(offset) = count.checked_mul(unit_seconds(units.unit)) else {
@@ -46,12 +59,12 @@ pub fn decode(units: &Units, count: i128) -> Option<i64>
     let Some(time) = reference.checked_add(offset) else {
         return None;
     };
-    bounded(units.early, time)
+    bounded(units.calendar, units.early, time)
 }
 
 /// Units from a reference, if the calendar reads it: one before 1582-10-15 only where early times are read.
-pub fn units_with(unit: TimeUnit, reference: i64, early: bool) -> Option<Units>
-    ensures { result ≡ units unit reference early }
+pub fn units_with(unit: TimeUnit, reference: i64, calendar: Calendar, early: bool) -> Option<Units>
+    ensures { result ≡ units unit reference calendar early }
 {
     if !early && reference < -12_219_292_800 {
         return None;
@@ -59,7 +72,7 @@ pub fn units_with(unit: TimeUnit, reference: i64, early: bool) -> Option<Units>
     Some(Units {
         unit,
         reference,
-        calendar: Calendar::Civil,
+        calendar,
         early,
     })
 }

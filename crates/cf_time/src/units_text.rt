@@ -1,17 +1,17 @@
 //! Texts of CF time units.
-ghost use Rattle.std.specs.Prelude.{◌≡◌, ◌≤◌, ◌<◌, ◌^◌, ◌*◌, ◌+◌, ◌==◌, true, All, IsTrue, IfSome, length, ℕ, List};
+ghost use Rattle.std.specs.Prelude.{◌≡◌, ◌≤◌, ◌<◌, ◌^◌, ◌*◌, ◌+◌, ◌==◌, true, All, IsTrue, IfSome, Some, length, ℕ, List};
 ghost use Rattle.std.specs.Char.{is_ascii_digit, digit_value};
 ghost use Rattle.std.specs.List.{prefix_len, take_while, list_all};
 ghost use Rattle.std.specs.Option.{option_copied};
 ghost use Rattle.std.specs.Str.{bytes_eq};
 ghost use Rattle.std.specs.Str.Parse.{digits_value};
-ghost use Rattle.xr_arrays.specs.Times.{IsCivil, IsTime};
+ghost use Rattle.xr_times.specs.Times.{IsDate};
 ghost use Rattle.cf_time.specs.Parts.{Says};
-ghost use Rattle.xr_arrays.specs.Units.{is_blank, is_dark, behind_blanks, behind_byte, number, part, civil, date, is_whole, clock, second, seconds, time_of_day, behind_mark, marked_time, day_second, reference, unit_named, unit, behind_since, behind_word, reads_early, units, units_of};
+ghost use Rattle.xr_times.specs.Units.{is_blank, is_dark, behind_blanks, behind_byte, number, part, dated, date, is_whole, clock, second, seconds, time_of_day, behind_mark, marked_time, day_second, reference, unit_named, unit, behind_since, behind_word, calendar_named, units, units_of};
 
-use crate::read::{is_date, time_at};
+use crate::calendar::{is_date, time_at};
 use crate::units::units_with;
-use xr_types::{TimeUnit, Units};
+use xr_types::{Calendar, TimeUnit, Units};
 
 fn is_blank(c: u8) -> bool
     ensures { result ≡ is_blank c }
@@ -100,7 +100,7 @@ fn number(text: &[u8], least: usize, most: usize) -> Option<(u16, &[u8])>
 }
 
 /// A byte and a number of one or two digits behind it.
-#[tactic(auto, unfolding(xr_arrays::specs::Units::part))]
+#[tactic(auto, unfolding(xr_times::specs::Units::part))]
 fn part(text: &[u8], byte: u8) -> Option<(u16, &[u8])>
     ensures { Says (λ x. (x.0, x.1.now)) result (part byte text.now) }
 {
@@ -117,11 +117,11 @@ struct Day {
 }
 
 /// Year, month and day, if the calendar has them.
-fn civil(year: u16, month: u16, day: u16) -> Option<Day>
-    ensures value { (t : List ℕ) → Says (λ x. ((x.year, x.month, x.day), t)) result (civil year month day t) }
-    ensures civil { IfSome result (λ x. IsCivil x.year x.month x.day) }
+fn dated(calendar: Calendar, year: u16, month: u16, day: u16) -> Option<Day>
+    ensures value { (t : List ℕ) → Says (λ x. ((x.year, x.month, x.day), t)) result (dated calendar year month day t) }
+    ensures date { IfSome result (λ x. IsDate calendar x.year x.month x.day) }
 {
-    if !is_date(year, month, day) {
+    if !is_date(calendar, year, month, day) {
         return None;
     }
     Some(Day {
@@ -132,15 +132,15 @@ fn civil(year: u16, month: u16, day: u16) -> Option<Day>
 }
 
 /// The date at the front.
-#[tactic(auto, unfolding(xr_arrays::specs::Units::date))]
-fn date(text: &[u8]) -> Option<(Day, &[u8])>
-    ensures value { Says (λ x. ((x.0.year, x.0.month, x.0.day), x.1.now)) result (date text.now) }
-    ensures civil { IfSome result (λ x. IsCivil x.0.year x.0.month x.0.day) }
+#[tactic(auto, unfolding(xr_times::specs::Units::date))]
+fn date(text: &[u8], calendar: Calendar) -> Option<(Day, &[u8])>
+    ensures value { Says (λ x. ((x.0.year, x.0.month, x.0.day), x.1.now)) result (date calendar text.now) }
+    ensures date { IfSome result (λ x. IsDate calendar x.0.year x.0.month x.0.day) }
 {
     let (year, rest) = number(text, 4, 4)?;
     let (month, rest) = part(rest, b'-')?;
     let (day, rest) = part(rest, b'-')?;
-    let day = civil(year, month, day)?;
+    let day = dated(calendar, year, month, day)?;
     Some((day, rest))
 }
 
@@ -172,7 +172,7 @@ fn clock(hour: u16, minute: u16, second: u16) -> Option<u32>
 }
 
 /// The second of the day, with the seconds behind the minutes.
-#[tactic(auto, unfolding(xr_arrays::specs::Units::second))]
+#[tactic(auto, unfolding(xr_times::specs::Units::second))]
 fn second(hour: u16, minute: u16, text: &[u8]) -> Option<u32>
     ensures value { result ≡ second hour minute text.now }
     ensures bound { IfSome result (λ s. s < 86400) }
@@ -196,7 +196,7 @@ fn seconds(hour: u16, minute: u16, text: &[u8]) -> Option<u32>
 }
 
 /// The second of the day that a text names.
-#[tactic(auto, unfolding(xr_arrays::specs::Units::time_of_day))]
+#[tactic(auto, unfolding(xr_times::specs::Units::time_of_day))]
 fn time_of_day(text: &[u8]) -> Option<u32>
     ensures value { result ≡ time_of_day text.now }
     ensures bound { IfSome result (λ s. s < 86400) }
@@ -222,7 +222,7 @@ fn behind_mark(text: &[u8]) -> Option<&[u8]>
     }
 }
 
-#[tactic(auto, unfolding(xr_arrays::specs::Units::marked_time))]
+#[tactic(auto, unfolding(xr_times::specs::Units::marked_time))]
 fn marked_time(text: &[u8]) -> Option<u32>
     ensures value { result ≡ marked_time text.now }
     ensures bound { IfSome result (λ s. s < 86400) }
@@ -243,13 +243,13 @@ fn day_second(text: &[u8]) -> Option<u32>
 }
 
 /// The time that a date, with or without a time of day, stands for.
-#[tactic(auto, unfolding(xr_arrays::specs::Units::reference))]
-fn reference(text: &[u8]) -> Option<i64>
-    ensures value { result ≡ reference text.now }
+#[tactic(auto, unfolding(xr_times::specs::Units::reference))]
+fn reference(text: &[u8], calendar: Calendar) -> Option<i64>
+    ensures value { result ≡ reference calendar text.now }
 {
-    let (day, rest) = date(text)?;
+    let (day, rest) = date(text, calendar)?;
     let second = day_second(rest)?;
-    Some(time_at(day.year, day.month, day.day, second))
+    Some(time_at(calendar, day.year, day.month, day.day, second))
 }
 
 fn is_word(word: &[u8], name: &str) -> bool
@@ -276,7 +276,7 @@ fn unit_named(word: &[u8]) -> Option<TimeUnit>
 }
 
 /// The unit at the front, and the text behind its word.
-#[tactic(auto, unfolding(xr_arrays::specs::Units::unit))]
+#[tactic(auto, unfolding(xr_times::specs::Units::unit))]
 fn unit(text: &[u8]) -> Option<(TimeUnit, &[u8])>
     ensures { Says (λ x. (x.0, x.1.now)) result (unit text.now) }
 {
@@ -297,7 +297,7 @@ fn behind_since(text: &[u8]) -> Option<&[u8]>
 }
 
 /// The text behind `since` and the blanks round it.
-#[tactic(auto, unfolding(xr_arrays::specs::Units::behind_word))]
+#[tactic(auto, unfolding(xr_times::specs::Units::behind_word))]
 fn behind_word(text: &[u8]) -> Option<&[u8]>
     ensures { Says (λ t. t.now) result (behind_word text.now) }
 {
@@ -306,36 +306,46 @@ fn behind_word(text: &[u8]) -> Option<&[u8]>
     behind_blanks(rest)
 }
 
-/// Whether a calendar reads times before 1582-10-15, if it is one that is read.
-fn reads_early(calendar: Option<&[u8]>) -> Option<bool>
-    ensures { result ≡ reads_early (option_copied calendar.entry) }
+/// The calendar of a name, and whether times before 1582-10-15 are read in it: `standard` or `gregorian`, where they
+/// aren't, `proleptic_gregorian`, `noleap` or `365_day`, and `360_day`. None at any other name
+/// (CF Conventions, "Calendar").
+pub fn calendar_named(name: &[u8]) -> Option<(Calendar, bool)>
+    ensures { result ≡ calendar_named (Some name.now) }
 {
-    match calendar {
-        None => Some(false),
-        Some(name) => {
-            if is_word(name, "standard") || is_word(name, "gregorian") {
-                Some(false)
-            } else if is_word(name, "proleptic_gregorian") {
-                Some(true)
-            } else {
-                None
-            }
-        }
+    if is_word(name, "standard") || is_word(name, "gregorian") {
+        Some((Calendar::Civil, false))
+    } else if is_word(name, "proleptic_gregorian") {
+        Some((Calendar::Civil, true))
+    } else if is_word(name, "noleap") || is_word(name, "365_day") {
+        Some((Calendar::NoLeap, true))
+    } else if is_word(name, "360_day") {
+        Some((Calendar::Days360, true))
+    } else {
+        None
+    }
+}
+
+/// The calendar of a text, or `standard` where there is none.
+fn calendar_of(name: Option<&[u8]>) -> Option<(Calendar, bool)>
+    ensures { result ≡ calendar_named (option_copied name.entry) }
+{
+    match name {
+        None => Some((Calendar::Civil, false)),
+        Some(name) => calendar_named(name),
     }
 }
 
 /// The units that the text of an attribute `units` stands for, with that of `calendar` where there is one: a
-/// unit from days to seconds, `since`, and a reference date with or without a time of day, in a calendar that
-/// is none, `standard`, `gregorian` or `proleptic_gregorian`. None where the text has another form, where there
-/// is no such date, and where the reference is before 1582-10-15 but the calendar isn't the last
-/// (CF Conventions, "Time Coordinate").
-#[tactic(auto, unfolding(xr_arrays::specs::Units::units_of))]
+/// unit from days to seconds, `since`, and a reference date of that calendar with or without a time of day. None
+/// where the text has another form, where the calendar is none that is read or has no such date, and where the
+/// reference is before 1582-10-15 in `standard` (CF Conventions, "Time Coordinate").
+#[tactic(auto, unfolding(xr_times::specs::Units::units_of))]
 pub fn read_units(text: &[u8], calendar: Option<&[u8]>) -> Option<Units>
     ensures { result ≡ units_of text.now (option_copied calendar.entry) }
 {
     let (unit, rest) = unit(text)?;
     let rest = behind_word(rest)?;
-    let reference = reference(rest)?;
-    let early = reads_early(calendar)?;
-    units_with(unit, reference, early)
+    let (calendar, early) = calendar_of(calendar)?;
+    let reference = reference(rest, calendar)?;
+    units_with(unit, reference, calendar, early)
 }

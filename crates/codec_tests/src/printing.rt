@@ -1,7 +1,6 @@
-//! Printed times, which no script can make, since an index that counts times is one of whole numbers so far. They are Python's
-//! `datetime.timestamp()`.
+//! Printed arrays with coordinates, as no script makes them. Their times are Python's `datetime.timestamp()`.
 ghost use Rattle.std.specs.Prelude.{◌≡◌, All, true};
-ghost use Rattle.xr_arrays.specs.Times.{IsTime};
+ghost use Rattle.xr_times.specs.Times.{IsTime};
 ghost use Rattle.xr_print.specs.Conditions.{AreTimes, HasTimes, HoldsTime};
 
 use std::alloc::{AllocError, Global};
@@ -17,17 +16,21 @@ use xr_values::{DataArray, Dataset};
 
 // ---- what a call asks for
 
-fn is_time(t: i64) -> bool
-    ensures { result ≡ true → IsTime t }
+fn is_time(calendar: Calendar, t: i64) -> bool
+    ensures { result ≡ true → IsTime calendar t }
 {
-    t >= -62_135_596_800 && t < 253_402_300_800
+    match calendar {
+        Calendar::Civil => t >= -62_135_596_800 && t < 253_402_300_800,
+        Calendar::NoLeap => t >= -62_094_384_000 && t < 253_234_080_000,
+        Calendar::Days360 => t >= -61_243_776_000 && t < 249_765_120_000,
+    }
 }
 
-fn are_times(ts: &[i64]) -> bool
-    ensures { result ≡ true → All IsTime ts.now }
+fn are_times(calendar: Calendar, ts: &[i64]) -> bool
+    ensures { result ≡ true → All (IsTime calendar) ts.now }
 {
     for i in 0..ts.len() {
-        if !is_time(ts[i]) {
+        if !is_time(calendar, ts[i]) {
             return false;
         }
     }
@@ -39,7 +42,7 @@ fn label_times(list: &LabelList) -> bool
 {
     match list {
         LabelList::Numbers(_, _) | LabelList::Texts(_) => true,
-        LabelList::Times(_, ts) => are_times(ts.as_slice()),
+        LabelList::Times(coding, ts) => are_times(coding.units.calendar, ts.as_slice()),
     }
 }
 
@@ -68,7 +71,7 @@ fn holds_time(coord: &Coord) -> bool
 {
     match &coord.content {
         Content::Cells(_, _) | Content::Text(_) => true,
-        Content::Time(_, t) => is_time(*t),
+        Content::Time(coding, t) => is_time(coding.units.calendar, *t),
     }
 }
 

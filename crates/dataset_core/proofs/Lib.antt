@@ -2,3 +2,4 @@ mod Labelling
 mod Shared
 mod Rooms
 mod Making
+mod InGroups

@@ -14,7 +14,7 @@ use Rattle.xr_values.specs.declared.value.Value.TheVariants as variants
 use Rattle.xr_values.specs.Meaning.{meaning}
 use Rattle.xr_values.specs.Stands.{array_in, dataset_in}
 
-in_one : (old new : List Node) (v r : of.Value) (p q : Portion) → portions v ≡ p ∷ [] → portions r ≡ q ∷ [] → AddsAtMost old new (room (p ∷ q ∷ [])) → AddsAtMost old new (room (portions v ++ portions r))
+pub in_one : (old new : List Node) (v r : of.Value) (p q : Portion) → portions v ≡ p ∷ [] → portions r ≡ q ∷ [] → AddsAtMost old new (room (p ∷ q ∷ [])) → AddsAtMost old new (room (portions v ++ portions r))
 in_one old new v r p q first second adds = subst (λ ps. AddsAtMost old new (room ps)) (sym (ap (λ ps. ps ++ portions r) first ∙ ap (λ ps. p ∷ ps) second)) adds
 
 module _ (nodes new : List Node) (v r : Value) (q : Portion) (answer : portions (meaning new r) ≡ q ∷ []) where

@@ -6,6 +6,7 @@ mod choice;
 mod coords;
 mod frames;
 mod function;
+mod grouped;
 mod held;
 mod made;
 mod method;

@@ -14,16 +14,18 @@ ghost use Rattle.xr_indexing.specs.Taken.{keywords};
 ghost use Rattle.dataset_core.specs.Answers.{AnswersValue, RefusesValue};
 ghost use Rattle.dataset_core.specs.Assigned.{method_told, FollowsValue};
 
-use crate::cells::{cell_method, cumsum, is_cell_method, reduction};
+use crate::cells::{cell_method, cumsum, is_cell_method};
 use crate::choice::choice_of;
 use crate::coords::assign_coords;
 use crate::frames::{assign_attrs, drop_vars, isel, reindex, rename, sel, to_dataset, transpose};
+use crate::grouped::{end_cell, fold, grouping};
 use crate::moves::{diff, roll, shift};
 use plan_core::{Compute, Plan};
 use std::alloc::Global;
 use std::thread::Threads;
+use xr_grouping::maker_named;
 use xr_reducing::reduction_named;
-use xr_types::{CallFault, DeepCopy, Fault, TextBytes};
+use xr_types::{CallFault, DeepCopy, Fault, FoldKind, TextBytes};
 use xr_values::{Args, Cx, Value};
 
 // Whether a method's answers aren't whole numbers.
@@ -89,8 +91,48 @@ fn other_method(alloc: Global, on: &Value, name: &TextBytes) -> CallFault
     }
 }
 
-// A reduction, or no method.
-#[tactic(auto, using(plan_core::proofs::Plans::grows_by_none), unfolding(xr_runs::specs::Calls::reduction_called))]
+// Positions in groups, or no method.
+#[tactic(auto, unfolding(xr_runs::specs::Calls::grouping_called))]
+fn grouping_called(
+    alloc: Global,
+    on: &Value,
+    name: &TextBytes,
+    args: &Args,
+) -> Result<Value, CallFault>
+    requires { (nodes : List Node) × IsValueIn nodes on.now }
+    ensures { (nodes : List Node) → IsValueIn nodes on.now → AnswersValue nodes result (calls.grouping_called (meaning nodes on.now) name.now (given nodes args.now)) }
+{
+    match maker_named(name.as_str()) {
+        Some(maker) => grouping(alloc, on, name, maker, args),
+        None => Err(other_method(alloc, on, name)),
+    }
+}
+
+// The ends of groups, positions in groups, or no method.
+#[tactic(auto, using(plan_core::proofs::Plans::grows_by_none, plan_core::proofs::Added::adds_none), unfolding(xr_runs::specs::Calls::end_or_grouping))]
+fn end_or_grouping(
+    alloc: Global,
+    plan: &mut Plan,
+    on: &Value,
+    name: &TextBytes,
+    args: &Args,
+) -> Result<Value, CallFault>
+    requires { IsValueIn plan.old on.now }
+    ensures answers { AnswersValue plan.new result (calls.end_or_grouping (meaning plan.old on.now) name.now (given plan.old args.now)) }
+    ensures grows { Grows plan.old plan.new }
+    ensures room { IfOk result (λ v. AddsAtMost plan.old plan.new (room (portions (meaning plan.old on.now) ++ portions (meaning plan.new v)))) }
+{
+    if name.as_str() == "first" {
+        end_cell(alloc, plan, on, FoldKind::First, args)
+    } else if name.as_str() == "last" {
+        end_cell(alloc, plan, on, FoldKind::Last, args)
+    } else {
+        grouping_called(alloc, on, name, args)
+    }
+}
+
+// A fold of groups or of dimensions, or another method of groups.
+#[tactic(auto, unfolding(xr_runs::specs::Calls::reduction_called))]
 fn reduction_called(
     alloc: Global,
     plan: &mut Plan,
@@ -104,8 +146,8 @@ fn reduction_called(
     ensures room { IfOk result (λ v. AddsAtMost plan.old plan.new (room (portions (meaning plan.old on.now) ++ portions (meaning plan.new v)))) }
 {
     match reduction_named(name.as_str()) {
-        Some(fold) => reduction(alloc, plan, on, fold, args),
-        None => Err(other_method(alloc, on, name)),
+        Some(kind) => fold(alloc, plan, on, kind, args),
+        None => end_or_grouping(alloc, plan, on, name, args),
     }
 }
 
@@ -200,7 +242,8 @@ fn uncomputed_method(
 }
 
 /// The value of a call of a method: `isel`, `sel`, `reindex`, `drop_vars`, `assign_coords`, `assign_attrs`, `cumsum`, `shift`,
-/// `roll`, `diff` and reductions of arrays and datasets, and `transpose`, `rename`, `to_dataset`, `isnull`, `notnull`, `astype`,
+/// `roll`, `diff` and reductions of arrays and datasets, `groupby`, `resample`, `rolling` and `coarsen` of them and the methods of the
+/// groups, and `transpose`, `rename`, `to_dataset`, `isnull`, `notnull`, `astype`,
 /// `fillna`, `where`, `argmin` and `argmax` of arrays.
 ///
 /// # Errors

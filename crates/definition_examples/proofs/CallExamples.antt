@@ -8,7 +8,8 @@ use Rattle.xr_defs.specs.Meanings.{Value, Text, Number, Set, Given}
 use Rattle.xr_defs.specs.Arguments.{as_text}
 use Rattle.xr_defs.specs.Building.{bound}
 use Rattle.xr_operations.specs.Reductions.{reduction_named}
-use Rattle.xr_runs.specs.Calls.{open_asked, open_dataset, opened_set, mask_given, text_printed, write_asked, set_written, method_called, uncomputed_method, method_on_cells, move_or_reduction, reduction_called, other_method, of_array, options_given, format_given, fill_given, unlimited_given, format_named}
+use Rattle.xr_groups.specs.Calls.{maker_named}
+use Rattle.xr_runs.specs.Calls.{open_asked, open_dataset, opened_set, mask_given, text_printed, write_asked, set_written, method_called, uncomputed_method, method_on_cells, move_or_reduction, reduction_called, end_called, end_or_grouping, grouping_called, other_method, of_array, options_given, format_given, fill_given, unlimited_given, format_named}
 
 -- a dataset of nothing is printed as its first line
 printed : text_printed (Set (record { axes = []; coords = []; vars = []; attrs = []; skipped = [] })) ≡ Ok (codes "Dataset\n")
@@ -39,12 +40,17 @@ no_name = refl
 
 -- methods that need fractions are told as such on datasets, and arrays alone are renamed
 mean : method_called (Set (record { axes = []; coords = []; vars = []; attrs = []; skipped = [] })) (codes "mean") (record { plain = []; keyed = [] }) ≡ Err WouldPromote
-unfolding method_called uncomputed_method method_on_cells move_or_reduction reduction_called reduction_named other_method
+unfolding method_called uncomputed_method method_on_cells move_or_reduction reduction_called reduction_named end_or_grouping grouping_called maker_named other_method
 mean = refl
 
 renamed_set : method_called (Set (record { axes = []; coords = []; vars = []; attrs = []; skipped = [] })) (codes "rename") (one (Text (codes "v"))) ≡ Err WrongKind
 unfolding method_called uncomputed_method of_array
 renamed_set = refl
+
+-- those of groups alone, of what isn't grouped
+first_of_set : method_called (Set (record { axes = []; coords = []; vars = []; attrs = []; skipped = [] })) (codes "first") (record { plain = []; keyed = [] }) ≡ Err WrongKind
+unfolding method_called uncomputed_method method_on_cells move_or_reduction reduction_called reduction_named end_or_grouping end_called
+first_of_set = refl
 
 -- an unknown format is a bad argument, and it comes before a fill of another kind
 format : set_written (Set (record { axes = []; coords = []; vars = []; attrs = []; skipped = [] })) (record { plain = Text (codes "f") ∷ Text (codes "NETCDF4") ∷ Text (codes "x") ∷ []; keyed = [] }) ≡ Err BadArgument

@@ -8,14 +8,20 @@ use Rattle.xr_types.specs.declared.attr.Attr.{Attr}
 use Rattle.xr_types.specs.declared.attr.NcType.{NcType}
 use Rattle.xr_types.specs.declared.attr.NcType.TheVariants.{Byte, Char, Short, Int, Float, UByte, UInt64}
 use Rattle.xr_types.specs.declared.axis.Axis.{Axis}
-use Rattle.xr_types.specs.declared.axis.LabelList.TheVariants.{Numbers, Texts}
+use Rattle.xr_types.specs.declared.axis.LabelList.TheVariants.{Numbers, Times, Texts}
+use Rattle.xr_types.specs.declared.axis.TimeCoding.{TimeCoding}
+use Rattle.xr_types.specs.declared.axis.TimeUnit.TheVariants.{Days}
+use Rattle.xr_types.specs.declared.axis.Calendar.TheVariants.{Civil, NoLeap}
+use Rattle.xr_types.specs.declared.axis.LabelList.{LabelList}
 use Rattle.xr_types.specs.declared.kind.DType.TheVariants as kinds
 use Rattle.xr_files.specs.declared.file.CdfDim.{CdfDim}
 use Rattle.xr_files.specs.declared.file.CdfFile.{CdfFile}
 use Rattle.xr_defs.specs.declared.value.Content.TheVariants as contents
 use Rattle.xr_types.specs.Results.{unless}
 use Rattle.xr_defs.specs.Values.{Dataset}
-use Rattle.xr_defs.specs.Decoding.{set_of, is_skipped, labels_in, is_index, is_coordinate, check_count}
+use Rattle.xr_defs.specs.Decoding.{set_of, is_skipped, labels_in, is_index, is_coordinate, check_count, coding_of, times_counted, times_of}
+use Rattle.xr_times.specs.Times.{days_of_years, days_of_months}
+use Rattle.xr_times.specs.Units.{units_of, unit, behind_word, reference, date, part}
 
 abbrev dim : List ℕ → ℕ → CdfDim
 dim name len = record { name = name; len = len }
@@ -86,7 +92,7 @@ records_set =
     }
 
 records : set_of records_file true ≡ Ok records_set
-unfolding set_of check_count unless is_skipped labels_in is_index is_coordinate
+unfolding set_of check_count unless is_skipped labels_in is_index is_coordinate times_of coding_of
 records = refl
 
 -- coordinates that attributes list: one over the dimension, one a scalar text; a bare axis that only the text had is gone
@@ -146,5 +152,67 @@ wide_set =
     }
 
 wide : set_of wide_file true ≡ Ok wide_set
-unfolding set_of check_count unless is_skipped labels_in is_index is_coordinate
+unfolding set_of check_count unless is_skipped labels_in is_index is_coordinate times_of coding_of
 wide = refl
+
+-- ---- times: counts of 0 and 31 days
+
+abbrev counts : List Attr → CdfFile
+counts attrs =
+    record {
+      version = 1;
+      numrecs = 0;
+      attrs = [];
+      dims = dim (codes "time") 2 ∷ [];
+      vars = record { name = codes "time"; dims = 0 ∷ []; attrs = attrs; kind = Int; raw = 0 ∷ 0 ∷ 0 ∷ 0 ∷ 0 ∷ 0 ∷ 0 ∷ 31 ∷ [] } ∷ [];
+    }
+
+abbrev indexed : LabelList → List Attr → Dataset
+indexed list attrs =
+    record { axes = record { name = codes "time"; size = 2; labels = Some (record { list = list; attrs = attrs }) } ∷ []; coords = []; vars = []; attrs = []; skipped = [] }
+
+abbrev units : List ℕ → Attr
+units text = attr (codes "units") Char text
+
+abbrev calendar : List ℕ → Attr
+calendar text = attr (codes "calendar") Char text
+
+abbrev long_name : Attr
+long_name = attr (codes "long_name") Char (codes "t")
+
+-- from 1900-01-01: without a calendar it is `standard`
+abbrev since_1900 : TimeCoding
+since_1900 = record { units = record { unit = Days; reference = negsuc 2208988799; calendar = Civil; early = false }; units_text = codes "days since 1900-01-01"; calendar_text = None }
+
+civil_times : set_of (counts (units (codes "days since 1900-01-01") ∷ long_name ∷ [])) false ≡ Ok (indexed (Times since_1900 (negsuc 2208988799 ∷ negsuc 2206310399 ∷ [])) (long_name ∷ []))
+unfolding set_of check_count unless is_skipped labels_in is_index is_coordinate coding_of times_counted times_of units_of unit behind_word reference date part days_of_years days_of_months
+civil_times = refl
+
+-- from 1970-01-01 of the calendar that has no leap years
+abbrev since_noleap : TimeCoding
+since_noleap = record { units = record { unit = Days; reference = pos 0; calendar = NoLeap; early = true }; units_text = codes "days since 1970-01-01"; calendar_text = Some (codes "noleap") }
+
+noleap_times : set_of (counts (calendar (codes "noleap") ∷ long_name ∷ units (codes "days since 1970-01-01") ∷ [])) false ≡ Ok (indexed (Times since_noleap (pos 0 ∷ pos 2678400 ∷ [])) (long_name ∷ []))
+unfolding set_of check_count unless is_skipped labels_in is_index is_coordinate coding_of times_counted times_of units_of unit behind_word reference date part days_of_years days_of_months
+noleap_times = refl
+
+abbrev whole_numbers : LabelList
+whole_numbers = Numbers kinds.Int32 (pos 0 ∷ pos 31 ∷ [])
+
+-- an unknown calendar, one that isn't named by a text, and units of another kind: whole numbers, with all attributes
+julian : set_of (counts (units (codes "days since 1970-01-01") ∷ calendar (codes "julian") ∷ [])) false ≡ Ok (indexed whole_numbers (units (codes "days since 1970-01-01") ∷ calendar (codes "julian") ∷ []))
+unfolding set_of check_count unless is_skipped labels_in is_index is_coordinate coding_of times_counted times_of units_of unit behind_word
+julian = refl
+
+number_calendar : set_of (counts (units (codes "days since 1970-01-01") ∷ attr (codes "calendar") Byte (1 ∷ []) ∷ [])) false ≡ Ok (indexed whole_numbers (units (codes "days since 1970-01-01") ∷ attr (codes "calendar") Byte (1 ∷ []) ∷ []))
+unfolding set_of check_count unless is_skipped labels_in is_index is_coordinate coding_of times_of
+number_calendar = refl
+
+metres : set_of (counts (units (codes "m") ∷ [])) false ≡ Ok (indexed whole_numbers (units (codes "m") ∷ []))
+unfolding set_of check_count unless is_skipped labels_in is_index is_coordinate coding_of times_of units_of unit
+metres = refl
+
+-- the day after 9999-12-01 by 31 days isn't one of the years that are decoded: then none is
+past_years : set_of (counts (units (codes "days since 9999-12-01") ∷ [])) false ≡ Ok (indexed whole_numbers (units (codes "days since 9999-12-01") ∷ []))
+unfolding set_of check_count unless is_skipped labels_in is_index is_coordinate coding_of times_counted times_of units_of unit behind_word reference date part days_of_years days_of_months
+past_years = refl

@@ -9,7 +9,10 @@ use Rattle.xr_types.specs.declared.attr.Attr.{Attr}
 use Rattle.xr_types.specs.declared.attr.NcType.{NcType}
 use Rattle.xr_types.specs.declared.attr.NcType.TheVariants.{Byte, Char, Short, Int, UByte, UInt, Int64}
 use Rattle.xr_types.specs.declared.axis.Axis.{Axis}
-use Rattle.xr_types.specs.declared.axis.LabelList.TheVariants.{Texts}
+use Rattle.xr_types.specs.declared.axis.LabelList.TheVariants.{Texts, Times}
+use Rattle.xr_types.specs.declared.axis.TimeCoding.{TimeCoding}
+use Rattle.xr_types.specs.declared.axis.TimeUnit.TheVariants.{Days, Hours}
+use Rattle.xr_types.specs.declared.axis.Calendar.TheVariants.{NoLeap}
 use Rattle.xr_types.specs.declared.kind.DType.{DType}
 use Rattle.xr_types.specs.declared.kind.DType.TheVariants as kinds
 use Rattle.xr_files.specs.declared.file.CdfFile.{CdfFile}
@@ -19,7 +22,8 @@ use Rattle.xr_types.specs.Results.{unless}
 use Rattle.xr_files.specs.Canonical.{canonical}
 use Rattle.xr_defs.specs.Values.{Dataset, Variable}
 use Rattle.xr_defs.specs.Decoding.{set_of, is_skipped, labels_in, is_index, is_coordinate, check_count}
-use Rattle.xr_defs.specs.Encoding.{file_of, check_unlimited, check_names, check_records, check_fill, check_fit, check_cells}
+use Rattle.xr_defs.specs.Encoding.{file_of, check_unlimited, check_names, check_records, check_fill, check_fit, check_cells, encoded, reference_text, units_written}
+use Rattle.xr_times.specs.Units.{behind_word}
 use Rattle.xr_defs.specs.Printing.{set_text}
 
 abbrev plainly : WriteOptions
@@ -211,3 +215,32 @@ types_printed : set_text (record (one_number kinds.UInt64 (pos 0)) { attrs = cou
     ≡ codes "Dataset\nvar v uint64 ()\nattr n uint: 7\nattr b ubyte: 200 7\nattr l int64: -1\n"
 unfolding digits
 types_printed = refl
+
+-- ---- times: counts from a reference whose text stays, in days, or in hours where one of them isn't a whole day
+
+abbrev since_1970 : TimeCoding
+since_1970 = record { units = record { unit = Days; reference = pos 0; calendar = NoLeap; early = true }; units_text = codes "day  since 1970-1-1"; calendar_text = Some (codes "365_day") }
+
+abbrev timed : List ℤ → Dataset
+timed ts = record { axes = record { name = codes "time"; size = 2; labels = Some (record { list = Times since_1970 ts; attrs = [] }) } ∷ []; coords = []; vars = []; attrs = []; skipped = [] }
+
+abbrev text_attr : List ℕ → List ℕ → Attr
+text_attr name text = record { name = name; kind = Char; raw = text }
+
+abbrev times_file : List ℕ → List ℕ → CdfFile
+times_file units raw =
+    record {
+      version = 1;
+      numrecs = 0;
+      attrs = [];
+      dims = record { name = codes "time"; len = 2 } ∷ [];
+      vars = record { name = codes "time"; dims = 0 ∷ []; attrs = text_attr (codes "units") units ∷ text_attr (codes "calendar") (codes "365_day") ∷ []; kind = Int; raw = raw } ∷ [];
+    }
+
+whole_days : file_of (timed (pos 0 ∷ negsuc 86399 ∷ [])) plainly ≡ Ok (times_file (codes "day  since 1970-1-1") (0 ∷ 0 ∷ 0 ∷ 0 ∷ 255 ∷ 255 ∷ 255 ∷ 255 ∷ []))
+unfolding file_of check_unlimited check_names check_records check_fill check_fit check_cells unless digits units_written
+whole_days = refl
+
+a_noon : file_of (timed (pos 0 ∷ pos 43200 ∷ [])) plainly ≡ Ok (times_file (codes "hours since 1970-1-1") (0 ∷ 0 ∷ 0 ∷ 0 ∷ 0 ∷ 0 ∷ 0 ∷ 12 ∷ []))
+unfolding file_of check_unlimited check_names check_records check_fill check_fit check_cells unless digits units_written reference_text behind_word
+a_noon = refl

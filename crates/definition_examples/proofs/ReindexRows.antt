@@ -3,7 +3,7 @@ use Rattle.std.proofs.Common.{◌≡◌, ℕ, ℤ, pos, negsuc, true, false, Lis
 use Rattle.std.specs.Prelude.{codes}
 use Rattle.xr_types.specs.Results.{unless}
 use Rattle.xr_types.specs.declared.axis.Axis.{Axis}
-use Rattle.xr_types.specs.declared.axis.Calendar.TheVariants.{Civil}
+use Rattle.xr_types.specs.declared.axis.Calendar.TheVariants.{Civil, NoLeap}
 use Rattle.xr_types.specs.declared.axis.LabelList.{LabelList}
 use Rattle.xr_types.specs.declared.axis.LabelList.TheVariants.{Numbers, Texts}
 use Rattle.xr_types.specs.declared.axis.TimeUnit.TheVariants.{Days}
@@ -11,8 +11,8 @@ use Rattle.xr_types.specs.declared.fault.Fault.{Fault}
 use Rattle.xr_types.specs.declared.fault.Fault.TheVariants.{BadArgument, DoesNotFit, LabelKind, NoDimension, NotMonotonic, NotUnique, OutOfRange, WouldPromote, WrongKind}
 use Rattle.xr_types.specs.declared.kind.DType.{DType}
 use Rattle.xr_types.specs.declared.kind.DType.TheVariants as kinds
-use Rattle.xr_arrays.specs.Times.{days_of_months, days_of_years}
-use Rattle.xr_arrays.specs.Units.{behind_word, date, marked_time, part, reference, second, time_of_day, unit, units_of}
+use Rattle.xr_times.specs.Times.{days_of_months, days_of_years}
+use Rattle.xr_times.specs.Units.{behind_word, date, marked_time, part, reference, second, time_of_day, unit, units_of}
 use Rattle.xr_defs.specs.Arguments.{as_text, check_dimension}
 use Rattle.xr_defs.specs.Building.{bound}
 use Rattle.xr_defs.specs.Meanings.{Value, Given, Missing, NoValue, Number, Sequence, Text, Truth, With}
@@ -158,6 +158,12 @@ other_units = refl
 other_calendar : counted (codes "days since 2000-01-01") (two 0 31) (calendar (codes "julian")) ≡ Err BadArgument
 unfolding times_given times_by bound as_text counts_given as_numbers as_number calendar_given calendar_called unless
 other_calendar = refl
+
+-- the 60th day of the year is 1 March
+days_noleap : counted (codes "days since 1970-01-01") (two 58 59) (calendar (codes "noleap"))
+    ≡ Ok (of.Times (record { units = record { unit = Days; reference = pos 0; calendar = NoLeap; early = true }; units_text = codes "days since 1970-01-01"; calendar_text = Some (codes "noleap") }) (pos 5011200 ∷ pos 5097600 ∷ []))
+unfolding times_given times_by bound as_text counts_given as_numbers as_number calendar_given calendar_called units_given units_of unit behind_word reference date part days_of_years days_of_months times_at time_at unless
+days_noleap = refl
 
 too_early : counted (codes "days since 1582-10-15") (one (Number (negsuc 0))) (calendar (codes "standard")) ≡ Err OutOfRange
 unfolding times_given times_by bound as_text counts_given as_numbers as_number calendar_given calendar_called units_given units_of unit behind_word reference date part days_of_years days_of_months times_at time_at unless

@@ -11,7 +11,7 @@ use Rattle.xr_types.specs.declared.axis.TimeUnit.TheVariants.{Days}
 use Rattle.xr_types.specs.declared.fault.Fault.{Fault}
 use Rattle.xr_types.specs.declared.fault.Fault.TheVariants.{BadArgument, LabelKind, NoDimension, NoSuchLabel, NotMonotonic, NotUnique, OutOfRange, WrongKind}
 use Rattle.xr_types.specs.declared.kind.DType.TheVariants as kinds
-use Rattle.xr_arrays.specs.Times.{days_of_months, days_of_years, has_clock}
+use Rattle.xr_times.specs.Times.{days_of_months, days_of_years, has_clock}
 use Rattle.xr_defs.specs.Arguments.{as_position, as_positions, as_text, check_dimension}
 use Rattle.xr_defs.specs.Meanings.{Value, Given, NoValue, Number, Sequence, Slice, Text, Truth, With}
 use Rattle.xr_defs.specs.Selecting.{array_each_selected, array_selected, as_number, as_selector, check_array, check_selector, check_set, choice_of, isel_array, isel_set, position_in, set_each_selected, set_selected}

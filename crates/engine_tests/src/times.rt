@@ -1,11 +1,12 @@
 ghost use Rattle.std.specs.Prelude.{All};
-ghost use Rattle.xr_arrays.specs.Times.{IsTime};
-ghost use Rattle.xr_arrays.specs.Bins.{IsFreq};
+ghost use Rattle.xr_types.specs.declared.axis.Calendar.TheVariants.{Civil};
+ghost use Rattle.xr_times.specs.Times.{IsTime};
+ghost use Rattle.xr_times.specs.Bins.{IsFreq};
 
 use cf_time::{bins, count, decode, field, fields, read_date, read_units, text, written_unit};
 use std::alloc::Global;
 use std::process::Abort;
-use xr_arrays::{Field, Freq};
+use xr_times::{Field, Freq};
 use xr_types::{Calendar, CallFault, TimeUnit, Units};
 
 // The times and what they show are those of Python:
@@ -15,11 +16,20 @@ use xr_types::{Calendar, CallFault, TimeUnit, Units};
 //         print(s.days * 86400 + s.seconds, t.isoformat(), t.timetuple().tm_yday, t.weekday())
 
 fn shown(rt: &impl Abort, time: i64, iso: &str, day_of_year: i64, weekday: i64)
-    requires { IsTime time }
+    requires { IsTime Civil time }
 {
-    assert!(rt; text(time).as_slice() == iso.as_bytes(), "{iso}");
-    assert!(rt; field(time, Field::DayOfYear) == day_of_year, "{iso}");
-    assert!(rt; field(time, Field::DayOfWeek) == weekday, "{iso}");
+    assert!(rt;
+        text(time, Calendar::Civil).as_slice() == iso.as_bytes(),
+        "{iso}"
+    );
+    assert!(rt;
+        field(time, Field::DayOfYear, Calendar::Civil) == day_of_year,
+        "{iso}"
+    );
+    assert!(rt;
+        field(time, Field::DayOfWeek, Calendar::Civil) == weekday,
+        "{iso}"
+    );
 }
 
 #[test]
@@ -43,7 +53,7 @@ fn ends_of_years(rt: HostRuntime) {
 // Periods by Python's calendar and datetime: (datetime(y, 2, 1) - datetime(1970, 1, 1)).total_seconds(), and the
 // same of datetime(y, 2, calendar.monthrange(y, 2)[1], 23, 59, 59).
 fn read(rt: &impl Abort, date: &str, first: i64, last: i64) {
-    match read_date(date.as_bytes()) {
+    match read_date(date.as_bytes(), Calendar::Civil) {
         Some(period) => assert!(rt; period.first == first && period.last == last, "{date}"),
         None => assert!(rt; first > last, "{date}"),
     }
@@ -210,24 +220,24 @@ fn units(rt: HostRuntime) {
     }
 }
 
-// These cftime takes and this crate doesn't: blanks in front, a fraction of a second, a time zone, a calendar
-// that isn't civil, and `standard` before 1582-10-15.
+// These cftime takes and this crate doesn't: blanks in front, a fraction of a second, a time zone, the calendar
+// `julian`, and `standard` before 1582-10-15.
 #[test]
 fn units_of_no_use(rt: HostRuntime) {
     refused(&rt, " days since 2000-01-01", "standard");
     refused(&rt, "seconds since 2000-01-01 6:30:15.5", "standard");
     refused(&rt, "seconds since 2000-01-01 6:30:15.", "standard");
     refused(&rt, "days since 2000-01-01 00:00:00 +1:00", "standard");
-    refused(&rt, "days since 2000-01-01", "360_day");
+    refused(&rt, "days since 2000-01-01", "julian");
     refused(&rt, "days since 0001-01-01", "standard");
     assert!(rt; read_units(b"days since 2000-01-01", None).is_some());
 }
 
 fn binned(rt: &impl Abort, alloc: Global, labels: &[i64], freq: Freq, starts: &[i64], bin: &[u32])
-    requires times { All IsTime labels.now }
+    requires times { All (IsTime Civil) labels.now }
     requires freq { IsFreq freq }
 {
-    match bins(alloc, labels, freq) {
+    match bins(alloc, labels, freq, Calendar::Civil) {
         Ok(list) => {
             assert!(rt; list.starts.as_slice() == starts);
             assert!(rt; list.bin.as_slice() == bin);
@@ -302,10 +312,10 @@ fn number_of(fault: CallFault) -> u32 {
 }
 
 fn unbinned(rt: &impl Abort, alloc: Global, labels: &[i64], freq: Freq, number: u32)
-    requires times { All IsTime labels.now }
+    requires times { All (IsTime Civil) labels.now }
     requires freq { IsFreq freq }
 {
-    match bins(alloc, labels, freq) {
+    match bins(alloc, labels, freq, Calendar::Civil) {
         Ok(_) => assert!(rt; false),
         Err(fault) => assert!(rt; number_of(fault) == number),
     }
@@ -351,13 +361,13 @@ fn counts_to_write(rt: HostRuntime) {
 }
 
 fn leap_days() -> [i64; 2]
-    ensures { All IsTime result }
+    ensures { All (IsTime Civil) result }
 {
     [951_805_815, 951_868_800]
 }
 
 fn fields_are(rt: &impl Abort, alloc: Global, field: Field, wanted: [i64; 2]) {
-    match fields(alloc, &leap_days(), field) {
+    match fields(alloc, &leap_days(), field, Calendar::Civil) {
         Ok(values) => assert!(rt; values.as_slice() == wanted.as_slice()),
         Err(_) => assert!(rt; false),
     }

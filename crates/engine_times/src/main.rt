@@ -12,7 +12,7 @@ use std::alloc::Global;
 use std::env;
 use std::rt::Clock;
 use std::time::Instant;
-use xr_arrays::{Field, Freq};
+use xr_times::{Field, Freq};
 /// What is timed.
 pub trait Job {
     /// Does the work once, and answers a number that depends on all of it.

@@ -156,7 +156,7 @@ same_sizes axes own [] all = refl
 same_sizes axes own (d ∷ ds) all = (λ i. all.0.1 i ∷ same_sizes axes own ds all.1 i)
 
 module _ (old new : List Node) (grows : Grows old new) where
-  still : (v : Variable) (s : List ℕ) → IsNodeOf old v.node s v.kind → IsNodeOf new v.node s v.kind
+  pub still : (v : Variable) (s : List ℕ) → IsNodeOf old v.node s v.kind → IsNodeOf new v.node s v.kind
   still v s is =
       let same = grown_value old new v.node grows is.placed in
       record {
@@ -165,7 +165,7 @@ module _ (old new : List Node) (grows : Grows old new) where
         has_kind = ap (λ (a : Array). a.kind) same ∙ is.has_kind;
       }
 
-  same_variable : (v : Variable) (s : List ℕ) → IsNodeOf old v.node s v.kind → variable_in new v ≡ variable_in old v
+  pub same_variable : (v : Variable) (s : List ℕ) → IsNodeOf old v.node s v.kind → variable_in new v ≡ variable_in old v
   same_variable v s is = ap (λ (a : Array). record { name = v.name; dims = v.dims; kind = v.kind; masked = v.masked; attrs = v.attrs; cells = a.cells }) (grown_value old new v.node grows is.placed)
 
   -- as it has to be over axes in which its dimensions keep their sizes
@@ -314,7 +314,7 @@ coords_apart : (axes : List Axis) (coords : List Coord) (vs : List Variable) →
 coords_apart axes coords [] all = tt
 coords_apart axes coords (v ∷ vs) all = (sym (coord_among coords v.name) ∙ all.0.1, coords_apart axes coords vs all.1)
 
-var_names : (nodes : List Node) (vs : List Variable) → variable_names (map (variable_in nodes) vs) ≡ variables.names_of vs
+pub var_names : (nodes : List Node) (vs : List Variable) → variable_names (map (variable_in nodes) vs) ≡ variables.names_of vs
 var_names nodes [] = refl
 var_names nodes (v ∷ vs) = ap (λ ns. v.name ∷ ns) (var_names nodes vs)
 

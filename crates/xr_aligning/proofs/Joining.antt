@@ -24,7 +24,9 @@ use Rattle.xr_types.specs.declared.kind.DType.{DType}
 use Rattle.xr_types.specs.declared.operation.How.{How}
 use Rattle.xr_types.specs.declared.operation.How.TheVariants as how
 use Rattle.xr_arrays.specs.Labels.{labels_of, order, repeats}
-use Rattle.xr_arrays.specs.Times.{IsTime}
+use Rattle.xr_types.specs.declared.axis.Calendar.{Calendar}
+use Rattle.xr_types.specs.declared.axis.Calendar.TheVariants as calendars
+use Rattle.xr_times.specs.Times.{IsTime, same_calendar}
 use Rattle.xr_defs.specs.Building.{is_integer_kind, same_labels}
 use Rattle.xr_defs.specs.WellFormed.{AreAttributes, AreLabels, IsDimension, IsIndex}
 use Rattle.xr_operations.specs.Alignment.{aligned, all_names, all_of_lists, are_kin, ascending, axes_named, axis_of, common_kind, has_all, has_size, holds_label, indexes, is_empty, is_exact, join, joined_by, joined_each, joined_index, joined_labels, joined_or_own, labelled_axis, last_of, listed, names_once, number_kind, number_of, outer_of, relisted}
@@ -100,7 +102,7 @@ module _ (P : Label → Type 0) where
 -- a label that a list of the sort of this one can hold
 abbrev Suits : DType → LabelList → Label → Type 0
 Suits t (Numbers kind ns) l = InRange t (number_of l)
-Suits t (Times coding ts) l = IsTime (number_of l)
+Suits t (Times coding ts) l = IsTime coding.units.calendar (number_of l)
 Suits t (Texts ts) l = ⊤
 
 -- whole numbers of a list are of the kind
@@ -116,12 +118,24 @@ texts_in : (P : Label → Type 0) (ts : List (List ℕ)) → ((t : List ℕ) →
 texts_in P [] each = tt
 texts_in P (t ∷ ts) each = (each t, texts_in P ts each)
 
+same_calendars : (a b : Calendar) → same_calendar a b ≡ true → a ≡ b
+same_calendars calendars.Civil calendars.Civil is = refl
+same_calendars calendars.Civil calendars.NoLeap is = absurd cc
+same_calendars calendars.Civil calendars.Days360 is = absurd cc
+same_calendars calendars.NoLeap calendars.Civil is = absurd cc
+same_calendars calendars.NoLeap calendars.NoLeap is = refl
+same_calendars calendars.NoLeap calendars.Days360 is = absurd cc
+same_calendars calendars.Days360 calendars.Civil is = absurd cc
+same_calendars calendars.Days360 calendars.NoLeap is = absurd cc
+same_calendars calendars.Days360 calendars.Days360 is = refl
+
 suit : (t : DType) (first list : LabelList) → are_kin first list ≡ true → AreLabels list → IsUp t list → AllByRecursion (Suits t first) (labels_of list)
 suit t (Numbers k ns) (Numbers u ms) kin are up = numbers_in (Suits t (Numbers k ns)) (InRange u) Int ms up are.1
 suit t (Numbers k ns) (Times c ts) kin are up = absurd cc
 suit t (Numbers k ns) (Texts ts) kin are up = absurd cc
 suit t (Times d us) (Numbers u ms) kin are up = absurd cc
-suit t (Times d us) (Times c ts) kin are up = numbers_in (Suits t (Times d us)) IsTime Time ts (λ n is. is) are
+suit t (Times d us) (Times c ts) kin are up =
+    numbers_in (Suits t (Times d us)) (IsTime c.units.calendar) Time ts (λ n is. subst (λ k. IsTime k n) (sym (same_calendars d.units.calendar c.units.calendar kin)) is) are
 suit t (Times d us) (Texts ts) kin are up = absurd cc
 suit t (Texts us) (Numbers u ms) kin are up = absurd cc
 suit t (Texts us) (Times c ts) kin are up = absurd cc
@@ -129,7 +143,7 @@ suit t (Texts us) (Texts ts) kin are up = texts_in (Suits t (Texts us)) ts (λ s
 
 suit_own : (t : DType) (list : LabelList) → AreLabels list → IsUp t list → AllByRecursion (Suits t list) (labels_of list)
 suit_own t (Numbers k ns) are up = numbers_in (Suits t (Numbers k ns)) (InRange k) Int ns up are.1
-suit_own t (Times d us) are up = numbers_in (Suits t (Times d us)) IsTime Time us (λ n is. is) are
+suit_own t (Times d us) are up = numbers_in (Suits t (Times d us)) (IsTime d.units.calendar) Time us (λ n is. is) are
 suit_own t (Texts us) are up = texts_in (Suits t (Texts us)) us (λ s. tt)
 
 suit_each : (t : DType) (first : LabelList) (lists : List LabelList) → list_all (are_kin first) lists ≡ true → AllByRecursion AreLabels lists → AllByRecursion (IsUp t) lists
@@ -170,7 +184,7 @@ others_up t first (Texts ts ∷ lists) never kin = (tt, others_up t first lists 
 
 relisted_formed : (t : DType) (list : LabelList) (labels : List Label) → (is_integer_kind t ≡ true) → AllByRecursion (Suits t list) labels → AreLabels (relisted t list labels)
 relisted_formed t (Numbers k ns) labels whole all = (whole, All-from_recursion (InRange t) (map number_of labels) (each_map (Suits t (Numbers k ns)) (InRange t) number_of labels (λ l is. is) all))
-relisted_formed t (Times d us) labels whole all = All-from_recursion IsTime (map number_of labels) (each_map (Suits t (Times d us)) IsTime number_of labels (λ l is. is) all)
+relisted_formed t (Times d us) labels whole all = All-from_recursion (IsTime d.units.calendar) (map number_of labels) (each_map (Suits t (Times d us)) (IsTime d.units.calendar) number_of labels (λ l is. is) all)
 relisted_formed t (Texts us) labels whole all = tt
 
 -- ---- the index
@@ -191,7 +205,7 @@ index_labels j t (Numbers k ns) lists labels own all kin common is =
 index_labels j t (Times d us) lists labels own all kin common is =
     let first : LabelList = Times d us in
     let up = others_up t first lists (λ u ms. refl) kin in
-    All-from_recursion IsTime (map number_of labels) (each_map (Suits t first) IsTime number_of labels (λ l here. here) (of_lists (Suits t first) j (labels_of first) labels (map labels_of lists) is (suit_own t first own tt) (suit_each t first lists kin all up)))
+    All-from_recursion (IsTime d.units.calendar) (map number_of labels) (each_map (Suits t first) (IsTime d.units.calendar) number_of labels (λ l here. here) (of_lists (Suits t first) j (labels_of first) labels (map labels_of lists) is (suit_own t first own tt) (suit_each t first lists kin all up)))
 index_labels j t (Texts us) lists labels own all kin common is = tt
 
 index_formed : (j : How) (l m : Labels) (ls : List Labels) → joined_index j l ls ≡ Ok m → IsFormed l → AllByRecursion IsFormed ls → IsFormed m
@@ -305,3 +319,7 @@ module _ (j : How) (filled : Bool) (lists : List (List Axis)) (dims : AllByRecur
   are_loose axes is =
       let all = each_joined (names_once (all_names lists)) axes (stand (names_once (all_names lists)) (λ n e. sym (once_among [] (all_names lists) n) ∙ e)) is in
       record { each = all.each; distinct = ap are_distinct all.called ∙ once_distinct [] (all_names lists) refl }
+
+  pub names_are : (axes : List Axis) → aligned j filled lists ≡ Ok axes → axis_names axes ≡ names_once (all_names lists)
+  unfolding aligned
+  names_are axes is = (each_joined (names_once (all_names lists)) axes (stand (names_once (all_names lists)) (λ n e. sym (once_among [] (all_names lists) n) ∙ e)) is).called

@@ -9,3 +9,11 @@ mod ArraysAfter
 mod Limited
 mod Assigning
 mod Checked
+mod Firsts
+mod SetsAfter
+mod Kept
+mod Given
+mod Holes
+mod Sized
+mod Placing
+mod Answering

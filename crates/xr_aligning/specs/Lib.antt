@@ -4,3 +4,6 @@ pub mod Fitted
 pub mod Joined
 pub mod Limits
 pub mod Assigned
+pub mod Coming
+pub mod Sets
+pub mod Aligned

@@ -13,7 +13,8 @@ use std::alloc::Global;
 use xr_types::{Axis, DeepCopy, NoMemory};
 use xr_values::DataArray;
 
-fn array_by(
+/// The same, once it is known how its axes come to the joined ones.
+pub fn array_by(
     alloc: Global,
     plan: &mut Plan,
     change: &Change<'_>,

@@ -62,7 +62,8 @@ fn has_coord(coords: &[Coord], name: &TextBytes) -> bool
     }
 }
 
-fn has_index(axes: &[Axis], name: &TextBytes) -> bool
+/// Whether the axis of a name has labels.
+pub fn has_index(axes: &[Axis], name: &TextBytes) -> bool
     ensures { result ≡ calls.has_index axes.now name.now }
 {
     match axes {

@@ -266,7 +266,8 @@ pub fn any_hole(fits: &[&Fit]) -> bool
 
 // ---- sizes
 
-fn are_short(fits: &[&Fit]) -> bool
+/// Whether no joined axis has more positions than it may have.
+pub fn are_short(fits: &[&Fit]) -> bool
     ensures { result ≡ list_all (λ n. nat_le n most_cells) (sizes (map (λ f. f.now) fits.now)) }
 {
     match fits {

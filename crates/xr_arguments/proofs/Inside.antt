@@ -6,7 +6,7 @@ use Rattle.xr_types.specs.declared.text.TextBytes.{TextBytes}
 use Rattle.xr_types.specs.declared.axis.TimeCoding.{TimeCoding}
 use Rattle.xr_defs.specs.declared.grouping.Grouping.{Grouping}
 use Rattle.xr_defs.specs.declared.slice.Part.{Part}
-use Rattle.xr_arrays.specs.Times.{IsTime}
+use Rattle.xr_times.specs.Times.{IsTime}
 use Rattle.xr_arrays.specs.declared.node.Node.{Node}
 use Rattle.xr_values.specs.declared.data_array.DataArray.{DataArray}
 use Rattle.xr_values.specs.declared.dataset.Dataset.{Dataset}
@@ -51,11 +51,11 @@ pub slice_inside : (nodes : List Node) (v : Value) (start stop : Part) (step : O
 unfolding roll-Value denote.Hole.Carrier.roll
 slice_inside nodes v start stop step is = of_layer nodes v (held.Slice start stop step) is tt
 
-pub times_inside : (nodes : List Node) (v : Value) (coding : TimeCoding) (ts : List ℤ) → v ≡ variants.Times coding ts → All IsTime ts → IsValueIn nodes v
+pub times_inside : (nodes : List Node) (v : Value) (coding : TimeCoding) (ts : List ℤ) → v ≡ variants.Times coding ts → All (IsTime coding.units.calendar) ts → IsValueIn nodes v
 unfolding roll-Value denote.Hole.Carrier.roll
 times_inside nodes v coding ts is inside = of_layer nodes v (held.Times coding ts) is inside
 
-pub inside_times : (nodes : List Node) (v : Value) (coding : TimeCoding) (ts : List ℤ) → v ≡ variants.Times coding ts → IsValueIn nodes v → All IsTime ts
+pub inside_times : (nodes : List Node) (v : Value) (coding : TimeCoding) (ts : List ℤ) → v ≡ variants.Times coding ts → IsValueIn nodes v → All (IsTime coding.units.calendar) ts
 unfolding roll-Value denote.Hole.Carrier.roll
 inside_times nodes v coding ts is inside = by_layer nodes v (held.Times coding ts) is inside
 

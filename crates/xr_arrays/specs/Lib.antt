@@ -3,12 +3,8 @@ pub mod Numbers
 pub mod Stored
 pub mod Forms
 pub mod Labels
-pub mod Times
 pub mod Folds
 pub mod FeedPositions
 pub mod Elements
 pub mod Nodes
 pub mod Added
-pub mod Units
-pub mod Counts
-pub mod Bins

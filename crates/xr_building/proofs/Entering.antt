@@ -1,6 +1,6 @@
 -- Entries that are put in their places, as the definitions say: labels past 64 bits, which leave their axis bare for the time being, tell
 -- no other fault.
-use Rattle.std.proofs.Common.{◌≡◌, ◌==◌, ◌||◌, ℕ, Bool, true, false, not, List, [], ◌∷◌, map, get_or, Option, Some, None, Result, Ok, Err, refl, sym, ap, ◌∙◌}
+use Rattle.std.proofs.Common.{◌≡◌, ◌==◌, ◌&&◌, ◌||◌, ℕ, Bool, true, false, not, List, [], ◌∷◌, map, get_or, Option, Some, None, Result, Ok, Err, refl, sym, ap, ◌∙◌}
 use Rattle.std.specs.Prelude.{if◌then◌else◌, MatchOption, ⊤, is_some}
 use Rattle.std.specs.Str.{bytes_eq}
 use Rattle.std.specs.List.{list_all, AllByRecursion}
@@ -10,6 +10,7 @@ use Rattle.xr_types.specs.declared.axis.Axis.{Axis}
 use Rattle.xr_types.specs.declared.axis.Labels.{Labels}
 use Rattle.xr_types.specs.declared.axis.LabelList.{LabelList}
 use Rattle.xr_types.specs.declared.axis.LabelList.TheVariants.{Numbers}
+use Rattle.xr_types.specs.declared.axis.LabelList.TheVariants as lists
 use Rattle.xr_types.specs.declared.kind.DType.TheVariants as kinds
 use Rattle.xr_types.specs.declared.fault.Fault.{Fault}
 use Rattle.xr_types.specs.declared.fault.Fault.TheVariants.{WrongKind, DoesNotFit, SizeConflict, NotAligned, DuplicateName}
@@ -21,7 +22,7 @@ use Rattle.xr_defs.specs.Values as of
 use Rattle.xr_defs.specs.Values.{present}
 use Rattle.xr_defs.specs.Selecting.{axis_called}
 use Rattle.xr_defs.specs.Meanings.{Value, Values, Absent, Missing, Truth, Number, Text, Sequence, Table, Slice, Array, Set, Times, GroupedArray, GroupedSet}
-use Rattle.xr_defs.specs.Building.{Frame, all_values, as_labels, check_axis, check_entry, check_labels, check_coordinate, check_numbers, coordinate_given, is_dimension, is_integer_kind, is_number, is_text, label_total, labels_given, numbers_in, same_labels, with_coord, with_coordinate, with_entry, with_labels}
+use Rattle.xr_defs.specs.Building.{Frame, all_values, as_labels, check_axis, check_entry, check_labels, check_coordinate, check_numbers, coordinate_given, is_dimension, is_integer_kind, is_number, is_text, label_total, labels_given, numbers_in, equal_labels, have_one_calendar, same_labels, with_coord, with_coordinate, with_entry, with_labels}
 use Rattle.xr_defs.specs.Parts.{texts_in}
 use Rattle.xr_defs.specs.WellFormed.{AreLabels, IsDataArray, IsDimension, IsIndex}
 use Rattle.xr_building.specs.Frames.{with_index}
@@ -103,10 +104,25 @@ called_shown axes n = by (of.axis_position n axes) refl
 -- ---- the same checks over them
 
 abbrev labels_same : Option Labels → Option Labels → Bool
-labels_same o p = elim o as (λ o. Bool) [ None ↦ true | Some l ↦ elim p as (λ p. Bool) [ None ↦ false | Some m ↦ same_labels (labels_of l.list) (labels_of m.list) ] ]
+labels_same o p = elim o as (λ o. Bool) [ None ↦ true | Some l ↦ elim p as (λ p. Bool) [ None ↦ false | Some m ↦ equal_labels l.list m.list ] ]
 
 abbrev ListFits : Option Labels → Type 0
 ListFits o = MatchOption o ⊤ (λ (l : Labels). fit_list l.list ≡ true)
+
+calendar_held : (l m : LabelList) → have_one_calendar l (held_list m) ≡ have_one_calendar l m
+calendar_held (lists.Numbers k ns) (lists.Numbers j ms) = refl
+calendar_held (lists.Numbers k ns) (lists.Times c ts) = refl
+calendar_held (lists.Numbers k ns) (lists.Texts ts) = refl
+calendar_held (lists.Times d us) (lists.Numbers j ms) = refl
+calendar_held (lists.Times d us) (lists.Times c ts) = refl
+calendar_held (lists.Times d us) (lists.Texts ts) = refl
+calendar_held (lists.Texts us) (lists.Numbers j ms) = refl
+calendar_held (lists.Texts us) (lists.Times c ts) = refl
+calendar_held (lists.Texts us) (lists.Texts ts) = refl
+
+and_false : (b : Bool) → (b && false) ≡ false
+and_false true = refl
+and_false false = refl
 
 same_shown : (o p : Option Labels) → ListFits o → labels_same o (fitting p) ≡ labels_same o p
 same_shown None p fit = refl
@@ -114,8 +130,8 @@ same_shown (Some l) None fit = refl
 same_shown (Some l) (Some m) fit = by (fit_list m.list) refl
   where
     by : (b : Bool) → fit_list m.list ≡ b → labels_same (Some l) (if b then Some (held_labels m) else None) ≡ labels_same (Some l) (Some m)
-    by true is = ap (same_labels (labels_of l.list)) (labels_held m.list)
-    by false is = sym (unfit_differs l.list m.list fit is)
+    by true is = ap (λ b. b && same_labels (labels_of l.list) (labels_of (held_list m.list))) (calendar_held l.list m.list) ∙ ap (λ ls. have_one_calendar l.list m.list && same_labels (labels_of l.list) ls) (labels_held m.list)
+    by false is = sym (ap (λ b. have_one_calendar l.list m.list && b) (unfit_differs l.list m.list fit is) ∙ and_false (have_one_calendar l.list m.list))
 
 index_fits : (n : ℕ) (o : Option Labels) → MatchOption o ⊤ (IsIndex n) → ListFits o
 index_fits n None is = tt

@@ -28,7 +28,7 @@ use Rattle.xr_types.specs.Names.{axis_names, shape_over}
 use Rattle.xr_defs.specs.Values.{axis_position, no_axis, present}
 use Rattle.xr_defs.specs.Selecting.{axis_called}
 use Rattle.xr_defs.specs.Meanings.{Value, NoValue, Absent, Missing, Truth, Number, Text, Sequence, Table, Slice, Array, Set, Times, GroupedArray, GroupedSet}
-use Rattle.xr_defs.specs.Building.{all_values, as_labels, check_axis, check_labels, check_numbers, is_along, is_dimension, is_integer_kind, is_number, is_text, label_total, labels_given, numbers_in, same_labels}
+use Rattle.xr_defs.specs.Building.{all_values, as_labels, check_axis, check_labels, check_numbers, is_along, is_dimension, is_integer_kind, is_number, is_text, label_total, labels_given, numbers_in, equal_labels}
 use Rattle.xr_defs.specs.Parts.{texts_in}
 use Rattle.xr_values.specs.declared.value.Value.{Value as Held}
 use Rattle.xr_values.specs.Meaning.{meaning, values}
@@ -44,10 +44,10 @@ use Rattle.xr_building.proofs.Lists.{label_result, nums, numbers_listed, texts_f
 
 -- ---- an axis by its place
 
-axis_checked : (x y : Axis) → (unless (x.size == y.size) SizeConflict >>= λ u. unless (elim x.labels as (λ o. Bool) [ None ↦ true | Some l ↦ elim y.labels as (λ o. Bool) [ None ↦ false | Some m ↦ same_labels (labels_of l.list) (labels_of m.list) ] ]) NotAligned) ≡ checked_axis x y
+axis_checked : (x y : Axis) → (unless (x.size == y.size) SizeConflict >>= λ u. unless (elim x.labels as (λ o. Bool) [ None ↦ true | Some l ↦ elim y.labels as (λ o. Bool) [ None ↦ false | Some m ↦ equal_labels l.list m.list ] ]) NotAligned) ≡ checked_axis x y
 axis_checked x y = ap (λ b. unless (x.size == y.size) SizeConflict >>= λ u. unless b NotAligned) (by x.labels y.labels)
   where
-    by : (o p : Option Labels) → elim o as (λ o. Bool) [ None ↦ true | Some l ↦ elim p as (λ o. Bool) [ None ↦ false | Some m ↦ same_labels (labels_of l.list) (labels_of m.list) ] ] ≡ are_aligned o p
+    by : (o p : Option Labels) → elim o as (λ o. Bool) [ None ↦ true | Some l ↦ elim p as (λ o. Bool) [ None ↦ false | Some m ↦ equal_labels l.list m.list ] ] ≡ are_aligned o p
     by None p = refl
     by (Some l) None = refl
     by (Some l) (Some m) = refl

@@ -240,7 +240,9 @@ given_index n name (Truth b) l whole is given = absurd cc
 given_index n name (Table es) l whole is given = absurd cc
 given_index n name (Slice a b c) l whole is given = absurd cc
 given_index n name (Set s) l whole is given = absurd cc
-given_index n name (meanings.Times coding times) l whole is given = absurd cc
+given_index n name (meanings.Times coding times) l whole is given =
+    let same : labels_as (Times coding times) [] ≡ l = cc in
+    subst (λ (m : Labels). AreAttributes m.attrs × (fit_list m.list ≡ true → AreLabels (held_list m.list))) same (no_attrs, λ fit. whole)
 given_index n name (GroupedArray a by) l whole is given = absurd cc
 given_index n name (GroupedSet s by) l whole is given = absurd cc
 

@@ -45,7 +45,7 @@ whole_layer nodes (held.Table es) is = tt
 whole_layer nodes (held.Slice start stop step) is = tt
 whole_layer nodes (held.Array a) is = is.formed
 whole_layer nodes (held.Set s) is = tt
-whole_layer nodes (held.Times coding times) is = tt
+whole_layer nodes (held.Times coding times) is = is
 whole_layer nodes (held.GroupedArray a by) is = tt
 whole_layer nodes (held.GroupedSet s by) is = tt
 

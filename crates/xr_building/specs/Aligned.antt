@@ -6,12 +6,12 @@ use Rattle.xr_types.specs.declared.fault.Fault.{Fault}
 use Rattle.xr_types.specs.declared.fault.Fault.TheVariants.{SizeConflict, NotAligned}
 use Rattle.xr_arrays.specs.Labels.{labels_of}
 use Rattle.xr_types.specs.Results.{◌>>=◌, unless}
-use Rattle.xr_defs.specs.Building.{same_labels}
+use Rattle.xr_defs.specs.Building.{equal_labels}
 
 abbrev pub are_aligned : Option Labels → Option Labels → Bool
 are_aligned None own = true
 are_aligned (Some l) None = false
-are_aligned (Some l) (Some m) = same_labels (labels_of l.list) (labels_of m.list)
+are_aligned (Some l) (Some m) = equal_labels l.list m.list
 
 abbrev pub checked_axis : Axis → Axis → Result (Unit {0}) Fault
 checked_axis given own = unless (given.size == own.size) SizeConflict >>= λ u. unless (are_aligned given.labels own.labels) NotAligned

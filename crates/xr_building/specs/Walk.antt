@@ -23,12 +23,13 @@ use Rattle.xr_defs.specs.Selecting.{axis_called}
 use Rattle.xr_arrays.specs.Arrays.{Array as Cells}
 use Rattle.xr_arrays.specs.Nodes.{value}
 use Rattle.xr_defs.specs.Values.{array_of}
+use Rattle.xr_defs.specs.Meanings as meant
 use Rattle.xr_defs.specs.Meanings.{Value, Number, Text, Sequence, Array}
 use Rattle.xr_defs.specs.Building.{Frame, check_axis, check_entry, check_place, check_numbers, is_dimension, label_total, labels_given, numbers_in, with_coord}
 use Rattle.xr_values.specs.declared.value.Value.{Value as Held}
 use Rattle.xr_values.specs.declared.args.Args.{Args}
 use Rattle.xr_values.specs.Meaning.{meaning, with_key}
-use Rattle.xr_defs.specs.WellFormed.{IsDataArray}
+use Rattle.xr_defs.specs.WellFormed.{AreLabels, IsDataArray}
 use Rattle.xr_building.specs.declared.draft.Draft.{Draft}
 use Rattle.xr_building.specs.Frames.{with_index, coord_with_index}
 use Rattle.xr_building.specs.Entries.{refused, computed}
@@ -154,7 +155,8 @@ fits_whole v = true
 abbrev pub total_in : Value → Option ℕ
 total_in v = elim (labels_given v) [ Err e ↦ None | Ok l ↦ Some (label_total l.list) ]
 
--- an array that is given is as it has to be
+-- an array and times that are given are as they have to be
 abbrev pub IsWhole : Value → Type 0
 IsWhole (Array a) = IsDataArray a
+IsWhole (meant.Times coding ts) = AreLabels (Times coding ts)
 IsWhole v = ⊤

@@ -7,6 +7,7 @@ ghost use Rattle.xr_defs.specs.Building as of;
 ghost use Rattle.xr_building.specs.Aligned.{are_aligned, checked_axis};
 
 use xr_types::{Axis, CallFault, Fault, Integers, LabelList, Labels, TextBytes};
+use xr_values::same_calendar;
 
 fn same_number(a: &Integers, b: &Integers, at: usize) -> bool
     ensures { result ≡ same (label.Int (get_or a.now at (pos 0))) (label.Int (get_or b.now at (pos 0))) }
@@ -108,6 +109,23 @@ fn same_labels(a: &LabelList, b: &LabelList) -> bool
     }
 }
 
+fn have_one_calendar(a: &LabelList, b: &LabelList) -> bool
+    ensures { result ≡ of.have_one_calendar a.now b.now }
+{
+    match (a, b) {
+        (LabelList::Times(a, _), LabelList::Times(b, _)) => {
+            same_calendar(a.units.calendar, b.units.calendar)
+        }
+        _ => true,
+    }
+}
+
+fn equal_labels(a: &LabelList, b: &LabelList) -> bool
+    ensures { result ≡ of.equal_labels a.now b.now }
+{
+    have_one_calendar(a, b) && same_labels(a, b)
+}
+
 // An axis without labels is aligned with any.
 fn are_aligned(given: &Option<Labels>, own: &Option<Labels>) -> bool
     ensures { result ≡ are_aligned given.now own.now }
@@ -115,7 +133,7 @@ fn are_aligned(given: &Option<Labels>, own: &Option<Labels>) -> bool
     match (given, own) {
         (None, _) => true,
         (Some(_), None) => false,
-        (Some(given), Some(own)) => same_labels(&given.list, &own.list),
+        (Some(given), Some(own)) => equal_labels(&given.list, &own.list),
     }
 }
 

@@ -121,13 +121,14 @@ fn check_index(name: &TextBytes, array: &DataArray) -> Result<(), CallFault>
     }
 }
 
-#[tactic(auto, using(xr_arguments::proofs::Variants::is_list, xr_arguments::proofs::Variants::is_array, xr_values::proofs::Meaning::meaning_out), unfolding(xr_defs::specs::Building::check_labels))]
+#[tactic(auto, using(xr_arguments::proofs::Variants::is_list, xr_arguments::proofs::Variants::is_array, xr_arguments::proofs::Variants::is_times, xr_values::proofs::Meaning::meaning_out), unfolding(xr_defs::specs::Building::check_labels))]
 fn check_labels(name: &TextBytes, value: &Value) -> Result<(), CallFault>
     ensures { (nodes : List Node) → Answers (λ u. u) result (of.check_labels name.now (meaning nodes value.now)) }
 {
     match value {
         Value::List(items) => check_list(items.as_slice()),
         Value::Array(array) => check_index(name, array),
+        Value::Times(_, _) => Ok(()),
         _ => Err(CallFault::Refused(Fault::WrongKind)),
     }
 }

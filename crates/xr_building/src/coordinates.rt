@@ -2,7 +2,7 @@
 ghost use Rattle.std.specs.Prelude.{◌≡◌, ◌<◌, true, false, ℕ, List, Ok, Some, length, map, get_or, IfOk};
 ghost use denote.Param.Send.{IsSync};
 ghost use Rattle.xr_arrays.specs.declared.node.Node.{Node};
-ghost use Rattle.xr_defs.specs.Meanings.{Array, Number};
+ghost use Rattle.xr_defs.specs.Meanings.{Array, Number, Times};
 ghost use Rattle.xr_arrays.specs.Nodes.{value as value_of};
 ghost use Rattle.xr_types.specs.Results.{all_of};
 ghost use Rattle.xr_defs.specs.Selecting.{axis_called};
@@ -25,7 +25,9 @@ use std::thread::Threads;
 use stored_cells::as_typed;
 use xr_arrays::ArrayValue;
 use xr_defs::{Content, Coord};
-use xr_types::{Axis, CallFault, DType, DeepCopy, Items, Labels, TextBytes};
+use xr_types::{
+    Axis, CallFault, DType, DeepCopy, Items, LabelList, Labels, Shared, TextBytes, TimeCoding,
+};
 use xr_values::{Cx, DataArray, Value};
 
 // The labels that an array's cells are.
@@ -41,8 +43,22 @@ fn array_labels(alloc: Global, array: &DataArray, cells: &ArrayValue) -> Result<
     })
 }
 
+// The labels that times are.
+fn time_labels(
+    alloc: Global,
+    coding: &TimeCoding,
+    times: &Shared<i64>,
+) -> Result<Labels, AllocError>
+    ensures { IfOk result (λ l. Some l ≡ labels_in (Times coding.now times.now)) }
+{
+    Ok(Labels {
+        list: LabelList::Times(coding.deep_copy(alloc)?, times.deep_copy(alloc)?),
+        attrs: Items::new(alloc),
+    })
+}
+
 /// The labels that an entry gives, unless a number among them is past 64 bits. The cells of an array are computed.
-#[tactic(auto, using(xr_arguments::proofs::Variants::is_list, xr_arguments::proofs::Variants::is_array, xr_arguments::proofs::Inside::held_array, xr_values::proofs::Meaning::meaning_out), unfolding(crate::specs::Walk::labels_computed, crate::specs::Entries::computed, crate::specs::Walk::node_cells))]
+#[tactic(auto, using(xr_arguments::proofs::Variants::is_list, xr_arguments::proofs::Variants::is_times, xr_arguments::proofs::Variants::is_array, xr_arguments::proofs::Inside::held_array, xr_values::proofs::Meaning::meaning_out), unfolding(crate::specs::Walk::labels_computed, crate::specs::Entries::computed, crate::specs::Walk::node_cells))]
 pub fn labels_of<R: Threads + Sync, C: Compute>(
     rt: &R,
     alloc: Global,
@@ -63,6 +79,7 @@ pub fn labels_of<R: Threads + Sync, C: Compute>(
             let cells = node_cells(rt, alloc, cx, array.node)?;
             Ok(Some(array_labels(alloc, array, &cells)?))
         }
+        Value::Times(coding, times) => Ok(Some(time_labels(alloc, coding, times)?)),
         // The checks let no other value through.
         _ => Err(CallFault::NoMemory),
     }

@@ -39,14 +39,15 @@ fn size_along(array: &DataArray) -> Option<u64>
     }
 }
 
-// How many labels a list or an array along its dimension has.
-#[tactic(auto, using(xr_arguments::proofs::Variants::is_list, xr_arguments::proofs::Variants::is_array, xr_arguments::proofs::Inside::held_array, xr_values::proofs::Meaning::meaning_out))]
+// How many labels a list, times or an array along its dimension has.
+#[tactic(auto, using(xr_arguments::proofs::Variants::is_list, xr_arguments::proofs::Variants::is_times, xr_arguments::proofs::Variants::is_array, xr_arguments::proofs::Inside::held_array, xr_values::proofs::Meaning::meaning_out))]
 fn total_in(value: &Value) -> Option<u64>
     ensures { (nodes : List Node) (name : List ℕ) → IsValueIn nodes value.now → of.check_labels name (meaning nodes value.now) ≡ Ok tt → result ≡ total_in (meaning nodes value.now) }
 {
     match value {
         Value::List(items) => Some(items.as_slice().len() as u64),
         Value::Array(array) => size_along(array),
+        Value::Times(_, times) => Some(times.as_slice().len() as u64),
         _ => None,
     }
 }

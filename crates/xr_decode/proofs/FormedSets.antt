@@ -20,7 +20,7 @@ use Rattle.xr_defs.specs.Limits.{most_cells, most_variables}
 use Rattle.xr_defs.specs.Selecting.{axis_called}
 use Rattle.xr_types.specs.Names.{axis_names}
 use Rattle.xr_defs.specs.Values.{Variable}
-use Rattle.xr_defs.specs.Decoding.{is_skipped, is_index, is_coordinate, coordinate_names, labels_in, index_in, index_among, loaded_in, others_in, axis_in, var_axes, var_dims, var_shape, variable_of, coordinate_of, coordinate_over, scalar_text, coordinates_in, variables_in, is_kept, unlisted, dataset_in}
+use Rattle.xr_defs.specs.Decoding.{is_skipped, is_index, is_coordinate, coordinate_names, labels_in, index_in, index_among, loaded_in, others_in, axis_in, var_axes, var_dims, var_shape, variable_of, coordinate_of, coordinate_over, scalar_text, coordinates_in, variables_in, is_kept, unlisted, uncoded, dataset_in}
 use Rattle.xr_defs.specs.WellFormed.{IsDimension, AreDimensions, IsIndex, AreCells, IsCoordinate, IsVariable, IsDataset, names_of, variable_names, labelled}
 use Rattle.xr_decode.specs.Held.{data_in}
 use Rattle.xr_decode.specs.Readable.{IsReadable, IsReadableVar, var_names}
@@ -215,14 +215,14 @@ pub record HasIndex (f : CdfFile) (d : CdfDim) (l : Labels) : Type 0 where
   pub named : var.name ≡ d.name
   pub list : LabelList
   pub labels : labels_in f var ≡ Some list
-  pub is : l ≡ record { list = list; attrs = unlisted var.attrs }
+  pub is : l ≡ record { list = list; attrs = uncoded list (unlisted var.attrs) }
 
 index_by : (f : CdfFile) (d : CdfDim) (l : Labels) (v : CdfVar) → Has f.vars v → is_skipped f v ≡ false → v.name ≡ d.name → index_in f v ≡ Some l → HasIndex f d l
 index_by f d l v h e n is = by (labels_in f v) refl is
   where
-    by : (o : Option LabelList) → labels_in f v ≡ o → option_map (λ x. record { list = x; attrs = unlisted v.attrs }) o ≡ Some l → HasIndex f d l
+    by : (o : Option LabelList) → labels_in f v ≡ o → option_map (λ x. record { list = x; attrs = uncoded x (unlisted v.attrs) }) o ≡ Some l → HasIndex f d l
     by None a b = absurd cc
-    by (Some x) a b = let same : l ≡ record { list = x; attrs = unlisted v.attrs } = cc in record { var = v; in_file = h; loaded = e; named = n; list = x; labels = a; is = same }
+    by (Some x) a b = let same : l ≡ record { list = x; attrs = uncoded x (unlisted v.attrs) } = cc in record { var = v; in_file = h; loaded = e; named = n; list = x; labels = a; is = same }
 
 has_index : (f : CdfFile) (d : CdfDim) (l : Labels) → index_among f d.name f.vars ≡ Some l → HasIndex f d l
 has_index f d l e = by (find (λ (v : CdfVar). bytes_eq v.name d.name) (loaded_in f f.vars)) refl e

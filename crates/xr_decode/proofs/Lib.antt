@@ -1,6 +1,7 @@
 pub mod AreBytes
 pub mod Arrays
 pub mod Coordinates
+pub mod Counted
 pub mod DimensionNames
 pub mod FormedAxes
 pub mod FormedCells
@@ -19,3 +20,4 @@ pub mod Rooms
 pub mod Rows
 pub mod Spelled
 pub mod TruthCells
+pub mod UnitTexts

@@ -1,5 +1,5 @@
 //! Attributes by their names, and what they hold.
-ghost use Rattle.std.specs.Prelude.{◌≡◌, ◌++◌, find, drop, option_map, IfOk, IfSome};
+ghost use Rattle.std.specs.Prelude.{◌≡◌, ◌++◌, filter, find, not, drop, option_map, IfOk, IfSome};
 ghost use Rattle.std.specs.List.{Contains};
 ghost use Rattle.xr_defs.specs.Decoding.{is_attr, is_char_attr, text_attr, without_text_attr, attr_says};
 
@@ -7,7 +7,8 @@ use crate::kinds::is_char;
 use std::alloc::{AllocError, Global};
 use xr_types::{Attr, DeepCopy, Items};
 
-fn is_attr(name: &str, attr: &Attr) -> bool
+/// Whether an attribute has a name.
+pub(crate) fn is_attr(name: &str, attr: &Attr) -> bool
     ensures { result ≡ is_attr name.now attr.now }
 {
     attr.name.as_str() == name
@@ -69,4 +70,17 @@ pub(crate) fn copy_without(
         }
     }
     Ok(copies)
+}
+
+/// The attributes without those of a name that are of type `char`.
+pub(crate) fn left_without(attrs: Items<Attr>, name: &str) -> Items<Attr>
+    ensures { result ≡ without_text_attr name.now attrs }
+{
+    let mut left = attrs.into_vec();
+    left.retain(
+        |attr: &Attr| -> bool
+            ensures { result ≡ not (is_char_attr name.entry.now attr.now) }
+        { !is_char_attr(name, attr) },
+    );
+    Items::of(left)
 }

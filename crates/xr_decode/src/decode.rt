@@ -21,7 +21,8 @@ use xr_types::{CallFault, Fault};
 use xr_values::{Cx, Dataset};
 
 /// The dataset of a file, with missing cells where `mask` asks for them (CF Conventions; xarray, `decode_cf`). The cells of its
-/// data variables become nodes of the plan.
+/// data variables become nodes of the plan. The numbers of an index become times, where its attributes say how they count them and
+/// each is a time of the calendar.
 ///
 /// The parts of the file have to fit together; the values of `float` and `double` variables aren't looked at.
 ///

@@ -1,20 +1,20 @@
 //! Indexes: a variable that is named as its first dimension holds labels.
 ghost use Rattle.std.specs.Prelude.{◌≡◌, ◌==◌, ◌&&◌, ◌*◌, length, is_some, option_map, true, IfOk};
-ghost use Rattle.xr_types.specs.declared.axis.LabelList.TheVariants as lists;
 ghost use Rattle.xr_types.specs.Points.{size};
-ghost use Rattle.xr_defs.specs.Decoding.{is_char, is_integer, is_named_as_first, number_labels, text_labels, rows_of, labels_in, is_index, index_in};
-ghost use Rattle.xr_arrays.specs.Numbers.{cells_kind, numbers_of};
+ghost use Rattle.xr_defs.specs.Decoding.{is_char, is_integer, is_named_as_first, numbers_or_times, number_labels, text_labels, rows_of, labels_in, is_index, uncoded, index_in};
+ghost use Rattle.xr_arrays.specs.Numbers.{numbers_of};
 ghost use Rattle.xr_decode.specs.Readable.{IsReadableVar};
 
-use crate::attributes::copy_without;
+use crate::attributes::{copy_without, left_without};
 use crate::dims::var_shape;
 use crate::kinds::{cells_kind, is_char, is_integer};
 use crate::shapes::dim_name;
 use crate::stored::{Source, StoredVar};
 use crate::text::{are_texts, texts_in};
+use crate::times::times_of;
 use std::alloc::{AllocError, Global};
 use stored_cells::decoded_cells;
-use xr_types::{Items, LabelList, Labels, NoMemory, Shared, TextBytes};
+use xr_types::{Attr, Items, LabelList, Labels, NoMemory, Shared, TextBytes};
 use xr_values::integers_of;
 
 fn is_named_as_first(source: &Source<'_>, var: &StoredVar<'_>) -> bool
@@ -33,15 +33,21 @@ fn has_number_labels(var: &StoredVar<'_>) -> bool
     is_integer(var.kind()) && var.dims().len() == 1
 }
 
+// Its whole numbers, or the times for which they stand.
 #[tactic(auto, using(crate::proofs::Readable::integer_is_whole))]
-fn numbers_as_labels(alloc: Global, var: &StoredVar<'_>) -> Result<LabelList, NoMemory>
+fn numbers_or_times(alloc: Global, var: &StoredVar<'_>) -> Result<LabelList, NoMemory>
     requires { is_integer var.now.kind ≡ true }
-    ensures { IfOk result (λ l. l ≡ lists.Numbers (cells_kind var.now.kind) (numbers_of var.now.kind var.now.raw)) }
+    ensures { IfOk result (λ l. l ≡ numbers_or_times var.now (numbers_of var.now.kind var.now.raw)) }
 {
     let raw = var.raw(alloc)?;
     let cells = decoded_cells(alloc, var.kind(), raw.as_slice())?;
-    let numbers = integers_of(alloc, &cells)?;
-    Ok(LabelList::Numbers(cells_kind(var.kind()), numbers))
+    match times_of(alloc, var.attrs(), &cells)? {
+        Some(times) => Ok(times),
+        None => {
+            let numbers = integers_of(alloc, &cells)?;
+            Ok(LabelList::Numbers(cells_kind(var.kind()), numbers))
+        }
+    }
 }
 
 // The rows of values over two dimensions as texts, where each row is one.
@@ -118,7 +124,7 @@ pub(crate) fn labels_in(
         return Ok(None);
     }
     if has_number_labels(var) {
-        return Ok(Some(numbers_as_labels(alloc, var)?));
+        return Ok(Some(numbers_or_times(alloc, var)?));
     }
     text_labels(alloc, source, var)
 }
@@ -142,6 +148,16 @@ pub(crate) fn is_index(
     has_text_labels(alloc, source, var)
 }
 
+// The attributes that stay beside labels. Those that say how times are counted are theirs.
+fn uncoded(list: &LabelList, attrs: Items<Attr>) -> Items<Attr>
+    ensures { result ≡ uncoded list.now attrs }
+{
+    match list {
+        LabelList::Times(_, _) => left_without(left_without(attrs, "units"), "calendar"),
+        LabelList::Numbers(_, _) | LabelList::Texts(_) => attrs,
+    }
+}
+
 /// The index that a variable holds, where it does.
 pub(crate) fn index_in(
     alloc: Global,
@@ -154,6 +170,7 @@ pub(crate) fn index_in(
     match labels_in(alloc, source, var)? {
         Some(list) => {
             let attrs = copy_without(alloc, "coordinates", var.attrs())?;
+            let attrs = uncoded(&list, attrs);
             Ok(Some(Labels { list, attrs }))
         }
         None => Ok(None),

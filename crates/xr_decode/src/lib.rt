@@ -20,6 +20,7 @@ mod shapes;
 mod skip;
 mod stored;
 mod text;
+mod times;
 mod truths;
 mod values;
 mod variable;

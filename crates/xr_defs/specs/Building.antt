@@ -8,7 +8,7 @@ use Rattle.xr_types.specs.declared.axis.Axis.{Axis}
 use Rattle.xr_types.specs.declared.axis.Label.{Label}
 use Rattle.xr_types.specs.declared.axis.Labels.{Labels}
 use Rattle.xr_types.specs.declared.axis.LabelList.{LabelList}
-use Rattle.xr_types.specs.declared.axis.LabelList.TheVariants.{Numbers, Texts}
+use Rattle.xr_types.specs.declared.axis.LabelList.TheVariants as lists
 use Rattle.xr_types.specs.declared.kind.DType.{DType}
 use Rattle.xr_types.specs.declared.kind.DType.TheVariants as kinds
 use Rattle.xr_defs.specs.declared.value.Content.TheVariants as contents
@@ -17,6 +17,7 @@ use Rattle.xr_types.specs.Kinds.{in_range}
 use Rattle.xr_types.specs.Results.{◌>>=◌, unless, all_of}
 use Rattle.xr_types.specs.Names.{among}
 use Rattle.xr_types.specs.Names.{are_distinct}
+use Rattle.xr_times.specs.Times.{same_calendar}
 use Rattle.xr_arrays.specs.Labels as labels
 use Rattle.xr_arrays.specs.Labels.{labels_of}
 use Rattle.xr_types.specs.Names.{axis_names}
@@ -24,7 +25,7 @@ use Rattle.xr_defs.specs.Values.{DataArray, Dataset, Variable, array_of, axis_po
 use Rattle.xr_defs.specs.Limits.{most_dimensions}
 use Rattle.xr_defs.specs.Selecting.{axis_called, check_array, check_set}
 use Rattle.xr_defs.specs.Parts.{new_name, texts_in, without_idle}
-use Rattle.xr_defs.specs.Meanings.{Value, Values, Entries, Absent, Missing, Truth, Number, Text, Sequence, Table, Array, NoValue, With, NoEntry, Entry, Given}
+use Rattle.xr_defs.specs.Meanings.{Value, Values, Entries, Absent, Missing, Truth, Number, Text, Sequence, Table, Array, Times, NoValue, With, NoEntry, Entry, Given}
 use Rattle.xr_defs.specs.Arguments.{wrong, unfit, as_text}
 
 -- ---- arguments by a signature: plain ones stand for its first parameters, keywords for others, none twice
@@ -74,8 +75,8 @@ numbers_in (With vs v) = numbers_in vs
 -- whole numbers have kind int64; an empty list is one of whole numbers
 unfoldable pub as_labels : Values → Result LabelList Fault
 as_labels vs =
-    if all_values is_number vs then Ok (Numbers kinds.Int64 (numbers_in vs))
-    else if all_values is_text vs then (texts_in vs >>= λ ts. Ok (Texts ts)) else wrong
+    if all_values is_number vs then Ok (lists.Numbers kinds.Int64 (numbers_in vs))
+    else if all_values is_text vs then (texts_in vs >>= λ ts. Ok (lists.Texts ts)) else wrong
 
 abbrev pub is_integer_kind : DType → Bool
 is_integer_kind kinds.Bool = false
@@ -111,6 +112,7 @@ is_along name a = (length a.axes == 1) && among (axis_names a.axes) name
 unfoldable pub check_labels : List ℕ → Value → Result (Unit {0}) Fault
 check_labels name (Sequence vs) = as_labels vs >>= λ l. Ok tt
 check_labels name (Array a) = unless (is_integer_kind a.kind) WrongKind >>= λ u. unless (not a.masked && is_along name a) BadArgument
+check_labels name (Times coding ts) = Ok tt
 check_labels name v = wrong
 
 unfoldable pub check_coordinate : Value → Result (Unit {0}) Fault
@@ -136,15 +138,24 @@ same_labels [] [] = true
 same_labels (x ∷ xs) (y ∷ ys) = labels.same x y && same_labels xs ys
 same_labels xs ys = false
 
+-- times of two calendars are labels of two kinds
+abbrev pub have_one_calendar : LabelList → LabelList → Bool
+have_one_calendar (lists.Times c ts) (lists.Times d us) = same_calendar c.units.calendar d.units.calendar
+have_one_calendar l m = true
+
+abbrev pub equal_labels : LabelList → LabelList → Bool
+equal_labels l m = have_one_calendar l m && same_labels (labels_of l) (labels_of m)
+
 -- the axis of an array that is given has the size of the one it stands for, and its labels, or none
 unfoldable pub check_axis : List Axis → Axis → Result (Unit {0}) Fault
 check_axis axes x =
     unless (x.size == (axis_called axes x.name).size) SizeConflict >>= λ u.
-    unless (elim x.labels [ None ↦ true | Some l ↦ elim (axis_called axes x.name).labels [ None ↦ false | Some m ↦ same_labels (labels_of l.list) (labels_of m.list) ] ]) NotAligned
+    unless (elim x.labels [ None ↦ true | Some l ↦ elim (axis_called axes x.name).labels [ None ↦ false | Some m ↦ equal_labels l.list m.list ] ]) NotAligned
 
 abbrev pub labels_given : Value → Result Labels Fault
 labels_given (Sequence vs) = as_labels vs >>= λ l. Ok (record { list = l; attrs = [] })
-labels_given (Array a) = Ok (record { list = Numbers a.kind (present a.cells); attrs = a.attrs })
+labels_given (Array a) = Ok (record { list = lists.Numbers a.kind (present a.cells); attrs = a.attrs })
+labels_given (Times coding ts) = Ok (record { list = lists.Times coding ts; attrs = [] })
 labels_given v = wrong
 
 -- ---- coordinates assigned

@@ -8,6 +8,7 @@ use Rattle.std.specs.List.{list_all}
 use Rattle.std.specs.Cmp.Lexicographic.{pointwise}
 use Rattle.xr_types.specs.declared.attr.Attr.{Attr}
 use Rattle.xr_types.specs.declared.axis.Axis.{Axis}
+use Rattle.xr_times.specs.Times.{same_calendar}
 use Rattle.xr_defs.specs.declared.value.Content.{Content}
 use Rattle.xr_defs.specs.declared.value.Content.TheVariants.{Cells, Text, Time}
 use Rattle.xr_defs.specs.declared.value.Coord.{Coord}
@@ -101,7 +102,7 @@ same_content (Text s) (Text t) = bytes_eq s t
 same_content (Text s) (Time d t) = false
 same_content (Time c s) (Cells b n) = false
 same_content (Time c s) (Text t) = false
-same_content (Time c s) (Time d t) = int_eq s t
+same_content (Time c s) (Time d t) = same_calendar c.units.calendar d.units.calendar && int_eq s t
 
 -- the same dimensions in the same order, and equal cells
 unfoldable pub same_coord : Coord → Coord → Bool

@@ -1,9 +1,8 @@
--- The dataset of a classic file (CF Conventions, "Coordinate Systems" and "Missing data"; xarray, `decode_cf`). An index that
--- counts times stays one of whole numbers so far.
-use Rattle.std.specs.Prelude.{◌+◌, ◌-◌, ◌*◌, ◌==◌, ◌&&◌, ◌||◌, ℕ, ℤ, pos, negsuc, List, [], ◌∷◌, ◌++◌, length, map, filter, find, take, drop, flat_map, Option, Some, None, is_some, option_map, Result, Ok, Err, Bool, true, false, not, if◌then◌else◌, nat_lt, nat_le, codes}
+-- The dataset of a classic file (CF Conventions, "Coordinate Systems", "Time Coordinate" and "Missing data"; xarray, `decode_cf`).
+use Rattle.std.specs.Prelude.{◌+◌, ◌-◌, ◌*◌, ◌==◌, ◌&&◌, ◌||◌, ℕ, ℤ, pos, negsuc, List, [], ◌∷◌, ◌++◌, length, map, filter, find, take, drop, flat_map, Option, Some, None, is_some, option_map, unwrap_or, Result, Ok, Err, Bool, true, false, not, if◌then◌else◌, nat_lt, nat_le, codes}
 use Rattle.std.specs.Fmt.{decimal}
 use Rattle.std.specs.Str.{is_utf8, bytes_eq}
-use Rattle.std.specs.List.{list_any, suffix_len, slice_split, range_with_len}
+use Rattle.std.specs.List.{list_any, list_all, suffix_len, slice_split, range_with_len}
 use Rattle.xr_types.specs.declared.fault.Fault.{Fault}
 use Rattle.xr_types.specs.declared.fault.Fault.TheVariants.{BadFile, TooLarge}
 use Rattle.xr_types.specs.declared.attr.Attr.{Attr}
@@ -12,7 +11,9 @@ use Rattle.xr_types.specs.declared.attr.NcType.TheVariants.{Byte, Char}
 use Rattle.xr_types.specs.declared.axis.Axis.{Axis}
 use Rattle.xr_types.specs.declared.axis.Labels.{Labels}
 use Rattle.xr_types.specs.declared.axis.LabelList.{LabelList}
-use Rattle.xr_types.specs.declared.axis.LabelList.TheVariants.{Numbers, Texts}
+use Rattle.xr_types.specs.declared.axis.LabelList.TheVariants.{Numbers, Times, Texts}
+use Rattle.xr_types.specs.declared.axis.TimeCoding.{TimeCoding}
+use Rattle.xr_types.specs.declared.axis.Units.{Units}
 use Rattle.xr_types.specs.declared.kind.DType.TheVariants as kinds
 use Rattle.xr_files.specs.declared.file.CdfDim.{CdfDim}
 use Rattle.xr_files.specs.declared.file.CdfVar.{CdfVar}
@@ -26,6 +27,8 @@ use Rattle.xr_files.specs.Classic.{dim_at}
 use Rattle.xr_files.specs.Files.{file_in, positions, shape_of}
 use Rattle.xr_arrays.specs.Numbers.{is_whole, cells_kind, numbers_of}
 use Rattle.xr_arrays.specs.Stored.{stored_cells}
+use Rattle.xr_times.specs.Times.{decoded}
+use Rattle.xr_times.specs.Units.{units_of}
 use Rattle.xr_defs.specs.Limits.{are_different, most_cells, most_dimensions, most_variables}
 use Rattle.xr_types.specs.Names.{shape_over, axis_names}
 use Rattle.xr_defs.specs.Values.{Dataset, Variable}
@@ -116,9 +119,34 @@ var_dims f v = map (λ i. (dim_at f.dims i).name) v.dims
 abbrev pub is_named_as_first : CdfFile → CdfVar → Bool
 is_named_as_first f v = elim (var_dims f v) [ [] ↦ false | d ∷ ds ↦ bytes_eq d v.name ]
 
--- one dimension: its whole numbers are the labels
+-- the calendar is named by a text, or isn't named
+abbrev pub has_calendar : List Attr → Bool
+has_calendar attrs = list_all (λ (a : Attr). not (is_attr (codes "calendar") a) || is_char a.kind) attrs
+
+abbrev pub coded : List Attr → List ℕ → Units → TimeCoding
+coded attrs text u = record { units = u; units_text = text; calendar_text = text_attr (codes "calendar") attrs }
+
+-- how the numbers of a variable stand for times: by the text of its units, where it is one of time units in a calendar that is known
+unfoldable pub coding_of : List Attr → Option TimeCoding
+coding_of attrs =
+    elim (text_attr (codes "units") attrs) [
+      | None ↦ None
+      | Some text ↦ if has_calendar attrs then option_map (coded attrs text) (units_of text (text_attr (codes "calendar") attrs)) else None
+    ]
+
+-- times, where each number stands for one
+unfoldable pub times_counted : TimeCoding → List ℤ → Option LabelList
+times_counted coding ns = option_map (Times coding) (all_there (map (decoded coding.units) ns))
+
+unfoldable pub times_of : List Attr → List ℤ → Option LabelList
+times_of attrs ns = elim (coding_of attrs) [ None ↦ None | Some coding ↦ times_counted coding ns ]
+
+-- one dimension: its whole numbers are the labels, or the times for which they stand
+abbrev pub numbers_or_times : CdfVar → List ℤ → LabelList
+numbers_or_times v ns = unwrap_or (times_of v.attrs ns) (Numbers (cells_kind v.kind) ns)
+
 abbrev pub number_labels : CdfVar → Option LabelList
-number_labels v = if is_integer v.kind && length v.dims == 1 then Some (Numbers (cells_kind v.kind) (numbers_of v.kind v.raw)) else None
+number_labels v = if is_integer v.kind && length v.dims == 1 then Some (numbers_or_times v (numbers_of v.kind v.raw)) else None
 
 -- two dimensions of type char: its rows are the labels, where each is a text
 abbrev pub rows_of : List ℕ → List ℕ → Option (List (List ℕ))
@@ -142,8 +170,14 @@ is_index f v = is_some (labels_in f v)
 abbrev pub unlisted : List Attr → List Attr
 unlisted attrs = without_text_attr (codes "coordinates") attrs
 
+-- the units and the calendar of times are theirs, and no attributes
+abbrev pub uncoded : LabelList → List Attr → List Attr
+uncoded (Times coding ts) attrs = without_text_attr (codes "calendar") (without_text_attr (codes "units") attrs)
+uncoded (Numbers kind ns) attrs = attrs
+uncoded (Texts ts) attrs = attrs
+
 abbrev pub index_in : CdfFile → CdfVar → Option Labels
-index_in f v = option_map (λ l. record { list = l; attrs = unlisted v.attrs }) (labels_in f v)
+index_in f v = option_map (λ l. record { list = l; attrs = uncoded l (unlisted v.attrs) }) (labels_in f v)
 
 -- the index that a loaded variable of this name holds
 abbrev pub index_among : CdfFile → List ℕ → List CdfVar → Option Labels

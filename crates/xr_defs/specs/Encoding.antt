@@ -1,8 +1,7 @@
--- The classic file of a dataset, and what it is refused for (CF Conventions; xarray, `Dataset.to_netcdf`). No dataset has times
--- so far.
-use Rattle.std.specs.Prelude.{◌-◌, ◌==◌, ◌&&◌, ◌||◌, ℕ, ℤ, pos, List, [], ◌∷◌, ◌++◌, length, map, drop, filter, filter_map, find, flat_map, fold, replicate, Option, Some, None, is_some, is_none, option_map, unwrap_or, Result, Ok, Bool, true, false, not, if◌then◌else◌, max, codes}
+-- The classic file of a dataset, and what it is refused for (CF Conventions; xarray, `Dataset.to_netcdf`).
+use Rattle.std.specs.Prelude.{◌-◌, ◌==◌, ◌&&◌, ◌||◌, ℕ, ℤ, pos, ◌-ℤ◌, List, [], ◌∷◌, ◌++◌, length, map, drop, filter, filter_map, find, flat_map, fold, replicate, Option, Some, None, is_some, is_none, option_map, unwrap_or, Result, Ok, Bool, true, false, not, if◌then◌else◌, max, codes}
 use Rattle.std.specs.Str.{bytes_eq}
-use Rattle.std.specs.List.{list_any, list_all, position_or_len, join_with_byte}
+use Rattle.std.specs.List.{list_any, list_all, position_or_len, prefix_len, join_with_byte}
 use Rattle.std.specs.Int.{w8, w16, w32, w64, to_be_bytes, cast_unsigned}
 use Rattle.xr_types.specs.declared.fault.Fault.{Fault}
 use Rattle.xr_types.specs.declared.fault.Fault.TheVariants.{NoDimension, DuplicateName, CannotHold, NoFill, DoesNotFit, FillCollides, TooLarge}
@@ -13,6 +12,9 @@ use Rattle.xr_types.specs.declared.axis.Axis.{Axis}
 use Rattle.xr_types.specs.declared.axis.Labels.{Labels}
 use Rattle.xr_types.specs.declared.axis.LabelList.{LabelList}
 use Rattle.xr_types.specs.declared.axis.LabelList.TheVariants.{Numbers, Times, Texts}
+use Rattle.xr_types.specs.declared.axis.TimeCoding.{TimeCoding}
+use Rattle.xr_types.specs.declared.axis.TimeUnit.{TimeUnit}
+use Rattle.xr_types.specs.declared.axis.TimeUnit.TheVariants.{Days, Hours, Minutes, Seconds}
 use Rattle.xr_types.specs.declared.kind.DType.{DType}
 use Rattle.xr_types.specs.declared.kind.DType.TheVariants as kinds
 use Rattle.xr_files.specs.declared.file.CdfDim.{CdfDim}
@@ -29,7 +31,11 @@ use Rattle.xr_files.specs.Canonical.{has_types, is_small}
 use Rattle.xr_types.specs.Names.{axis_names}
 use Rattle.xr_defs.specs.Values.{Dataset, Variable}
 use Rattle.xr_defs.specs.Decoding.{is_attr, is_blank, own_fill, fill_numbers, string_name}
+use Rattle.xr_arrays.specs.Elements.{floor_quotient}
 use Rattle.xr_arrays.specs.Stored.{is_fill}
+use Rattle.xr_times.specs.Times.{unit_seconds}
+use Rattle.xr_times.specs.Counts.{written_unit}
+use Rattle.xr_times.specs.Units as units
 use Rattle.xr_defs.specs.Printing.{by_name}
 
 -- ---- types
@@ -110,7 +116,8 @@ value_bytes UInt64 n = to_be_bytes w64 (cast_unsigned w64 n)
 
 -- ---- the variables to be written
 
--- a variable with its cells; `lists` are the coordinates that its attribute `coordinates` will name
+-- a variable with its cells; `coding` are the attributes that say how its numbers count times, and `lists` the coordinates that
+-- its attribute `coordinates` will name
 pub record Stored : Type 0 where
   pub name : List ℕ
   pub dims : List (List ℕ)
@@ -118,6 +125,7 @@ pub record Stored : Type 0 where
   pub masked : Bool
   pub attrs : List Attr
   pub cells : List (Option ℤ)
+  pub coding : List Attr
   pub lists : List (List ℕ)
 
 -- texts are rows of as many bytes as the longest has, and at least one, filled up with NULs
@@ -132,14 +140,54 @@ text_cells texts = map (λ b. Some (pos b)) (flat_map (filled_up (text_width tex
 
 abbrev pub stored_texts : List ℕ → List (List ℕ) → List Attr → List (List ℕ) → Stored
 stored_texts name dims attrs texts =
-    record { name = name; dims = dims ++ string_name (text_width texts) ∷ []; kind = kinds.Char; masked = false; attrs = attrs; cells = text_cells texts; lists = [] }
+    record { name = name; dims = dims ++ string_name (text_width texts) ∷ []; kind = kinds.Char; masked = false; attrs = attrs; cells = text_cells texts; coding = []; lists = [] }
 
 abbrev pub stored_cells : List ℕ → List (List ℕ) → DType → Bool → List Attr → List (Option ℤ) → Stored
-stored_cells name dims kind masked attrs cells = record { name = name; dims = dims; kind = kind; masked = masked; attrs = attrs; cells = cells; lists = [] }
+stored_cells name dims kind masked attrs cells = record { name = name; dims = dims; kind = kind; masked = masked; attrs = attrs; cells = cells; coding = []; lists = [] }
+
+abbrev pub text_attr : List ℕ → List ℕ → Attr
+text_attr name text = record { name = name; kind = Char; raw = text }
+
+-- times are counts of their unit, or of a finer one where not all are whole, from the reference as its text gives it
+abbrev pub unit_name : TimeUnit → List ℕ
+unit_name Days = codes "days"
+unit_name Hours = codes "hours"
+unit_name Minutes = codes "minutes"
+unit_name Seconds = codes "seconds"
+
+abbrev pub same_unit : TimeUnit → TimeUnit → Bool
+same_unit Days Days = true
+same_unit Hours Hours = true
+same_unit Minutes Minutes = true
+same_unit Seconds Seconds = true
+same_unit u v = false
+
+-- the text after `since` and the blanks round it
+unfoldable pub reference_text : List ℕ → List ℕ
+reference_text text = unwrap_or (units.behind_word (drop (prefix_len units.is_dark text) text)) []
+
+unfoldable pub units_written : TimeCoding → TimeUnit → List ℕ
+units_written coding u =
+    if same_unit u coding.units.unit then coding.units_text else unit_name u ++ (codes " since " ++ reference_text coding.units_text)
+
+abbrev pub calendar_attr : Option (List ℕ) → List Attr
+calendar_attr None = []
+calendar_attr (Some text) = text_attr (codes "calendar") text ∷ []
+
+abbrev pub coding_attrs : TimeCoding → TimeUnit → List Attr
+coding_attrs coding u = text_attr (codes "units") (units_written coding u) ∷ calendar_attr coding.calendar_text
+
+abbrev pub count_of : TimeUnit → ℤ → ℤ → ℤ
+count_of u reference t = floor_quotient (t -ℤ reference) (pos (unit_seconds u))
+
+-- with the unit in which the times are written
+abbrev pub stored_times : List ℕ → List (List ℕ) → List Attr → TimeCoding → List ℤ → TimeUnit → Stored
+stored_times name dims attrs coding ts u =
+    record (stored_cells name dims kinds.Int64 false attrs (map (λ t. Some (count_of u coding.units.reference t)) ts)) { coding = coding_attrs coding u }
 
 abbrev pub stored_labels : List ℕ → List Attr → LabelList → Stored
 stored_labels name attrs (Numbers kind ns) = stored_cells name (name ∷ []) kind false attrs (map Some ns)
-stored_labels name attrs (Times coding ts) = stored_cells name (name ∷ []) kinds.Int64 false attrs (map Some ts)
+stored_labels name attrs (Times coding ts) = stored_times name (name ∷ []) attrs coding ts (written_unit coding.units ts)
 stored_labels name attrs (Texts texts) = stored_texts name (name ∷ []) attrs texts
 
 abbrev pub stored_index : Axis → Option Stored
@@ -148,7 +196,7 @@ stored_index x = option_map (λ (l : Labels). stored_labels x.name l.attrs l.lis
 abbrev pub stored_content : Coord → Content → Stored
 stored_content c (contents.Cells a masked) = stored_cells c.name (axis_names c.axes) a.kind masked c.attrs a.cells
 stored_content c (contents.Text text) = stored_texts c.name [] c.attrs (text ∷ [])
-stored_content c (contents.Time coding t) = stored_cells c.name [] kinds.Int64 false c.attrs (Some t ∷ [])
+stored_content c (contents.Time coding t) = stored_times c.name [] c.attrs coding (t ∷ []) (written_unit coding.units (t ∷ []))
 
 abbrev pub stored_coord : Coord → Stored
 stored_coord c = stored_content c c.content
@@ -226,9 +274,6 @@ uses_option options o = o.masked && is_none (attr_fill o) && is_some options.fil
 
 -- ---- attributes
 
-abbrev pub text_attr : List ℕ → List ℕ → Attr
-text_attr name text = record { name = name; kind = Char; raw = text }
-
 -- the type in which a variable is written
 abbrev pub written_type : WriteOptions → Stored → NcType
 written_type options o = type_of options.version o.kind
@@ -248,7 +293,7 @@ coordinates_added [] = []
 coordinates_added (n ∷ ns) = text_attr (codes "coordinates") (join_with_byte 32 (n ∷ ns)) ∷ []
 
 abbrev pub added : WriteOptions → Stored → List Attr
-added options o = dtype_added o.kind ++ (fill_added options o ++ coordinates_added o.lists)
+added options o = o.coding ++ (dtype_added o.kind ++ (fill_added options o ++ coordinates_added o.lists))
 
 -- a `_FillValue` in use is written with the variable's type
 abbrev pub is_fill_in_use : Stored → Attr → Bool

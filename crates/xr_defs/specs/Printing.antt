@@ -14,7 +14,7 @@ use Rattle.xr_defs.specs.declared.value.Content.TheVariants.{Cells, Text, Time}
 use Rattle.xr_defs.specs.declared.value.Coord.{Coord}
 use Rattle.xr_types.specs.Widths.{width}
 use Rattle.xr_arrays.specs.Numbers.{is_whole, numbers_of}
-use Rattle.xr_arrays.specs.Times.{time_text}
+use Rattle.xr_times.specs.Times.{time_text}
 use Rattle.xr_types.specs.Names.{axis_names}
 use Rattle.xr_defs.specs.Values.{DataArray, Dataset, Variable}
 use Rattle.xr_defs.specs.Text.{escape, printed_name, quoted, quoted_byte, joined, cell_text, after_blanks, masked_text, axis_text, head_line, cells_text, index_text}
@@ -46,7 +46,7 @@ coord_line name kind masked dims items =
 abbrev pub content_line : List ℕ → List (List ℕ) → Content → List ℕ
 content_line name dims (Cells a masked) = coord_line name (kind_name a.kind) masked dims (map (cell_text a.kind) a.cells)
 content_line name dims (Text text) = coord_line name (codes "text") false dims (quoted text ∷ [])
-content_line name dims (Time coding t) = coord_line name (codes "time") false dims (time_text t ∷ [])
+content_line name dims (Time coding t) = coord_line name (codes "time") false dims (time_text coding.units.calendar t ∷ [])
 
 abbrev pub coord_text : Coord → List ℕ
 coord_text c = content_line c.name (axis_names c.axes) c.content

@@ -7,7 +7,7 @@ use Rattle.xr_types.specs.declared.axis.LabelList.{LabelList}
 use Rattle.xr_types.specs.declared.axis.LabelList.TheVariants.{Numbers, Times, Texts}
 use Rattle.xr_types.specs.declared.kind.DType.{DType}
 use Rattle.xr_types.specs.declared.kind.DType.TheVariants as kinds
-use Rattle.xr_arrays.specs.Times.{time_text}
+use Rattle.xr_times.specs.Times.{time_text}
 use Rattle.xr_types.specs.Names.{shape_over}
 use Rattle.xr_defs.specs.Values.{DataArray}
 
@@ -78,7 +78,7 @@ row_size (n ∷ ns) = row_size ns
 -- labels as they are printed
 abbrev pub label_texts : LabelList → List (List ℕ)
 label_texts (Numbers kind ns) = map signed_decimal ns
-label_texts (Times coding ts) = map time_text ts
+label_texts (Times coding ts) = map (time_text coding.units.calendar) ts
 label_texts (Texts ts) = map quoted ts
 
 abbrev pub label_kind : LabelList → List ℕ

@@ -25,7 +25,7 @@ use Rattle.xr_defs.specs.Values.{DataArray, Dataset, Variable, label_count}
 use Rattle.xr_defs.specs.Selecting.{axis_called}
 use Rattle.xr_defs.specs.Decoding.{is_kept}
 use Rattle.xr_defs.specs.Building.{is_integer_kind}
-use Rattle.xr_arrays.specs.Times.{IsTime}
+use Rattle.xr_times.specs.Times.{IsTime}
 
 -- ---- attributes
 
@@ -40,10 +40,10 @@ pub record AreAttributes (attrs : List Attr) : Type 0 where
 
 -- ---- axes
 
--- whole numbers are of an integer kind and in its range, and times stand in the years 1 to 9999
+-- whole numbers are of an integer kind and in its range, and times stand in the years 1 to 9999 of their calendar
 abbrev pub AreLabels : LabelList → Type 0
 AreLabels (Numbers kind ns) = (is_integer_kind kind ≡ true) × All (InRange kind) ns
-AreLabels (Times coding ts) = All IsTime ts
+AreLabels (Times coding ts) = All (IsTime coding.units.calendar) ts
 AreLabels (Texts ts) = ⊤
 
 pub record IsIndex (n : ℕ) (l : Labels) : Type 0 where
@@ -79,7 +79,7 @@ pub record AreCells (shape : List ℕ) (kind : DType) (masked : Bool) (cells : L
 abbrev pub IsContent : List ℕ → Content → Type 0
 IsContent shape (contents.Cells a masked) = (a.shape ≡ shape) × AreCells shape a.kind masked a.cells
 IsContent shape (contents.Text text) = shape ≡ []
-IsContent shape (contents.Time coding t) = (shape ≡ []) × IsTime t
+IsContent shape (contents.Time coding t) = (shape ≡ []) × IsTime coding.units.calendar t
 
 -- each of its axes is one of these
 pub record IsCoordinate (axes : List Axis) (c : Coord) : Type 0 where

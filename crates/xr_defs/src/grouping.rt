@@ -1,6 +1,6 @@
 //! How positions of arrays and datasets are grouped.
 use std::alloc::{AllocError, Global};
-use xr_arrays::{Field, Freq};
+use xr_times::{Field, Freq};
 use xr_types::{DeepCopy, FoldKind, Items, Name};
 
 /// The size of the blocks along a dimension.

@@ -8,7 +8,7 @@ use Rattle.xr_types.specs.declared.attr.NcType.{NcType}
 use Rattle.xr_defs.specs.declared.write_options.WriteOptions.{WriteOptions}
 use Rattle.xr_types.specs.Results.{◌>>=◌, unless}
 use Rattle.xr_defs.specs.Decoding.{is_attr, own_fill, fill_numbers, attr_numbers, the_one}
-use Rattle.xr_defs.specs.Encoding.{Stored, type_of, written_type, holds, first_of, fill_for, own_attr, fill_added, check_fit, text_attr, dtype_added, coordinates_added, attrs_of}
+use Rattle.xr_defs.specs.Encoding.{Stored, type_of, holds, first_of, fill_for, own_attr, fill_added, check_fit, text_attr, dtype_added, coordinates_added, attrs_of}
 use Rattle.xr_encode.specs.declared.outline.Outline.{Outline}
 use Rattle.xr_encode.specs.Outlines.{without_cells}
 use Rattle.xr_encode.specs.Attributes.{fill_of_type, fill_in_use, written_anew, option_in_use, fill_given}
@@ -110,11 +110,18 @@ pub listed : (names : List (List ℕ)) (first raw : List ℕ) (a : Attr) → 1 �
 listed [] first raw a some is text made = absurd (omega arith)
 listed (n ∷ names) first raw a some is text made = ap (λ b. b ∷ []) made ∙ ap (λ t. text_attr (codes "coordinates") t ∷ []) (text ∙ ap (λ m. join_with_byte 32 (m ∷ names)) is)
 
-pub attrs_made : (options : WriteOptions) (o : Outline) (t : NcType) (own option : Option ℤ) (a b c d e : List Attr) → t ≡ type_of options.version o.kind → a ≡ [] → own ≡ fill_in_use o → option ≡ option_in_use options o → b ≡ a ++ map (written_anew t own) o.attrs → c ≡ b ++ dtype_added o.kind
+-- where no number is in use, each attribute stays
+kept : (t : NcType) (attrs : List Attr) → map (written_anew t None) attrs ≡ attrs
+kept t [] = refl
+kept t (a ∷ attrs) = ap (λ l. a ∷ l) (kept t attrs)
+
+pub attrs_made : (options : WriteOptions) (o : Outline) (t : NcType) (own option : Option ℤ) (a b b' c d e : List Attr) → t ≡ type_of options.version o.kind → a ≡ [] → own ≡ fill_in_use o → option ≡ option_in_use options o → b ≡ a ++ map (written_anew t own) o.attrs → b' ≡ b ++ map (written_anew t None) o.coding → c ≡ b' ++ dtype_added o.kind
     → d ≡ c ++ fill_given t option → e ≡ d ++ coordinates_added o.lists → e ≡ attrs_of options (without_cells o)
-attrs_made options o t own option a b c d e is_t is_a is_own is_option is_b is_c is_d is_e =
+attrs_made options o t own option a b b' c d e is_t is_a is_own is_option is_b is_b' is_c is_d is_e =
     let mine : List Attr = map (own_attr options (without_cells o)) o.attrs in
     let b_is : b ≡ mine = is_b ∙ ap (λ l. l ++ map (written_anew t own) o.attrs) is_a ∙ ap (λ n. map (written_anew t n) o.attrs) is_own ∙ ap (λ u. map (written_anew u (fill_in_use o)) o.attrs) is_t ∙ own_are options o o.attrs in
     let given_is : fill_given t option ≡ fill_added options (without_cells o) = ap (fill_given t) is_option ∙ ap (λ u. fill_given u (option_in_use options o)) is_t ∙ option_is options o in
-    is_e ∙ ap (λ l. l ++ coordinates_added o.lists) (is_d ∙ ap (λ l. c ++ l) given_is ∙ ap (λ l. l ++ fill_added options (without_cells o)) (is_c ∙ ap (λ l. l ++ dtype_added o.kind) b_is))
-    ∙ append_assoc (mine ++ dtype_added o.kind) (fill_added options (without_cells o)) (coordinates_added o.lists) ∙ append_assoc mine (dtype_added o.kind) (fill_added options (without_cells o) ++ coordinates_added o.lists)
+    let coded : b' ≡ mine ++ o.coding = is_b' ∙ ap (λ l. b ++ l) (kept t o.coding) ∙ ap (λ l. l ++ o.coding) b_is in
+    let more : List Attr = fill_added options (without_cells o) ++ coordinates_added o.lists in
+    is_e ∙ ap (λ l. l ++ coordinates_added o.lists) (is_d ∙ ap (λ l. c ++ l) given_is ∙ ap (λ l. l ++ fill_added options (without_cells o)) (is_c ∙ ap (λ l. l ++ dtype_added o.kind) coded))
+    ∙ append_assoc ((mine ++ o.coding) ++ dtype_added o.kind) (fill_added options (without_cells o)) (coordinates_added o.lists) ∙ append_assoc (mine ++ o.coding) (dtype_added o.kind) more ∙ append_assoc mine o.coding (dtype_added o.kind ++ more)

@@ -1,5 +1,5 @@
 -- Of a file that is small all counts and lengths fit their fields.
-use Rattle.std.proofs.Common.{◌≡◌, ◌<◌, ◌≤◌, ◌+◌, ◌*◌, ◌/◌, ℕ, suc, Bool, true, false, cond, List, [], ◌∷◌, length, map, sum, refl, ap, arith, length-append}
+use Rattle.std.proofs.Common.{◌≡◌, ◌≤◌, ◌+◌, ◌*◌, ◌/◌, ℕ, suc, Bool, true, false, cond, List, [], ◌∷◌, length, map, sum, refl, ap, arith, length-append}
 use Rattle.std.specs.Prelude.{not, ◌&&◌, ◌==◌, filter, flat_map, nat_le, if◌then◌else◌}
 use Rattle.std.specs.List.{AllByRecursion}
 use Rattle.std.proofs.lemmas.Bool.{and_parts}

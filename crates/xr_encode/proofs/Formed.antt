@@ -17,6 +17,8 @@ use Rattle.xr_types.specs.declared.attr.NcType.{NcType}
 use Rattle.xr_types.specs.declared.attr.NcType.TheVariants.{Byte, Char, Short, Int}
 use Rattle.xr_types.specs.declared.axis.Axis.{Axis}
 use Rattle.xr_types.specs.declared.axis.Labels.{Labels}
+use Rattle.xr_types.specs.declared.axis.TimeCoding.{TimeCoding}
+use Rattle.xr_types.specs.declared.axis.TimeUnit.{TimeUnit}
 use Rattle.xr_types.specs.declared.axis.LabelList.{LabelList}
 use Rattle.xr_types.specs.declared.axis.LabelList.TheVariants.{Numbers, Times, Texts}
 use Rattle.xr_types.specs.declared.fault.Fault.TheVariants.{DuplicateName, CannotHold}
@@ -36,15 +38,16 @@ use Rattle.xr_types.specs.Widths.{width}
 use Rattle.xr_files.specs.Classic.{has_type, most_count, attr_names, dim_names, is_name}
 use Rattle.xr_files.specs.Files.{is_version, positions, shape_of}
 use Rattle.xr_types.specs.Names.{are_distinct}
-use Rattle.xr_files.specs.Canonical.{can_hold, in_place, count_record_dims, is_small, slab, dim_text, var_text, has_types, can_hold_var, Fits, IsDim, IsVar, IsFile}
+use Rattle.xr_files.specs.Canonical.{can_hold, count_record_dims, is_small, slab, dim_text, var_text, has_types, can_hold_var, Fits, IsDim, IsVar, IsFile}
 use Rattle.xr_types.specs.Names.{axis_names, shape_over}
 use Rattle.xr_defs.specs.Values.{Dataset, Variable, label_count}
 use Rattle.xr_defs.specs.Selecting.{axis_called}
 use Rattle.xr_defs.specs.Printing.{by_name}
 use Rattle.xr_defs.specs.Decoding.{is_attr, is_blank, string_name}
-use Rattle.xr_defs.specs.Encoding.{Stored, classic_type, own_type, type_of, value_bytes, text_width, filled_up, text_cells, stored, stored_index, stored_labels, stored_content, stored_coord, stored_variable, coord_names, index_width, labels_width, content_width, coord_width, each_once, text_widths, attrs_of, records_of, own_attr, fill_attr, attr_fill, is_fill_in_use, added, dtype_added, fill_added, uses_option, coordinates_added, text_attr, listed_by_none, empty_axes, record_dim, is_that, axis_named, dim_of_axis, string_dim, dims_of, number_of_dim, number_for, var_of, encoded, has_width, are_new, stands_first, check_unlimited, check_names, check_records, check_fill, check_fit}
+use Rattle.xr_defs.specs.Encoding.{Stored, classic_type, own_type, type_of, value_bytes, text_width, filled_up, text_cells, stored, stored_index, stored_labels, stored_content, stored_coord, stored_variable, coord_names, index_width, labels_width, content_width, coord_width, each_once, text_widths, attrs_of, records_of, own_attr, fill_attr, attr_fill, is_fill_in_use, added, dtype_added, fill_added, uses_option, coordinates_added, text_attr, calendar_attr, coding_attrs, units_written, count_of, stored_times, listed_by_none, empty_axes, record_dim, is_that, axis_named, dim_of_axis, string_dim, dims_of, number_of_dim, number_for, var_of, encoded, has_width, are_new, stands_first, check_unlimited, check_names, check_records, check_fill, check_fit}
 use Rattle.xr_defs.specs.WellFormed.{IsAttribute, AreAttributes, IsIndex, IsDimension, IsContent, IsCoordinate, IsVariable, IsDataset, labelled, variable_names}
 use Rattle.xr_files.proofs.Counts.{small_fits}
+use Rattle.xr_times.specs.Counts.{written_unit}
 use Rattle.xr_encode.specs.Dimensions.{is_axisless}
 use Rattle.xr_encode.specs.Encoded.{check_outlines}
 use Rattle.std.proofs.lemmas.List.Folds.{list_all-append}
@@ -158,10 +161,20 @@ unfolding is_utf8 chars Utf8.encode
 coordinates_formed [] = tt
 coordinates_formed (n ∷ ns) = (text_formed (codes "coordinates") _ refl, tt)
 
-added_formed : (options : WriteOptions) (o : Stored) → AllByRecursion IsAttribute (added options o)
-added_formed options o =
-    all_join IsAttribute (dtype_added o.kind) (fill_added options o ++ coordinates_added o.lists) (dtype_formed o.kind)
-    (all_join IsAttribute (fill_added options o) (coordinates_added o.lists) (fill_by options o (unwrap_or options.fill (pos 0)) (uses_option options o)) (coordinates_formed o.lists))
+added_formed : (options : WriteOptions) (o : Stored) → AllByRecursion IsAttribute o.coding → AllByRecursion IsAttribute (added options o)
+added_formed options o coding =
+    all_join IsAttribute o.coding (dtype_added o.kind ++ (fill_added options o ++ coordinates_added o.lists)) coding
+    (all_join IsAttribute (dtype_added o.kind) (fill_added options o ++ coordinates_added o.lists) (dtype_formed o.kind)
+    (all_join IsAttribute (fill_added options o) (coordinates_added o.lists) (fill_by options o (unwrap_or options.fill (pos 0)) (uses_option options o)) (coordinates_formed o.lists)))
+
+calendar_formed : (text : Option (List ℕ)) → AllByRecursion IsAttribute (calendar_attr text)
+unfolding is_utf8 chars Utf8.encode
+calendar_formed None = tt
+calendar_formed (Some text) = (text_formed (codes "calendar") text refl, tt)
+
+coding_formed : (coding : TimeCoding) (u : TimeUnit) → AllByRecursion IsAttribute (coding_attrs coding u)
+unfolding is_utf8 chars Utf8.encode
+coding_formed coding u = (text_formed (codes "units") (units_written coding u) refl, calendar_formed coding.calendar_text)
 
 -- the names of those that are added
 abbrev dtype_names : DType → List (List ℕ)
@@ -209,6 +222,27 @@ three_distinct kinds.UInt64 true options o n (c ∷ cs) = refl
 three_distinct kinds.UInt64 false options o n [] = refl
 three_distinct kinds.UInt64 false options o n (c ∷ cs) = refl
 
+times_by : (b : Bool) (options : WriteOptions) (o : Stored) (n : ℤ) (units : List ℕ) (calendar : Option (List ℕ)) (names : List (List ℕ))
+    → are_distinct (attr_names ((text_attr (codes "units") units ∷ calendar_attr calendar) ++ (dtype_added kinds.Int64 ++ (cond b (fill_attr options o n ∷ []) [] ++ coordinates_added names)))) ≡ true
+times_by true options o n units None [] = refl
+times_by true options o n units None (c ∷ cs) = refl
+times_by true options o n units (Some text) [] = refl
+times_by true options o n units (Some text) (c ∷ cs) = refl
+times_by false options o n units None [] = refl
+times_by false options o n units None (c ∷ cs) = refl
+times_by false options o n units (Some text) [] = refl
+times_by false options o n units (Some text) (c ∷ cs) = refl
+
+-- those that are added to cells, to texts, and to times
+plain_added : (options : WriteOptions) (o : Stored) → o.coding ≡ [] → are_distinct (attr_names (added options o)) ≡ true
+plain_added options o none =
+    ap (λ l. are_distinct (attr_names (l ++ (dtype_added o.kind ++ (fill_added options o ++ coordinates_added o.lists))))) none ∙ three_distinct o.kind (uses_option options o) options o (unwrap_or options.fill (pos 0)) o.lists
+
+times_added : (options : WriteOptions) (name : List ℕ) (dims : List (List ℕ)) (attrs : List Attr) (coding : TimeCoding) (ts : List ℤ) (u : TimeUnit) → are_distinct (attr_names (added options (stored_times name dims attrs coding ts u))) ≡ true
+times_added options name dims attrs coding ts u =
+    let o : Stored = stored_times name dims attrs coding ts u in
+    times_by (uses_option options o) options o (unwrap_or options.fill (pos 0)) (units_written coding u) coding.calendar_text []
+
 -- names of which no attribute is there
 among_is : (own : List Attr) (name : List ℕ) → list_any (is_attr name) own ≡ among (attr_names own) name
 among_is [] name = refl
@@ -238,10 +272,10 @@ one_distinct : (names : List (List ℕ)) → are_distinct (attr_names (coordinat
 one_distinct [] = refl
 one_distinct (n ∷ ns) = refl
 
-all_distinct : (options : WriteOptions) (o : Stored) → AreAttributes o.attrs → are_new o.attrs (added options o) ≡ true → are_distinct (attr_names (attrs_of options o)) ≡ true
-all_distinct options o is new =
+all_distinct : (options : WriteOptions) (o : Stored) → AreAttributes o.attrs → are_distinct (attr_names (added options o)) ≡ true → are_new o.attrs (added options o) ≡ true → are_distinct (attr_names (attrs_of options o)) ≡ true
+all_distinct options o is once new =
     ap are_distinct (map-append (λ (a : Attr). a.name) (map (own_attr options o) o.attrs) (added options o) ∙ ap (λ ns. ns ++ attr_names (added options o)) (own_names options o o.attrs))
-    ∙ distinct_join (attr_names o.attrs) (attr_names (added options o)) is.distinct (three_distinct o.kind (uses_option options o) options o (unwrap_or options.fill (pos 0)) o.lists)
+    ∙ distinct_join (attr_names o.attrs) (attr_names (added options o)) is.distinct once
     (apart_swap (attr_names o.attrs) (attr_names (added options o)) (apart_from o.attrs (added options o) (not_true (list_any (λ (a : Attr). list_any (is_attr a.name) o.attrs) (added options o)) new)))
 
 -- ---- a variable that fits together
@@ -249,6 +283,8 @@ all_distinct options o is new =
 pub record IsFormed (set : Dataset) (options : WriteOptions) (o : Stored) : Type 0 where
   pub name : is_name o.name ≡ true
   pub attrs : AreAttributes o.attrs
+  pub coding : AllByRecursion IsAttribute o.coding
+  pub once : are_distinct (attr_names (added options o)) ≡ true
   pub sizes : List ℕ
   pub known : AreKnown set options o.dims sizes
   pub whole : length o.cells ≡ size sizes
@@ -270,7 +306,7 @@ var_good set options o is new le =
       name = record { name = is.name; fits = var_name options.version dims v le };
       dims = numbers_inside set options o.dims is.sizes is.known;
       rank_fits = var_rank options.version dims v le;
-      attrs = attrs_good options.version (attrs_of options o) (all_join IsAttribute (map (own_attr options o) o.attrs) (added options o) (own_formed options o o.attrs is.attrs.each) (added_formed options o)) (all_distinct options o is.attrs new) (var_attrs options.version dims v le);
+      attrs = attrs_good options.version (attrs_of options o) (all_join IsAttribute (map (own_attr options o) o.attrs) (added options o) (own_formed options o o.attrs is.attrs.each) (added_formed options o is.coding)) (all_distinct options o is.attrs is.once new) (var_attrs options.version dims v le);
       raw = raw_length options o o.cells ∙ ap (λ n. n * width (type_of options.version o.kind)) (is.whole ∙ ap size (sym (shape_is set options o.dims is.sizes is.known)));
     }
 
@@ -382,13 +418,22 @@ IsWidth set options n = IsKnown set options (string_name n) n
 list_formed : (set : Dataset) (options : WriteOptions) (name : List ℕ) (n : ℕ) (attrs : List Attr) (list : LabelList) → is_name name ≡ true → AreAttributes attrs → label_count list ≡ n → IsKnown set options name n
     → MatchOption (labels_width list) ⊤ (IsWidth set options) → IsFormed set options (stored_labels name attrs list)
 list_formed set options name n attrs (Numbers kind ns) is_n is_a count known width =
-    record { name = is_n; attrs = is_a; sizes = n ∷ []; known = (known, tt); whole = length-map ns Some ∙ count ∙ omega arith }
+    record { name = is_n; attrs = is_a; coding = tt; once = plain_added options (stored_labels name attrs (Numbers kind ns)) refl; sizes = n ∷ []; known = (known, tt); whole = length-map ns Some ∙ count ∙ omega arith }
 list_formed set options name n attrs (Times coding ts) is_n is_a count known width =
-    record { name = is_n; attrs = is_a; sizes = n ∷ []; known = (known, tt); whole = length-map ts Some ∙ count ∙ omega arith }
+    let u : TimeUnit = written_unit coding.units ts in
+    record {
+      name = is_n;
+      attrs = is_a;
+      coding = coding_formed coding u;
+      once = times_added options name (name ∷ []) attrs coding ts u;
+      sizes = n ∷ [];
+      known = (known, tt);
+      whole = length-map ts (λ t. Some (count_of u coding.units.reference t)) ∙ count ∙ omega arith;
+    }
 list_formed set options name n attrs (Texts texts) is_n is_a count known width =
     let w : ℕ = text_width texts in
     let one : w ≡ w * 1 = omega arith in
-    record { name = is_n; attrs = is_a; sizes = n ∷ w ∷ []; known = (known, (width, tt)); whole = cells_length texts ∙ ap (λ k. k * w) count ∙ ap (λ k. n * k) one }
+    record { name = is_n; attrs = is_a; coding = tt; once = plain_added options (stored_labels name attrs (Texts texts)) refl; sizes = n ∷ w ∷ []; known = (known, (width, tt)); whole = cells_length texts ∙ ap (λ k. k * w) count ∙ ap (λ k. n * k) one }
 
 index_formed : (set : Dataset) (options : WriteOptions) (x : Axis) (o : Option Labels) (rest : List Axis) → is_name x.name ≡ true → MatchOption o ⊤ (IsIndex x.size) → IsKnown set options x.name x.size
     → MatchOption (elim o [ None ↦ None | Some l ↦ labels_width l.list ]) ⊤ (IsWidth set options) → AllByRecursion (IsFormed set options) (filter_map stored_index rest)
@@ -408,11 +453,14 @@ over_known set options (x ∷ xs) full all = (axis_known set options x.name x fu
 
 content_formed : (set : Dataset) (options : WriteOptions) (c : Coord) (content : Content) → list_all (is_that (record_dim set options)) (empty_axes set) ≡ true → IsCoordinate set.axes c → IsContent (shape_over c.axes) content → MatchOption (content_width content) ⊤ (IsWidth set options)
     → IsFormed set options (stored_content c content)
-content_formed set options c (contents.Cells a masked) full is cells width = record { name = is.name; attrs = is.attrs; sizes = shape_over c.axes; known = over_known set options c.axes full is.over; whole = cells.1.whole }
+content_formed set options c (contents.Cells a masked) full is cells width =
+    record { name = is.name; attrs = is.attrs; coding = tt; once = plain_added options (stored_content c (contents.Cells a masked)) refl; sizes = shape_over c.axes; known = over_known set options c.axes full is.over; whole = cells.1.whole }
 content_formed set options c (contents.Text text) full is cells width =
     let w : ℕ = text_width (text ∷ []) in
-    record { name = is.name; attrs = is.attrs; sizes = w ∷ []; known = (width, tt); whole = cells_length (text ∷ []) ∙ omega arith }
-content_formed set options c (contents.Time coding t) full is cells width = record { name = is.name; attrs = is.attrs; sizes = []; known = tt; whole = refl }
+    record { name = is.name; attrs = is.attrs; coding = tt; once = plain_added options (stored_content c (contents.Text text)) refl; sizes = w ∷ []; known = (width, tt); whole = cells_length (text ∷ []) ∙ omega arith }
+content_formed set options c (contents.Time coding t) full is cells width =
+    let u : TimeUnit = written_unit coding.units (t ∷ []) in
+    record { name = is.name; attrs = is.attrs; coding = coding_formed coding u; once = times_added options c.name [] c.attrs coding (t ∷ []) u; sizes = []; known = tt; whole = refl }
 
 coords_formed : (set : Dataset) (options : WriteOptions) (cs : List Coord) → list_all (is_that (record_dim set options)) (empty_axes set) ≡ true → AllByRecursion (IsCoordinate set.axes) cs → AllByRecursion (λ c. MatchOption (coord_width c) ⊤ (IsWidth set options)) cs
     → AllByRecursion (IsFormed set options) (map stored_coord cs)
@@ -425,8 +473,18 @@ dims_known set options (d ∷ ds) full all = (axis_known set options d (axis_cal
 
 variables_formed : (set : Dataset) (options : WriteOptions) (vs : List Variable) → list_all (is_that (record_dim set options)) (empty_axes set) ≡ true → AllByRecursion (IsVariable set.axes) vs → AllByRecursion (IsFormed set options) (map (stored_variable set) vs)
 variables_formed set options [] full is = tt
-variables_formed set options (v ∷ vs) full is =
-    (record { name = is.0.name; attrs = is.0.attrs; sizes = map (λ d. (axis_called set.axes d).size) v.dims; known = dims_known set options v.dims full is.0.over; whole = is.0.cells.whole }, variables_formed set options vs full is.1)
+variables_formed set options (v ∷ vs) full is = (
+  record {
+    name = is.0.name;
+    attrs = is.0.attrs;
+    coding = tt;
+    once = plain_added options (stored_variable set v) refl;
+    sizes = map (λ d. (axis_called set.axes d).size) v.dims;
+    known = dims_known set options v.dims full is.0.over;
+    whole = is.0.cells.whole;
+  },
+  variables_formed set options vs full is.1,
+)
 
 axes_known : (set : Dataset) (options : WriteOptions) → list_all (is_that (record_dim set options)) (empty_axes set) ≡ true → (xs : List Axis) → AllByRecursion (λ (x : Axis). axis_named x.name set.axes ≡ Some x) xs → AllByRecursion (λ (x : Axis). IsKnown set options x.name x.size) xs
 axes_known set options full [] all = tt

@@ -2,6 +2,7 @@ pub mod Sorted
 pub mod Once
 pub mod Values
 pub mod Attributes
+pub mod Counted
 pub mod Typed
 pub mod Runs
 pub mod Shared

@@ -1,5 +1,5 @@
 -- What the type of a kind holds.
-use Rattle.std.proofs.Common.{◌≡◌, ◌==◌, ℕ, ℤ, pos, ◌≤ℤ◌, Bool, true, false, cond, List, [], ◌∷◌, map, Option, Some, None, refl, sym, ap, ◌∙◌, All, arith}
+use Rattle.std.proofs.Common.{◌≡◌, ◌==◌, ℕ, ℤ, pos, ◌≤ℤ◌, Bool, true, false, cond, List, [], ◌∷◌, Option, Some, None, refl, sym, ap, ◌∙◌, All, arith}
 use Rattle.std.specs.Prelude.{◌&&◌, ◌||◌, int_le, is_some, unwrap_or, Ok}
 use Rattle.std.specs.List.{list_any, list_all}
 use Rattle.std.specs.Ordering.{int_eq}
@@ -104,10 +104,6 @@ held_masked t fill [] h f = refl
 held_masked t fill (c ∷ cells) h f =
     let both = and_parts (holds_cell t c) (list_all (holds_cell t) cells) h in
     and_both _ _ (or_fill t fill c both.0 f) (held_masked t fill cells both.1 f)
-
-pub held_labels : (t : NcType) (fill : ℤ) (ns : List ℤ) → are_held t fill (map Some ns) ≡ list_all (holds_cell t) (map Some ns)
-held_labels t fill [] = refl
-held_labels t fill (n ∷ ns) = ap (λ b. holds t n && b) (held_labels t fill ns)
 
 -- ---- which cells read as missing again
 

@@ -1,21 +1,20 @@
 -- Cells as they stand in a file: which are not seen, and that their numbers are written as the bytes that spell them.
-use Rattle.std.proofs.Common.{◌≡◌, ◌≢◌, ◌+◌, ◌*◌, ◌/◌, ◌%◌, ◌<◌, ◌≤◌, ℕ, ℤ, zero, suc, Bool, true, false, not, cond, ◌&&◌, ◌||◌, List, [], ◌∷◌, ◌++◌, length, map, drop, get_or, slice_index, Option, Some, None, zero-add, refl, sym, ap, ◌∙◌, All, inl, inr, arith}
+use Rattle.std.proofs.Common.{◌≡◌, ◌+◌, ◌*◌, ◌/◌, ◌%◌, ◌<◌, ◌≤◌, ℕ, ℤ, zero, suc, Bool, true, false, not, cond, ◌&&◌, ◌||◌, List, [], ◌∷◌, ◌++◌, length, map, drop, slice_index, Option, Some, None, zero-add, refl, sym, ap, ◌∙◌, inl, inr, arith}
 use Rattle.std.specs.List.{flat_map, list_all, list_any, range_with_len}
 use Rattle.std.specs.Ordering.{int_eq}
 use Rattle.std.specs.Int.{w8, w16, w32, w64, from_be_bytes, to_be_bytes}
 use Rattle.std.proofs.Math.Nat.{mul-div_cancel}
 use Rattle.std.proofs.lemmas.Bool.{cases_Bool, and_parts}
 use Rattle.std.proofs.lemmas.Bool.Decides.{Decides-int_eq}
-use Rattle.std.proofs.lemmas.Int.{ints, of_z-to_z}
+use Rattle.std.proofs.lemmas.Int.{of_z-to_z}
 use Rattle.std.proofs.lemmas.Nat.{be_bytes_2, be_bytes_4, be_bytes_8, mul-le}
-use Rattle.std.proofs.lemmas.List.{at_drop_all, at_drop_more, length-drop, length-take-le}
-use Rattle.std.proofs.lemmas.List.FromFn.{get_or-map-range_with_len, length-map-range_with_len}
+use Rattle.std.proofs.lemmas.List.{length-drop, length-take-le}
 use Rattle.xr_types.specs.declared.attr.NcType.{NcType}
 use Rattle.xr_types.specs.declared.attr.NcType.TheVariants.{Byte, Char, Short, Int, Float, Double, UByte, UShort, UInt, Int64, UInt64}
 use Rattle.xr_files.proofs.FormatLaws.{IsBytes, IsBytes-drop, IsBytes-take}
 use Rattle.xr_types.specs.Points.{size}
 use Rattle.xr_types.specs.Widths.{width}
-use Rattle.xr_arrays.specs.Numbers.{is_whole, number_in, value_at, numbers_of}
+use Rattle.xr_arrays.specs.Numbers.{is_whole, number_in, value_at}
 use Rattle.xr_arrays.specs.Stored.{is_fill, unless_fill, stored_cells, IsStored}
 use Rattle.xr_defs.specs.Encoding.{value_bytes}
 use Rattle.cdf_writer.proofs.Standing.{pieces}

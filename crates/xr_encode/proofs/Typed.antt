@@ -11,7 +11,7 @@ use Rattle.xr_files.specs.Classic.{number_of, has_type}
 use Rattle.xr_files.specs.Canonical.{has_types}
 use Rattle.xr_defs.specs.declared.write_options.WriteOptions.{WriteOptions}
 use Rattle.xr_defs.specs.Decoding.{is_attr}
-use Rattle.xr_defs.specs.Encoding.{Stored, classic_type, own_type, type_of, own_attr, dtype_added, fill_attr, fill_added, uses_option, coordinates_added, attrs_of}
+use Rattle.xr_defs.specs.Encoding.{Stored, classic_type, own_type, type_of, own_attr, dtype_added, fill_attr, fill_added, uses_option, coordinates_added}
 use Rattle.xr_encode.specs.declared.outline.Outline.{Outline}
 use Rattle.xr_encode.specs.Outlines.{without_cells}
 use Rattle.xr_encode.specs.Attributes.{fill_in_use, fill_of_type, written_anew, is_typed}
@@ -112,13 +112,15 @@ pub coordinates_there : (version : ℕ) (names : List (List ℕ)) → has_types 
 coordinates_there version [] = refl
 coordinates_there version (n ∷ names) = ap (λ b. b && true) (char_there version)
 
-pub typed_are : (options : WriteOptions) (o : Outline) → list_all (is_typed options.version (fill_in_use o)) o.attrs ≡ are_typed options o
+pub typed_are : (options : WriteOptions) (o : Outline) → (list_all (is_typed options.version (fill_in_use o)) o.attrs && list_all (is_typed options.version None) o.coding) ≡ are_typed options o
 typed_are options o =
     let v = options.version in
     let mine : List Attr = map (own_attr options (without_cells o)) o.attrs in
     let more : List Attr = fill_added options (without_cells o) ++ coordinates_added o.lists in
-    sym (list_all-append (λ (a : Attr). has_type v a.kind) mine (dtype_added o.kind ++ more) ∙ ap (λ b. has_types v mine && b) (dtype_there v o.kind more ∙ fill_there options (without_cells o) (unwrap_or options.fill (pos 0)) (uses_option options (without_cells o)) (coordinates_added o.lists) ∙ coordinates_there v o.lists)
-    ∙ and_true (has_types v mine) ∙ own options o o.attrs)
+    let added_there : has_types v (dtype_added o.kind ++ more) ≡ true = dtype_there v o.kind more ∙ fill_there options (without_cells o) (unwrap_or options.fill (pos 0)) (uses_option options (without_cells o)) (coordinates_added o.lists) ∙ coordinates_there v o.lists in
+    sym (list_all-append (λ (a : Attr). has_type v a.kind) mine (o.coding ++ (dtype_added o.kind ++ more))
+    ∙ ap (λ b. has_types v mine && b) (list_all-append (λ (a : Attr). has_type v a.kind) o.coding (dtype_added o.kind ++ more) ∙ ap (λ b. has_types v o.coding && b) added_there ∙ and_true (has_types v o.coding))
+    ∙ ap (λ b. b && has_types v o.coding) (own options o o.attrs))
 
 -- where no number is in use, each attribute stays
 pub given_none : (version : ℕ) (attrs : List Attr) → list_all (is_typed version None) attrs ≡ has_types version attrs

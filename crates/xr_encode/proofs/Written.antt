@@ -1,8 +1,8 @@
 -- A variable that was checked, with its values.
-use Rattle.std.proofs.Common.{◌≡◌, ◌==◌, ℕ, ℤ, pos, Bool, true, false, cond, List, [], ◌∷◌, ◌++◌, map, Option, Some, refl, sym, ap, ◌∙◌}
-use Rattle.std.specs.Prelude.{◌&&◌, ◌||◌, not, unwrap_or, flat_map, Ok, Err}
+use Rattle.std.proofs.Common.{◌≡◌, ◌==◌, ℕ, ℤ, pos, Bool, true, false, cond, List, [], ◌∷◌, ◌++◌, map, Option, Some, None, refl, sym, ap, ◌∙◌, All}
+use Rattle.std.specs.Prelude.{◌&&◌, ◌||◌, not, unwrap_or, flat_map, is_some, Ok, Err}
 use Rattle.std.specs.List.{list_all}
-use Rattle.xr_types.specs.declared.kind.DType.{DType}
+use Rattle.std.proofs.lemmas.List.Elements.{All-cons, All-head, All-nil, All-tail}
 use Rattle.xr_types.specs.declared.kind.DType.TheVariants as kinds
 use Rattle.xr_types.specs.declared.attr.NcType.{NcType}
 use Rattle.xr_types.specs.declared.attr.NcType.TheVariants.{Char}
@@ -14,7 +14,7 @@ use Rattle.xr_types.specs.Results.{◌>>=◌, unless}
 use Rattle.xr_defs.specs.Encoding.{Stored, holds_cell, classic_type, own_type, type_of, fill_for, check_fill, check_fit, check_cells, text_cells, text_width, filled_up, var_of, value_bytes}
 use Rattle.xr_encode.specs.declared.outline.Outline.{Outline}
 use Rattle.xr_encode.specs.Outlines.{filled_with, without_cells, outline_of}
-use Rattle.xr_encode.specs.Rows.{cells_bytes}
+use Rattle.xr_encode.specs.Rows.{number_or, cells_bytes}
 use Rattle.xr_encode.specs.Texts.{AreBytes}
 use Rattle.xr_encode.specs.Walk.{var_with, written_bytes, cells_if, var_checked}
 use Rattle.xr_encode.proofs.Bytes.{texts_hold, texts_again}
@@ -75,14 +75,24 @@ pub told_written : (small : Bool) (dims : List CdfDim) (options : WriteOptions) 
 told_written small dims options o cells v raw s m h bytes is =
     told small dims options o cells m h ∙ ap (λ b. Ok (var_of dims options (cells_if b (filled_with cells o)))) s ∙ sym (ap Ok (is ∙ ap (var_with dims options o) bytes))
 
--- ---- bytes of labels, of cells and of texts
+-- ---- bytes of cells and of texts
 
-same_bytes : (t : NcType) (f g : ℤ) (ns : List ℤ) → cells_bytes t f (map Some ns) ≡ cells_bytes t g (map Some ns)
-same_bytes t f g [] = refl
-same_bytes t f g (n ∷ ns) = ap (λ l. value_bytes t n ++ l) (same_bytes t f g ns)
+pub all_seen : (ns : List ℤ) → All (λ c. is_some c ≡ true) (map Some ns)
+all_seen [] = All-nil (λ c. is_some c ≡ true)
+all_seen (n ∷ ns) = All-cons (λ c. is_some c ≡ true) (Some n) (map Some ns) refl (all_seen ns)
 
-pub labels_written : (options : WriteOptions) (o : Outline) (ns : List ℤ) → cells_bytes (type_of options.version o.kind) (pos 0) (map Some ns) ≡ written_bytes options (filled_with (map Some ns) o)
-labels_written options o ns = same_bytes (type_of options.version o.kind) (pos 0) (unwrap_or (fill_for options (without_cells o)) (pos 0)) ns
+same_number : (f g : ℤ) (c : Option ℤ) → is_some c ≡ true → number_or f c ≡ number_or g c
+same_number f g None seen = cc
+same_number f g (Some n) seen = refl
+
+-- where no cell is missing, no number stands for one
+same_bytes : (t : NcType) (f g : ℤ) (cells : List (Option ℤ)) → All (λ c. is_some c ≡ true) cells → cells_bytes t f cells ≡ cells_bytes t g cells
+same_bytes t f g [] seen = refl
+same_bytes t f g (c ∷ cells) seen =
+    ap (λ n. value_bytes t n ++ cells_bytes t f cells) (same_number f g c (All-head (λ c. is_some c ≡ true) c cells seen)) ∙ ap (λ l. value_bytes t (number_or g c) ++ l) (same_bytes t f g cells (All-tail (λ c. is_some c ≡ true) c cells seen))
+
+pub seen_written : (options : WriteOptions) (o : Outline) (cells : List (Option ℤ)) → All (λ c. is_some c ≡ true) cells → cells_bytes (type_of options.version o.kind) (pos 0) cells ≡ written_bytes options (filled_with cells o)
+seen_written options o cells seen = same_bytes (type_of options.version o.kind) (pos 0) (unwrap_or (fill_for options (without_cells o)) (pos 0)) cells seen
 
 pub cells_written : (options : WriteOptions) (o : Outline) (t : NcType) (fill : ℤ) (cells : List (Option ℤ)) → t ≡ type_of options.version o.kind → fill ≡ unwrap_or (fill_for options (without_cells o)) (pos 0)
     → cells_bytes t fill cells ≡ written_bytes options (filled_with cells o)

@@ -1,5 +1,5 @@
 -- The variables of a dataset's file, but for their cells.
-use Rattle.std.specs.Prelude.{ℕ, Bool, not, List, ◌++◌, map, filter}
+use Rattle.std.specs.Prelude.{ℕ, Bool, not, List, [], ◌++◌, map, filter}
 use Rattle.std.specs.List.{list_any}
 use Rattle.xr_defs.specs.declared.value.Coord.{Coord}
 use Rattle.xr_types.specs.Names.{among}
@@ -13,7 +13,7 @@ use Rattle.xr_encode.specs.Outlines.{index_outlines, coord_outlines}
 -- a data variable, which lists the coordinates that have its dimensions alone
 abbrev pub variable_outline : List Coord → Variable → Outline
 variable_outline coords v =
-    record { name = v.name; dims = v.dims; kind = v.kind; masked = v.masked; attrs = v.attrs; lists = coord_names (by_name (coords_over v.dims coords)) }
+    record { name = v.name; dims = v.dims; kind = v.kind; masked = v.masked; attrs = v.attrs; coding = []; lists = coord_names (by_name (coords_over v.dims coords)) }
 
 abbrev pub outlines_of : Dataset → List Outline
 outlines_of s = index_outlines s.axes ++ (coord_outlines (by_name s.coords) ++ map (variable_outline s.coords) s.vars)

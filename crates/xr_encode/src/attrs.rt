@@ -13,7 +13,8 @@ use std::alloc::{AllocError, Global};
 use xr_defs::WriteOptions;
 use xr_types::{Attr, ByteList, DType, DeepCopy, Items, Name, NcType};
 
-fn text_attr(alloc: Global, name: &str, text: ByteList) -> Result<Attr, AllocError>
+/// An attribute of a text.
+pub fn text_attr(alloc: Global, name: &str, text: ByteList) -> Result<Attr, AllocError>
     ensures { IfOk result (λ a. a ≡ text_attr name.now text) }
 {
     Ok(Attr {
@@ -176,6 +177,7 @@ pub fn attrs_of(
     let option = option_in_use(alloc, options, outline)?;
     let mut attrs = Items::new(alloc);
     push_own(alloc, &mut attrs, kind, own, outline.attrs.as_slice())?;
+    push_own(alloc, &mut attrs, kind, None, outline.coding.as_slice())?;
     push_dtype(alloc, &mut attrs, outline.kind)?;
     push_fill(alloc, &mut attrs, kind, option)?;
     push_coordinates(alloc, &mut attrs, outline.lists.as_slice())?;

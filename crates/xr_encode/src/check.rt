@@ -1,9 +1,9 @@
 //! The checks that look at no cells.
-ghost use Rattle.std.specs.Prelude.{◌≡◌, ◌&&◌, map, option_copied, IfOk};
+ghost use Rattle.std.specs.Prelude.{◌≡◌, ◌&&◌, ◌++◌, map, option_copied, IfOk};
 ghost use Rattle.std.specs.List.{list_any, list_all};
 ghost use Rattle.xr_types.specs.Results.{Answers, unless, all_of};
 ghost use Rattle.xr_defs.specs.Decoding.{is_attr};
-ghost use Rattle.xr_defs.specs.Encoding.{has_width, are_new, coord_names, dtype_added, coordinates_added, is_that, empty_axes, stands_first, check_unlimited, check_fill, check_fit};
+ghost use Rattle.xr_defs.specs.Encoding.{has_width, are_new, coord_names, dtype_added, fill_added, coordinates_added, is_that, empty_axes, stands_first, check_unlimited, check_fill, check_fit};
 ghost use Rattle.xr_files.specs.Canonical.{has_types};
 ghost use Rattle.xr_encode.specs.Outlines.{without_cells};
 ghost use Rattle.xr_encode.specs.Checks.{over, is_fill_new, list_none, has_new, names_checked, is_first, has_blank, are_typed, places_checked, records_checked};
@@ -81,6 +81,18 @@ fn has_attr(name: &str, attrs: &[Attr]) -> bool
     false
 }
 
+// No attribute has the name of one of these others.
+fn are_new(own: &[Attr], more: &[Attr]) -> bool
+    ensures { result ≡ are_new own.now more.now }
+{
+    for attr in more {
+        if has_attr(attr.name.as_str(), own) {
+            return false;
+        }
+    }
+    true
+}
+
 fn is_dtype_new(kind: DType, own: &[Attr]) -> bool
     ensures { result ≡ are_new own.now (dtype_added kind) }
 {
@@ -106,9 +118,13 @@ fn are_coordinates_new(names: &[Name], own: &[Attr]) -> bool
     }
 }
 
-// No attribute that is added to a variable is there already.
-fn has_new(alloc: Global, options: &WriteOptions, outline: &Outline) -> Result<bool, AllocError>
-    ensures { IfOk result (λ b. b ≡ has_new options.now outline.now) }
+// Neither `dtype` nor `_FillValue` nor `coordinates` is there already where it is added to a variable.
+fn has_plain_new(
+    alloc: Global,
+    options: &WriteOptions,
+    outline: &Outline,
+) -> Result<bool, AllocError>
+    ensures { IfOk result (λ b. b ≡ are_new outline.now.attrs (dtype_added outline.now.kind ++ (fill_added options.now (without_cells outline.now) ++ coordinates_added outline.now.lists))) }
 {
     let own = outline.attrs.as_slice();
     let fills = fill_numbers(alloc, own)?;
@@ -118,6 +134,17 @@ fn has_new(alloc: Global, options: &WriteOptions, outline: &Outline) -> Result<b
             && is_fill_new(uses_option, own)
             && are_coordinates_new(outline.lists.as_slice(), own),
     )
+}
+
+// No attribute that is added to a variable is there already.
+fn has_new(alloc: Global, options: &WriteOptions, outline: &Outline) -> Result<bool, AllocError>
+    ensures { IfOk result (λ b. b ≡ has_new options.now outline.now) }
+{
+    let own = outline.attrs.as_slice();
+    if !are_new(own, outline.coding.as_slice()) {
+        return Ok(false);
+    }
+    has_plain_new(alloc, options, outline)
 }
 
 fn have_new(alloc: Global, options: &WriteOptions, outlines: &[Outline]) -> Result<bool, AllocError>
@@ -223,7 +250,11 @@ fn are_outline_attrs_typed(
     ensures { IfOk result (λ b. b ≡ are_typed options.now outline.now) }
 {
     let fill = fill_in_use(alloc, outline)?;
-    Ok(are_typed(options.version, fill, outline.attrs.as_slice()))
+    let coding = outline.coding.as_slice();
+    Ok(
+        are_typed(options.version, fill, outline.attrs.as_slice())
+            && are_typed(options.version, None, coding),
+    )
 }
 
 fn are_all_typed(

@@ -143,6 +143,9 @@ fn encode_parts<R: Threads + Sync, C: Compute>(
 /// that stands for them doesn't fit; variable by variable in the order of the file a number that its type doesn't
 /// hold, or one that would read as missing; the file is too large. The cells of a data variable are computed when its
 /// turn comes, and where its node is declined that is the answer. The plan stays as it is.
+///
+/// Times are written as counts of their own unit where all of a variable are whole, else of the first of days, hours, minutes and
+/// seconds in which all are, from the reference as its text gives it.
 pub fn encode_set<R: Threads + Sync, C: Compute>(
     rt: &R,
     alloc: Global,

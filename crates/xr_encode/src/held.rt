@@ -6,9 +6,10 @@ ghost use Rattle.xr_defs.specs.Encoding.{stored_index, stored_labels, stored_coo
 ghost use Rattle.xr_defs.specs.WellFormed.{AreLabels, IsDimension};
 ghost use Rattle.xr_encode.specs.Walk.{var_checked, vars_from, Puts, HasContent};
 
+use crate::counts::counted;
 use crate::filled::array_var;
 use crate::outline::{coord_outline, labels_outline};
-use crate::plain::{integers_var, labels_var, texts_var};
+use crate::plain::{integers_var, run_var, texts_var};
 use std::alloc::Global;
 use std::slice::from_ref;
 use xr_defs::{Content, Coord, WriteOptions};
@@ -33,8 +34,9 @@ fn index_var(
         LabelList::Numbers(_, numbers) => {
             integers_var(alloc, dims, options, &outline, numbers, small)
         }
-        LabelList::Times(_, times) => {
-            labels_var(alloc, dims, options, &outline, times.as_slice(), small)
+        LabelList::Times(coding, times) => {
+            let run = counted(coding.units, times.as_slice());
+            run_var(alloc, dims, options, &outline, run, small)
         }
         LabelList::Texts(texts) => {
             texts_var(alloc, dims, options, &outline, texts.as_slice(), small)
@@ -79,7 +81,10 @@ fn coord_var(
     match &coord.content {
         Content::Cells(array, _) => array_var(alloc, dims, options, &outline, array, small),
         Content::Text(text) => texts_var(alloc, dims, options, &outline, from_ref(text), small),
-        Content::Time(_, time) => labels_var(alloc, dims, options, &outline, from_ref(time), small),
+        Content::Time(coding, time) => {
+            let run = counted(coding.units, from_ref(time));
+            run_var(alloc, dims, options, &outline, run, small)
+        }
     }
 }
 

@@ -4,8 +4,10 @@
 mod array;
 mod attrs;
 mod check;
+mod coding;
 mod computed;
 mod coords;
+mod counts;
 mod dims;
 mod encode;
 mod fill;

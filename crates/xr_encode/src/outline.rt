@@ -1,18 +1,23 @@
 //! Variables to be written, but for their cells: indexes in the order of the axes, other coordinates by name, data
 //! variables in order.
 ghost use Rattle.std.specs.Prelude.{◌≡◌, ◌∷◌, ◌++◌, [], false, map, IfOk, OnOk};
-ghost use Rattle.xr_defs.specs.Encoding.{stored_labels, stored_content, stored_coord, stored_cells, stored_texts};
+ghost use Rattle.xr_defs.specs.Encoding.{stored_labels, stored_content, stored_coord, stored_cells, stored_times};
+ghost use Rattle.xr_times.specs.Counts.{written_unit};
 ghost use Rattle.xr_types.specs.Names.{axis_names};
 ghost use Rattle.xr_defs.specs.Decoding.{string_name};
 ghost use Rattle.xr_types.specs.declared.kind.DType.TheVariants as kinds;
 ghost use Rattle.xr_encode.specs.Outlines.{outline_of, index_outlines, coord_outlines};
 
+use crate::coding::coding_attrs;
 use crate::name::{lone_width, string_name, text_width};
+use cf_time::written_unit;
 use std::alloc::{AllocError, Global};
+use std::slice::from_ref;
 use xr_defs::{Content, Coord};
-use xr_types::{Attr, Axis, DType, DeepCopy, Items, LabelList, Name, copy_all};
+use xr_types::{Attr, Axis, DType, DeepCopy, Items, LabelList, Name, TimeCoding, copy_all};
 
-/// A variable to be written, but for its cells. `lists` are the coordinates that its attribute `coordinates` will name.
+/// A variable to be written, but for its cells. `coding` are the attributes that say how its numbers count times, and
+/// `lists` the coordinates that its attribute `coordinates` will name.
 #[derive(Drop)]
 pub struct Outline {
     pub name: Name,
@@ -20,6 +25,7 @@ pub struct Outline {
     pub kind: DType,
     pub masked: bool,
     pub attrs: Items<Attr>,
+    pub coding: Items<Attr>,
     pub lists: Items<Name>,
 }
 
@@ -40,6 +46,7 @@ fn cells_outline(
         kind,
         masked,
         attrs: copy_all(alloc, attrs)?,
+        coding: Items::new(alloc),
         lists: Items::new(alloc),
     })
 }
@@ -56,6 +63,23 @@ fn texts_outline(
 {
     dims.push(string_name(alloc, width)?)?;
     cells_outline(alloc, name, dims, DType::Char, false, attrs)
+}
+
+// A variable of times, as counts of the unit in which they are written.
+fn times_outline(
+    alloc: Global,
+    name: &Name,
+    dims: Items<Name>,
+    attrs: &[Attr],
+    coding: &TimeCoding,
+    times: &[i64],
+) -> Result<Outline, AllocError>
+    ensures { IfOk result (λ o. o ≡ outline_of (stored_times name.now dims attrs.now coding.now [] (written_unit coding.now.units times.now))) }
+{
+    let unit = written_unit(&coding.units, times);
+    let mut outline = cells_outline(alloc, name, dims, DType::Int64, false, attrs)?;
+    outline.coding = coding_attrs(alloc, coding, unit)?;
+    Ok(outline)
 }
 
 fn one_name(alloc: Global, name: &Name) -> Result<Items<Name>, AllocError>
@@ -78,7 +102,9 @@ pub fn labels_outline(
     let dims = one_name(alloc, name)?;
     match list {
         LabelList::Numbers(kind, _) => cells_outline(alloc, name, dims, *kind, false, attrs),
-        LabelList::Times(_, _) => cells_outline(alloc, name, dims, DType::Int64, false, attrs),
+        LabelList::Times(coding, times) => {
+            times_outline(alloc, name, dims, attrs, coding, times.as_slice())
+        }
         LabelList::Texts(texts) => {
             texts_outline(alloc, name, dims, attrs, text_width(texts.as_slice()))
         }
@@ -142,14 +168,14 @@ pub fn coord_outline(alloc: Global, coord: &Coord) -> Result<Outline, AllocError
                 lone_width(text),
             )
         }
-        Content::Time(_, _) => {
-            cells_outline(
+        Content::Time(coding, time) => {
+            times_outline(
                 alloc,
                 &coord.name,
                 Items::new(alloc),
-                DType::Int64,
-                false,
                 attrs,
+                coding,
+                from_ref(time),
             )
         }
     }

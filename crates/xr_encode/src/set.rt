@@ -26,6 +26,7 @@ pub fn variable_outline(
         kind: variable.kind,
         masked: variable.masked,
         attrs: variable.attrs.deep_copy(alloc)?,
+        coding: Items::new(alloc),
         lists: listed_over(alloc, variable.dims.as_slice(), coords)?,
     })
 }

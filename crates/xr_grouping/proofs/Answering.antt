@@ -10,7 +10,7 @@ use Rattle.xr_types.specs.declared.fault.Fault.{Fault}
 use Rattle.xr_types.specs.declared.fault.Fault.TheVariants.{BadArgument}
 use Rattle.xr_types.specs.declared.operation.FoldKind.{FoldKind}
 use Rattle.xr_arrays.specs.declared.node.Node.{Node}
-use Rattle.xr_arrays.specs.declared.time.Field.{Field}
+use Rattle.xr_times.specs.declared.time.Field.{Field}
 use Rattle.xr_defs.specs.Arguments.{nothing_given}
 use Rattle.xr_defs.specs.Meanings.{Given}
 use Rattle.xr_defs.specs.declared.grouping.Grouping.TheVariants.{Dates}
@@ -27,8 +27,10 @@ use Rattle.xr_groups.specs.Groupings.{grouped_changes}
 use Rattle.xr_groups.specs.Listed.{axes_by, is_grouped}
 use Rattle.xr_groups.specs.Methods.{array_by, array_listed, of_groups}
 use Rattle.xr_grouping.specs.Mades.{dated_of, folded_made}
-use Rattle.xr_grouping.proofs.Facts.{dated, IsDated}
+use Rattle.xr_grouping.proofs.Changed.{dated, IsFull}
 use Rattle.xr_grouping.proofs.Folding.{is_listed, is_made}
+use Rattle.xr_grouping.proofs.Named.{one_of, IsOne}
+use Rattle.xr_parts.specs.Frames.{IsFrame}
 
 pub passes : (b : Bool) (f : Fault) → unless b f ≡ Ok tt → b ≡ true
 unfolding unless
@@ -51,17 +53,23 @@ Answers nodes k d field a g m = (dated_of k d field (array_in nodes a) g ≡ Ok 
 module _ (nodes : List Node) (k : FoldKind) (d : List ℕ) (field : Field) (a : DataArray) (g : Given) (cs : List Change) (m : Made) (is : IsArrayIn nodes a)
     (method : unless (of_groups k) BadArgument ≡ Ok tt) (none : nothing_given g ≡ Ok tt) (changes : grouped_changes (Dates d field) a.axes a.coords [] ≡ Ok cs)
     (few : check_size (shape_over (axes_by cs a.axes)) ≡ Ok tt) (em : m ≡ folded_made k (masked_after k a.masked) cs a) where
-  facts : IsDated a.axes a.coords cs
-  facts = dated d field a.axes a.coords cs (record { dims = is.formed.axes; over = is.formed.coords; distinct = is.formed.distinct }) changes
+  frame : IsFrame a.axes a.coords
+  frame = record { dims = is.formed.axes; over = is.formed.coords; distinct = is.formed.distinct }
+
+  facts : IsFull a.axes a.coords [] frame cs
+  facts = dated a.axes a.coords [] frame cs d field changes
 
   abbrev c : Change
   c = facts.change
+
+  one : IsOne a.axes a.coords c
+  one = one_of a.axes a.coords c frame facts.formed
 
   has : of_groups k ≡ true
   has = passes (of_groups k) BadArgument method
 
   grouped : is_grouped cs (axis_names a.axes) ≡ true
-  grouped = ap (λ ds. is_grouped ds (axis_names a.axes)) facts.is ∙ grouped_one c (axis_names a.axes) facts.formed.has
+  grouped = ap (λ ds. is_grouped ds (axis_names a.axes)) facts.is ∙ grouped_one c (axis_names a.axes) one.has
 
   small : size (shape_over (axes_by (c ∷ []) a.axes)) ≤ 33554432
   small = size_passed (shape_over (axes_by (c ∷ []) a.axes)) (subst (λ ds. check_size (shape_over (axes_by ds a.axes)) ≡ Ok tt) facts.is few)
@@ -77,8 +85,8 @@ module _ (nodes : List Node) (k : FoldKind) (d : List ℕ) (field : Field) (a : 
   told = (
     answer ∙ ap (λ b. Ok (cond b (array_listed k Never false cs None (array_in nodes a)) (array_in nodes a))) grouped
         ∙ ap (λ ds. Ok (array_listed k Never false ds None (array_in nodes a))) facts.is
-        ∙ ap Ok (sym (ap (made_in nodes) made_is ∙ is_listed nodes k c a is has facts.formed small)),
-    subst (IsMade nodes) (sym made_is) (is_made nodes k c a is has facts.formed small facts.full),
+        ∙ ap Ok (sym (ap (made_in nodes) made_is ∙ is_listed nodes k c a is has one small)),
+    subst (IsMade nodes) (sym made_is) (is_made nodes k c a is has one small facts.full),
   )
 
 -- as the code hands them on

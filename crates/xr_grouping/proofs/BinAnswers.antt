@@ -1,6 +1,6 @@
 -- The answer of a method of an array in bins.
 use Rattle.std.proofs.Common.{◌≡◌, ◌<◌, ◌≤◌, ◌==◌, ◌||◌, Bool, true, false, not, cond, ℕ, ℤ, List, [], ◌∷◌, length, get_or, Option, None, Some, is_some, All, Ok, refl, sym, ap, subst, ◌∙◌, arith}
-use Rattle.std.specs.List.{AllByRecursion, list_any}
+use Rattle.std.specs.List.{list_any}
 use Rattle.std.proofs.lemmas.Bool.{not-true, or_parts}
 use Rattle.std.proofs.lemmas.Bool.Decides.{nat_tests}
 use Rattle.std.proofs.lemmas.List.{length-map}
@@ -14,7 +14,7 @@ use Rattle.xr_types.specs.declared.fault.Fault.TheVariants.{BadArgument, DoesNot
 use Rattle.xr_types.specs.declared.kind.DType.{DType}
 use Rattle.xr_types.specs.declared.operation.FoldKind.{FoldKind}
 use Rattle.xr_arrays.specs.declared.node.Node.{Node}
-use Rattle.xr_arrays.specs.declared.time.Freq.{Freq}
+use Rattle.xr_times.specs.declared.time.Freq.{Freq}
 use Rattle.xr_arrays.specs.Arrays.{Array, IsCell}
 use Rattle.xr_arrays.specs.Folds.{fold_of, folded_kind}
 use Rattle.xr_arrays.specs.Nodes.{kept, ArePositions}
@@ -36,14 +36,16 @@ use Rattle.xr_operations.specs.Moves.{check_fill}
 use Rattle.xr_operations.specs.CellMethods.{check_fits}
 use Rattle.xr_defs.specs.Meanings.{Given}
 use Rattle.xr_formulas.specs.declared.chain.Chain.{Chain}
-use Rattle.xr_grouping.specs.Mades.{binned_of, fill_asked, folded_made, lists_chain, made_by, IsTimed}
+use Rattle.xr_grouping.specs.Mades.{binned_of, fill_asked, folded_made, lists_chain, made_by}
 use Rattle.xr_grouping.proofs.Answering.{grouped_one, passes}
 use Rattle.xr_grouping.proofs.Binned.{all_full}
 use Rattle.xr_grouping.proofs.Filling.{filled_listed, filled_made}
 use Rattle.xr_grouping.proofs.Ranges.{in_kind}
-use Rattle.xr_grouping.proofs.Facts.{binned, IsBinned}
+use Rattle.xr_grouping.proofs.Changed.{binned, IsOneOf}
 use Rattle.xr_grouping.proofs.Folding.{is_listed, is_made}
 use Rattle.xr_grouping.proofs.Listing.{found, found_length, listed_place, own}
+use Rattle.xr_grouping.proofs.Named.{one_of, IsOne}
+use Rattle.xr_parts.specs.Frames.{IsFrame}
 use Rattle.xr_grouping.proofs.OneList.{kept_one, place, place_inside}
 
 or_false : (b : Bool) → (b || false) ≡ b
@@ -75,26 +77,32 @@ module _ (k : FoldKind) (c : Change) (dims : List (List ℕ)) (shape : List ℕ)
   pub same_listed : (listed k Empty None (feeds_by (c ∷ []) dims) own_array).cells ≡ (listed k Never None (feeds_by (c ∷ []) dims) own_array).cells
   same_listed = tab_same after (λ p. cond (length (cells_found p) == 0) None (fold_of k t (cells_found p))) (λ p. fold_of k t (cells_found p)) (λ p here. ap (λ b. cond b None (fold_of k t (cells_found p))) (not_empty p here))
 
-fits_given : (t : DType) (fill : Option ℤ) → check_given t (Some fill) ≡ Ok tt → IsCell t fill
+pub fits_given : (t : DType) (fill : Option ℤ) → check_given t (Some fill) ≡ Ok tt → IsCell t fill
 unfolding check_given check_fill check_fits
 fits_given t None e = tt
 fits_given t (Some n) e = in_kind t n (passes (in_range t n) DoesNotFit e)
 
 module _ (nodes : List Node) (k : FoldKind) (d : List ℕ) (freq : Freq) (a : DataArray) (g : Given) (fill : Option (Option ℤ)) (cs : List Change) (m : Made) (is : IsArrayIn nodes a)
-    (method : unless (of_groups k) BadArgument ≡ Ok tt) (asked : fill_asked (folded_kind k a.kind) g ≡ Ok fill) (changes : grouped_changes (Bins d freq) a.axes a.coords [] ≡ Ok cs) (timed : AllByRecursion IsTimed cs)
+    (method : unless (of_groups k) BadArgument ≡ Ok tt) (asked : fill_asked (folded_kind k a.kind) g ≡ Ok fill) (changes : grouped_changes (Bins d freq) a.axes a.coords [] ≡ Ok cs)
     (filled : check_filled Empty cs (is_some fill) ≡ Ok tt) (suits : check_given (folded_kind k a.kind) fill ≡ Ok tt) (few : check_size (shape_over (axes_by cs a.axes)) ≡ Ok tt)
     (em : m ≡ made_by k (masked_by k Empty a.masked fill) cs (lists_chain k cs fill a) a) where
-  facts : IsBinned a.axes a.coords cs
-  facts = binned d freq a.axes a.coords cs (record { dims = is.formed.axes; over = is.formed.coords; distinct = is.formed.distinct }) changes timed
+  frame : IsFrame a.axes a.coords
+  frame = record { dims = is.formed.axes; over = is.formed.coords; distinct = is.formed.distinct }
+
+  facts : IsOneOf a.axes a.coords [] frame cs
+  facts = binned a.axes a.coords [] frame cs d freq changes
 
   abbrev c : Change
   c = facts.change
+
+  one : IsOne a.axes a.coords c
+  one = one_of a.axes a.coords c frame facts.formed
 
   has : of_groups k ≡ true
   has = passes (of_groups k) BadArgument method
 
   grouped : is_grouped cs (axis_names a.axes) ≡ true
-  grouped = ap (λ ds. is_grouped ds (axis_names a.axes)) facts.is ∙ grouped_one c (axis_names a.axes) facts.formed.has
+  grouped = ap (λ ds. is_grouped ds (axis_names a.axes)) facts.is ∙ grouped_one c (axis_names a.axes) one.has
 
   small : size (shape_over (axes_by (c ∷ []) a.axes)) ≤ 33554432
   small = size_passed (shape_over (axes_by (c ∷ []) a.axes)) (subst (λ ds. check_size (shape_over (axes_by ds a.axes)) ≡ Ok tt) facts.is few)
@@ -119,7 +127,7 @@ module _ (nodes : List Node) (k : FoldKind) (d : List ℕ) (freq : Freq) (a : Da
   long = length-map a.axes (λ (x : Axis). x.name) ∙ sym (length-map a.axes (λ (x : Axis). x.size))
 
   inside : place c dims < length before
-  inside = let here = place_inside c dims facts.formed.has in omega (arith, here, long)
+  inside = let here = place_inside c dims one.has in omega (arith, here, long)
 
   abbrev Makes : Option (Option ℤ) → Type 0
   Makes f = (made_in nodes (made_of f) ≡ array_listed k Empty false (c ∷ []) f (array_in nodes a)) × IsMade nodes (made_of f)
@@ -138,15 +146,15 @@ module _ (nodes : List Node) (k : FoldKind) (d : List ℕ) (freq : Freq) (a : Da
   same_array full =
       ap (λ b. record (array_listed k Empty false (c ∷ []) None (array_in nodes a)) { masked = b }) (or_false (masked_after k a.masked))
       ∙ ap (λ xs. record (array_listed k Never false (c ∷ []) None (array_in nodes a)) { cells = xs })
-      (same_listed k c dims before a.kind a.masked (array_in nodes a).cells is.formed.cells long facts.formed.has is.formed.axes.distinct inside facts.formed.fed (kept_one c dims before long facts.formed.has is.formed.axes.distinct) full)
+      (same_listed k c dims before a.kind a.masked (array_in nodes a).cells is.formed.cells long one.has is.formed.axes.distinct inside one.fed (kept_one c dims before long one.has is.formed.axes.distinct) full)
 
   makes : (f : Option (Option ℤ)) → check_filled Empty cs (is_some f) ≡ Ok tt → check_given (folded_kind k a.kind) f ≡ Ok tt → Makes f
   makes None filled suits =
       let full = full_of filled in
-      (ap (made_in nodes) made_plain ∙ is_listed nodes k c a is has facts.formed small ∙ sym (same_array full), subst (IsMade nodes) (sym made_plain) (is_made nodes k c a is has facts.formed small full))
+      (ap (made_in nodes) made_plain ∙ is_listed nodes k c a is has one small ∙ sym (same_array full), subst (IsMade nodes) (sym made_plain) (is_made nodes k c a is has one small full))
   makes (Some x) filled suits =
       let fits = fits_given (folded_kind k a.kind) x suits in
-      (filled_listed nodes k c a is has facts.formed small x fits, filled_made nodes k c a is has facts.formed small x fits)
+      (filled_listed nodes k c a is has one small x fits, filled_made nodes k c a is has one small x fits)
 
   pub binned_told : (binned_of k d freq (array_in nodes a) g ≡ Ok (made_in nodes m)) × IsMade nodes m
   binned_told =
@@ -159,11 +167,11 @@ module _ (nodes : List Node) (k : FoldKind) (d : List ℕ) (freq : Freq) (a : Da
 -- as the code hands them on
 pub bins_told_by : (nodes : List Node) (k : FoldKind) (d : List ℕ) (freq : Freq) (a : DataArray) (g : Given) (kind : DType) (fill : Option (Option ℤ)) (given masked : Bool) (own axes : List Axis) (slice cs : List Change) (chain : Chain) (m : Made) → IsArrayIn nodes a
     → kind ≡ folded_kind k a.kind → given ≡ is_some fill → own ≡ a.axes → slice ≡ cs → unless (of_groups k) BadArgument ≡ Ok tt → fill_asked kind g ≡ Ok fill → grouped_changes (Bins d freq) own a.coords [] ≡ Ok cs
-    → AllByRecursion IsTimed cs → check_filled Empty slice given ≡ Ok tt → check_given kind fill ≡ Ok tt → axes ≡ axes_by slice own → check_size (shape_over axes) ≡ Ok tt → chain ≡ lists_chain k slice fill a → masked ≡ masked_by k Empty a.masked fill
+    → check_filled Empty slice given ≡ Ok tt → check_given kind fill ≡ Ok tt → axes ≡ axes_by slice own → check_size (shape_over axes) ≡ Ok tt → chain ≡ lists_chain k slice fill a → masked ≡ masked_by k Empty a.masked fill
     → m ≡ made_by k masked slice chain a → (binned_of k d freq (array_in nodes a) g ≡ Ok (made_in nodes m)) × IsMade nodes m
-bins_told_by nodes k d freq a g kind fill given masked own axes slice cs chain m is ek eg eo es method asked changes timed filled suits eaxes few echain emasked em =
+bins_told_by nodes k d freq a g kind fill given masked own axes slice cs chain m is ek eg eo es method asked changes filled suits eaxes few echain emasked em =
     binned_told nodes k d freq a g fill cs m is method (subst (λ t. fill_asked t g ≡ Ok fill) ek asked)
-    (subst (λ xs. grouped_changes (Bins d freq) xs a.coords [] ≡ Ok cs) eo changes) timed
+    (subst (λ xs. grouped_changes (Bins d freq) xs a.coords [] ≡ Ok cs) eo changes)
     (subst (λ ds. check_filled Empty ds (is_some fill) ≡ Ok tt) es (subst (λ b. check_filled Empty slice b ≡ Ok tt) eg filled)) (subst (λ t. check_given t fill ≡ Ok tt) ek suits)
     (subst (λ (xs : List Axis). check_size (shape_over xs) ≡ Ok tt) (eaxes ∙ ap (λ ds. axes_by ds own) es ∙ ap (axes_by cs) eo) few)
     (em ∙ ap (λ b. made_by k b slice chain a) emasked ∙ ap (λ x. made_by k (masked_by k Empty a.masked fill) slice x a) echain

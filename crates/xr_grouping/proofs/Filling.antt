@@ -32,9 +32,9 @@ use Rattle.xr_reducing.proofs.Reduced.{attrs_left}
 use Rattle.xr_grouping.specs.Fills.{gaps}
 use Rattle.xr_grouping.specs.Mades.{lists_chain, made_by}
 use Rattle.xr_grouping.proofs.Folding as folds
-use Rattle.xr_grouping.proofs.Folding.{IsChange}
 use Rattle.xr_grouping.proofs.Gaps.{gap_at, gaps_below, gaps_length}
 use Rattle.xr_grouping.proofs.Listing.{cells_listed, found, found_length, given_there, listed_place}
+use Rattle.xr_grouping.proofs.Named.{IsOne}
 use Rattle.xr_grouping.proofs.OneList.{place}
 
 -- ---- a size in a shape's place
@@ -63,7 +63,7 @@ some_or_none : {A : Type 0} (o : Option A) → is_none o ≡ false → is_some o
 some_or_none None e = absurd cc
 some_or_none (Some x) e = refl
 
-module _ (nodes : List Node) (k : FoldKind) (c : Change) (a : DataArray) (is : IsArrayIn nodes a) (method : of_groups k ≡ true) (change : IsChange a.axes a.coords c)
+module _ (nodes : List Node) (k : FoldKind) (c : Change) (a : DataArray) (is : IsArrayIn nodes a) (method : of_groups k ≡ true) (change : IsOne a.axes a.coords c)
     (few : size (shape_over (axes_by (c ∷ []) a.axes)) ≤ 33554432) (fill : Option ℤ) (suits : IsCell (folded_kind k a.kind) fill) where
   abbrev dims : List (List ℕ)
   dims = axis_names a.axes

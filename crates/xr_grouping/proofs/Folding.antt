@@ -2,7 +2,7 @@
 use Rattle.std.proofs.Common.{◌≡◌, ◌<◌, ◌≤◌, ℕ, ℤ, Bool, true, false, List, [], ◌∷◌, length, get_or, Option, None, is_some, All, sym, ap, subst, ◌∙◌, arith}
 use Rattle.std.specs.Prelude.{slice_set}
 use Rattle.std.proofs.lemmas.List.{length-map}
-use Rattle.xr_types.specs.Names.{among, are_distinct, axis_names, shape_over}
+use Rattle.xr_types.specs.Names.{are_distinct, axis_names, shape_over}
 use Rattle.xr_types.specs.Points.{size, IsPoint}
 use Rattle.xr_types.specs.declared.axis.Axis.{Axis}
 use Rattle.xr_types.specs.declared.operation.FoldKind.{FoldKind}
@@ -10,11 +10,10 @@ use Rattle.xr_arrays.specs.declared.node.Feed.{Feed}
 use Rattle.xr_arrays.specs.declared.node.Node.{Node}
 use Rattle.xr_arrays.specs.Arrays.{Array}
 use Rattle.xr_arrays.specs.Folds.{fold_of, folded_kind}
-use Rattle.xr_arrays.specs.Nodes.{folded, kept, most_axes, most_node_cells, value, AreFed, ArePositions}
-use Rattle.xr_defs.specs.declared.value.Coord.{Coord}
+use Rattle.xr_arrays.specs.Nodes.{folded, kept, most_axes, most_node_cells, value, AreFed}
 use Rattle.xr_defs.specs.Values as of
 use Rattle.xr_defs.specs.Values.{array_of, without_fills}
-use Rattle.xr_defs.specs.WellFormed.{AreCells, IsDataArray, IsDimension}
+use Rattle.xr_defs.specs.WellFormed.{AreCells, IsDataArray}
 use Rattle.xr_defs.proofs.Spans.{points_above}
 use Rattle.xr_values.specs.declared.data_array.DataArray.{DataArray}
 use Rattle.xr_values.specs.Stands.{array_in, IsArrayIn}
@@ -31,20 +30,12 @@ use Rattle.xr_groups.specs.Methods.{array_listed, of_groups}
 use Rattle.xr_parts.specs.Frames.{IsFrame}
 use Rattle.xr_reducing.proofs.Reduced.{attrs_left}
 use Rattle.xr_grouping.specs.Mades.{folded_made}
-use Rattle.xr_grouping.proofs.Framed.{frame_by, shape_by, IsFreeName, IsFresh}
+use Rattle.xr_grouping.proofs.Framed.{frame_by, shape_by}
 use Rattle.xr_grouping.proofs.Listing.{cells_listed, found, given_there, listed_place}
+use Rattle.xr_grouping.proofs.Named.{IsOne}
 use Rattle.xr_grouping.proofs.OneList.{fed_one, feeds_length, folded_one, kept_one, place, place_inside}
 
--- a dimension of these axes that is grouped, and the axis that stands in its place
-pub record IsChange (axes : List Axis) (coords : List Coord) (c : Change) : Type 0 where
-  pub has : among (axis_names axes) c.dimension ≡ true
-  pub axis : IsDimension c.axis
-  pub sized : c.axis.size ≡ length c.lists
-  pub fed : All (ArePositions (get_or (shape_over axes) (place c (axis_names axes)) 0) 0) c.lists
-  pub fresh : IsFresh c axes
-  pub free : IsFreeName c coords
-
-module _ (nodes : List Node) (k : FoldKind) (c : Change) (a : DataArray) (is : IsArrayIn nodes a) (method : of_groups k ≡ true) (change : IsChange a.axes a.coords c)
+module _ (nodes : List Node) (k : FoldKind) (c : Change) (a : DataArray) (is : IsArrayIn nodes a) (method : of_groups k ≡ true) (change : IsOne a.axes a.coords c)
     (few : size (shape_over (axes_by (c ∷ []) a.axes)) ≤ 33554432) where
   abbrev dims : List (List ℕ)
   dims = axis_names a.axes

@@ -58,7 +58,7 @@ module _ (c : Change) where
       by false e rest = ap (λ t. bytes_eq m x.name || t) rest
 
   -- where the dimension isn't, nothing changes
-  unchanged : (axes : List Axis) → among (axis_names axes) d ≡ false → new axes ≡ axes
+  pub unchanged : (axes : List Axis) → among (axis_names axes) d ≡ false → new axes ≡ axes
   unchanged [] none = refl
   unchanged (x ∷ xs) none =
       let parts = or_parts (bytes_eq d x.name) (among (axis_names xs) d) none in

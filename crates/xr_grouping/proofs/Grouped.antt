@@ -1,5 +1,5 @@
 -- Methods of arrays in groups by dates take no argument, and those of arrays in bins a fill.
-use Rattle.std.proofs.Common.{◌≡◌, ℕ, false, List, [], Option, None, is_some, Result, Ok, Err, refl}
+use Rattle.std.proofs.Common.{◌≡◌, ℕ, Bool, true, false, List, [], Option, None, is_some, Result, Ok, Err, refl}
 use Rattle.xr_types.specs.Names.{shape_over}
 use Rattle.xr_types.specs.Results.{◌>>=◌, unless}
 use Rattle.xr_types.specs.declared.fault.Fault.{Fault}
@@ -8,17 +8,18 @@ use Rattle.xr_types.specs.declared.operation.FoldKind.{FoldKind}
 use Rattle.xr_defs.specs.Arguments.{nothing_given}
 use Rattle.xr_defs.specs.Meanings.{Given, Value}
 use Rattle.xr_defs.specs.Values.{DataArray}
-use Rattle.xr_defs.specs.declared.grouping.Grouping.TheVariants.{Bins, Dates}
+use Rattle.xr_defs.specs.declared.grouping.Grouping.TheVariants.{Bins, Dates, Windows}
 use Rattle.xr_arrays.specs.Folds.{folded_kind}
 use Rattle.xr_operations.specs.Moves.{fill_called}
 use Rattle.xr_operations.specs.Reductions.{check_size}
-use Rattle.xr_groups.specs.declared.change.Least.TheVariants.{Never, Empty}
+use Rattle.xr_groups.specs.declared.change.Least.TheVariants.{Never, Empty, Fewer}
 use Rattle.xr_groups.specs.Listed.{axes_by}
 use Rattle.xr_groups.specs.Groupings.{grouped_changes}
-use Rattle.xr_groups.specs.Methods.{array_by, check_filled, check_given, fill_given, fill_option, grouped_array, no_fill, of_groups}
+use Rattle.xr_groups.specs.Methods.{array_by, check_filled, check_given, fill_given, fill_option, grouped_array, no_fill, of_groups, of_windows}
 use Rattle.xr_grouping.specs.Mades.{binned_of, dated_of, fill_asked}
-use Rattle.xr_arrays.specs.declared.time.Field.{Field}
-use Rattle.xr_arrays.specs.declared.time.Freq.{Freq}
+use Rattle.xr_grouping.specs.Windowed.{windowed_of}
+use Rattle.xr_times.specs.declared.time.Field.{Field}
+use Rattle.xr_times.specs.declared.time.Freq.{Freq}
 
 pub dated_is : (k : FoldKind) (d : List ℕ) (field : Field) (a : DataArray) (g : Given) → grouped_array k (Dates d field) a g ≡ dated_of k d field a g
 unfolding grouped_array dated_of fill_given no_fill fill_called check_filled check_given unless
@@ -41,6 +42,19 @@ binned_is k d freq a g = by (unless (of_groups k) BadArgument) (fill_option g)
         check_size (shape_over (axes_by cs a.axes)) >>= λ y. Ok (array_by k Empty false cs fill a))
         ≡ (m >>= λ u. (n >>= λ v. fill_called (folded_kind k a.kind) v) >>= λ fill. grouped_changes (Bins d freq) a.axes a.coords [] >>= λ cs. check_filled Empty cs (is_some fill) >>= λ w. check_given (folded_kind k a.kind) fill >>= λ x.
         check_size (shape_over (axes_by cs a.axes)) >>= λ y. Ok (array_by k Empty false cs fill a))
+    by (Ok u) (Ok v) = refl
+    by (Ok u) (Err e) = refl
+    by (Err e) n = refl
+
+pub windowed_is : (k : FoldKind) (d : List ℕ) (w : ℕ) (center : Bool) (m : ℕ) (a : DataArray) (g : Given) → grouped_array k (Windows d w center m) a g ≡ windowed_of k d w center m a g
+unfolding grouped_array windowed_of fill_given fill_asked
+windowed_is k d w center m a g = by (unless (of_windows k) BadArgument) (fill_option g)
+  where
+    by : (s : Result (Unit {0}) Fault) (n : Result (Option Value) Fault)
+        → (s >>= λ u. n >>= λ v. fill_called (folded_kind k a.kind) v >>= λ fill. grouped_changes (Windows d w center m) a.axes a.coords [] >>= λ cs. check_filled (Fewer m) cs (is_some fill) >>= λ w. check_given (folded_kind k a.kind) fill >>= λ x.
+        check_size (shape_over (axes_by cs a.axes)) >>= λ y. Ok (array_by k (Fewer m) true cs fill a))
+        ≡ (s >>= λ u. (n >>= λ v. fill_called (folded_kind k a.kind) v) >>= λ fill. grouped_changes (Windows d w center m) a.axes a.coords [] >>= λ cs. check_filled (Fewer m) cs (is_some fill) >>= λ w. check_given (folded_kind k a.kind) fill >>= λ x.
+        check_size (shape_over (axes_by cs a.axes)) >>= λ y. Ok (array_by k (Fewer m) true cs fill a))
     by (Ok u) (Ok v) = refl
     by (Ok u) (Err e) = refl
     by (Err e) n = refl

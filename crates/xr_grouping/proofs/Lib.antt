@@ -18,3 +18,9 @@ pub mod Filling
 pub mod Ranges
 pub mod Sized
 pub mod Starts
+pub mod Steps
+pub mod Named
+pub mod Changed
+pub mod Spreading
+pub mod Windowing
+pub mod WindowAnswers

@@ -70,7 +70,7 @@ module _ (k : FoldKind) (least : Least) (fill : Option ℤ) (c : Change) (dims :
   seen_at : masked ≡ false → (q : List ℕ) → IsPoint shape q → is_some (at own q) ≡ true
   seen_at plain q here = let below = place_below shape q here in let whole = is.whole in is.seen plain (spot shape q) None (omega (arith, below, whole))
 
-  all_there : masked ≡ false → (p : List ℕ) → IsPoint after p → AreThere (found p)
+  pub all_there : masked ≡ false → (p : List ℕ) → IsPoint after p → AreThere (found p)
   all_there plain p here =
       subst AreThere (sym (found_is p here))
       (there_at (get_or shape (place c dims) 0) 0 (list p) p (place c dims) (at own) (fed (get_or p (place c dims) 0) [] (listed_place p here))

@@ -14,7 +14,7 @@ abbrev pub AreThere : List (ℕ × Option ℤ) → Type 0
 AreThere [] = ⊤
 AreThere (c ∷ cs) = (is_some c.1 ≡ true) × AreThere cs
 
-some_present : (cs : List (ℕ × Option ℤ)) → AreThere cs → 0 < length cs → 0 < length (present cs)
+pub some_present : (cs : List (ℕ × Option ℤ)) → AreThere cs → 0 < length cs → 0 < length (present cs)
 some_present [] all some = absurd (omega arith)
 some_present ((p, None) ∷ cs) all some = absurd cc
 some_present ((p, Some x) ∷ cs) all some = omega arith

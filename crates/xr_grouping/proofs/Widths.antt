@@ -3,7 +3,7 @@ use Rattle.std.proofs.Common.{◌≡◌, ◌<◌, ◌≤◌, ◌+◌, ◌-◌, �
 use Rattle.std.specs.Prelude.{nat_le}
 use Rattle.xr_types.specs.Results.{unless}
 use Rattle.xr_types.specs.declared.fault.Fault.TheVariants.{BadArgument}
-use Rattle.xr_arrays.specs.declared.time.Freq.TheVariants.{Seconds}
+use Rattle.xr_times.specs.declared.time.Freq.TheVariants.{Seconds}
 use Rattle.xr_groups.specs.Calls.{count_of, is_plain}
 use Rattle.xr_grouping.specs.Widths.{width_of}
 

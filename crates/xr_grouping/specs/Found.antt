@@ -3,7 +3,7 @@ use Rattle.std.specs.Prelude.{ℕ, length, List, [], ◌∷◌, Option, Some, No
 use Rattle.std.specs.Str.{bytes_eq}
 use Rattle.xr_types.specs.declared.axis.Axis.{Axis}
 use Rattle.xr_types.specs.declared.axis.LabelList.TheVariants.{Times}
-use Rattle.xr_arrays.specs.declared.bin_list.BinList.{BinList}
+use Rattle.xr_times.specs.declared.bin_list.BinList.{BinList}
 use Rattle.xr_groups.specs.declared.change.Change.{Change}
 use Rattle.xr_groups.specs.Groups.{bin_lists}
 use Rattle.xr_groups.specs.Groupings as of

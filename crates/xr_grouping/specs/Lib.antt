@@ -4,3 +4,6 @@ pub mod Widths
 pub mod Fills
 pub mod Mades
 pub mod Sizes
+pub mod Changes
+pub mod Windowed
+pub mod Told

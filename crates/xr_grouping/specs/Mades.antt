@@ -1,7 +1,6 @@
 -- What methods of grouped values make, before a plan.
-use Rattle.std.specs.Prelude.{◌==◌, ℕ, ℤ, Bool, false, not, length, List, [], ◌∷◌, Option, None, Some, is_some, Result, Ok, MatchOption, ⊤}
+use Rattle.std.specs.Prelude.{◌==◌, ℕ, ℤ, Bool, false, not, length, List, [], ◌∷◌, Option, None, Some, is_some, Result, Ok}
 use Rattle.xr_types.specs.Names.{axis_names, shape_over}
-use Rattle.xr_defs.specs.WellFormed.{AreLabels}
 use Rattle.xr_types.specs.Results.{◌>>=◌, unless}
 use Rattle.xr_types.specs.declared.fault.Fault.{Fault}
 use Rattle.xr_types.specs.declared.fault.Fault.TheVariants.{BadArgument, WrongKind}
@@ -28,8 +27,8 @@ use Rattle.xr_formulas.specs.declared.chain.Chain.{Chain}
 use Rattle.xr_grouping.specs.Fills.{filling}
 use Rattle.xr_groups.specs.Calls.{groupby_given}
 use Rattle.xr_defs.specs.Building.{is_chars}
-use Rattle.xr_arrays.specs.declared.time.Field.{Field}
-use Rattle.xr_arrays.specs.declared.time.Freq.{Freq}
+use Rattle.xr_times.specs.declared.time.Field.{Field}
+use Rattle.xr_times.specs.declared.time.Freq.{Freq}
 use Rattle.xr_groups.specs.Listed.{axes_by, coords_by, feeds_by}
 use Rattle.xr_values.specs.declared.data_array.DataArray.{DataArray}
 
@@ -85,7 +84,3 @@ unfoldable pub binned_of : FoldKind → List ℕ → Freq → of.DataArray → G
 binned_of k d freq a g =
     unless (of_groups k) BadArgument >>= λ u. fill_asked (folded_kind k a.kind) g >>= λ fill. grouped_changes (Bins d freq) a.axes a.coords [] >>= λ cs.
     check_filled Empty cs (is_some fill) >>= λ w. check_given (folded_kind k a.kind) fill >>= λ x. check_size (shape_over (axes_by cs a.axes)) >>= λ y. Ok (array_by k Empty false cs fill a)
-
--- the labels of bins stand in the years 1 to 9999
-abbrev pub IsTimed : Change → Type 0
-IsTimed c = MatchOption c.axis.labels ⊤ (λ l. AreLabels l.list)

@@ -3,8 +3,8 @@ use Rattle.std.specs.Prelude.{◌*◌, ◌&&◌, nat_le, ℕ, List, length, Resu
 use Rattle.xr_types.specs.Results.{◌>>=◌, unless}
 use Rattle.xr_types.specs.declared.fault.Fault.{Fault}
 use Rattle.xr_types.specs.declared.fault.Fault.TheVariants.{BadArgument}
-use Rattle.xr_arrays.specs.declared.time.Freq.{Freq}
-use Rattle.xr_arrays.specs.declared.time.Freq.TheVariants.{Seconds}
+use Rattle.xr_times.specs.declared.time.Freq.{Freq}
+use Rattle.xr_times.specs.declared.time.Freq.TheVariants.{Seconds}
 use Rattle.xr_groups.specs.Calls.{count_of, is_plain}
 
 abbrev pub width_of : List ℕ → ℕ → Result Freq Fault

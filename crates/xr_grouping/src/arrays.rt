@@ -18,9 +18,9 @@ use crate::checked::dated_changes;
 use crate::listed::{axes_by, coords_left, feeds_by};
 use std::alloc::{AllocError, Global};
 use xr_arguments::nothing_given;
-use xr_arrays::Field;
 use xr_formulas::{Chain, Formula, Made, Step, one_step};
 use xr_groups::Change;
+use xr_times::Field;
 use xr_types::{Axis, CallFault, DeepCopy, Fault, FoldKind, Items, MOST_CELLS, TextBytes};
 use xr_values::{Args, DataArray, without_fills};
 
@@ -47,7 +47,7 @@ pub(crate) fn check_axes(axes: &[Axis]) -> Result<(), CallFault>
 }
 
 /// Whether folds of cells, of which some may miss, may miss.
-pub(crate) fn masked_after(fold: FoldKind, masked: bool) -> bool
+pub fn masked_after(fold: FoldKind, masked: bool) -> bool
     ensures { result ≡ reductions.masked_after fold masked }
 {
     needs_cells(fold) && masked

@@ -9,7 +9,7 @@ ghost use Rattle.xr_operations.specs.Reductions as reductions;
 use xr_types::{CallFault, DType, Fault, FoldKind, is_unsigned};
 
 /// The kind of a fold of cells of a kind.
-pub(crate) fn folded_kind(fold: FoldKind, kind: DType) -> DType
+pub fn folded_kind(fold: FoldKind, kind: DType) -> DType
     ensures { result ≡ folds.folded_kind fold kind }
 {
     match fold {
@@ -27,7 +27,7 @@ pub(crate) fn folded_kind(fold: FoldKind, kind: DType) -> DType
 }
 
 /// Whether a fold gives nothing of no cell.
-pub(crate) fn needs_cells(fold: FoldKind) -> bool
+pub fn needs_cells(fold: FoldKind) -> bool
     ensures { result ≡ reductions.needs_cells fold }
 {
     match fold {
@@ -38,7 +38,7 @@ pub(crate) fn needs_cells(fold: FoldKind) -> bool
     }
 }
 
-fn of_groups(fold: FoldKind) -> bool
+pub fn of_groups(fold: FoldKind) -> bool
     ensures { result ≡ calls.of_groups fold }
 {
     match fold {

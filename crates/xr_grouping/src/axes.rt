@@ -1,7 +1,7 @@
 //! Axes by their names, and the times of their labels.
 ghost use Rattle.std.specs.Prelude.{◌≡◌, All, IfOk, IfSome, option_map};
 ghost use Rattle.std.specs.List.{AllByRecursion};
-ghost use Rattle.xr_arrays.specs.Times.{IsTime};
+ghost use Rattle.xr_times.specs.Times.{IsTime};
 ghost use Rattle.xr_defs.specs.WellFormed.{AreLabels, IsDimension};
 ghost use Rattle.xr_types.specs.Results.{Answers};
 ghost use Rattle.xr_groups.specs.Groupings as of;
@@ -56,7 +56,7 @@ pub(crate) struct TimeIndex<'a> {
 #[tactic(auto, unfolding(xr_groups::specs::Groupings::times_in))]
 fn times_in(labels: &Labels) -> Result<TimeIndex<'_>, CallFault>
     ensures answers { Answers (λ t. index_of t) result (of.times_in labels.now) }
-    ensures times { AreLabels labels.now.list → IfOk result (λ t. All IsTime t.times.now) }
+    ensures times { AreLabels labels.now.list → IfOk result (λ t. All (IsTime t.coding.now.units.calendar) t.times.now) }
 {
     match &labels.list {
         LabelList::Times(coding, times) => Ok(TimeIndex {
@@ -76,7 +76,7 @@ fn times_in(labels: &Labels) -> Result<TimeIndex<'_>, CallFault>
 #[tactic(auto, unfolding(xr_groups::specs::Groupings::times_along))]
 pub(crate) fn times_along(axis: &Axis) -> Result<TimeIndex<'_>, CallFault>
     ensures answers { Answers (λ t. index_of t) result (of.times_along axis.now) }
-    ensures times { IsDimension axis.now → IfOk result (λ t. All IsTime t.times.now) }
+    ensures times { IsDimension axis.now → IfOk result (λ t. All (IsTime t.coding.now.units.calendar) t.times.now) }
 {
     match &axis.labels {
         None => Err(CallFault::Refused(Fault::NotTime)),

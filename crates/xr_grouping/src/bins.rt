@@ -21,9 +21,9 @@ use crate::checked::binned_changes;
 use crate::fills::{check_filled, check_given, fill_given, push_fills};
 use crate::listed::{axes_by, feeds_by};
 use std::alloc::{AllocError, Global};
-use xr_arrays::Freq;
 use xr_formulas::{Chain, Made, Start, Step, one_step};
 use xr_groups::Change;
+use xr_times::Freq;
 use xr_types::{CallFault, FoldKind, Items, TextBytes};
 use xr_values::{Args, DataArray};
 
@@ -47,7 +47,7 @@ fn filled_chain(
     })
 }
 
-fn folded_chain(
+pub fn folded_chain(
     alloc: Global,
     fold: FoldKind,
     changes: &[Change],
@@ -66,7 +66,7 @@ fn folded_chain(
 }
 
 // Whether bins may miss cells.
-fn masked_by(fold: FoldKind, masked: bool, fill: Option<Option<i128>>) -> bool
+pub fn masked_by(fold: FoldKind, masked: bool, fill: Option<Option<i128>>) -> bool
     ensures { result ≡ methods.masked_by fold Empty masked fill }
 {
     masked_after(fold, masked) || is_hidden(fill)

@@ -1,27 +1,26 @@
 //! How a grouping groups the positions of dimensions.
 ghost use Rattle.std.specs.Prelude.{◌≡◌, ◌<◌, [], ◌∷◌, length, map, All, IfOk, Ok, true};
 ghost use Rattle.std.specs.List.{AllByRecursion};
-ghost use Rattle.xr_arrays.specs.Times.{IsTime};
-ghost use Rattle.xr_arrays.specs.Bins.{IsFreq};
+ghost use Rattle.xr_times.specs.Times.{IsTime};
+ghost use Rattle.xr_times.specs.Bins.{IsFreq};
 ghost use Rattle.xr_defs.specs.WellFormed.{IsDimension};
 ghost use Rattle.xr_types.specs.Results.{Answers};
 ghost use Rattle.xr_types.specs.declared.kind.DType.TheVariants as kinds;
 ghost use Rattle.xr_groups.specs.Groups as groups;
 ghost use Rattle.xr_groups.specs.Groupings as of;
 ghost use Rattle.xr_grouping.specs.Found.{bins_made, index_of};
-ghost use Rattle.xr_grouping.specs.Mades.{IsTimed};
 
 use crate::axes::{TimeIndex, axis_found, times_along};
 use crate::fields::field_name;
 use crate::keys::{field_keys, integers};
 use cf_time::bins;
-use group_window::{bin_lists, number_groups};
+use group_window::{bin_lists, number_groups, rolling};
 use std::alloc::{AllocError, Global};
-use xr_arrays::{BinList, Field, Freq};
 use xr_groups::Change;
+use xr_times::{BinList, Field, Freq};
 use xr_types::{
-    Attr, Axis, CallFault, DType, DeepCopy, Fault, Items, LabelList, Labels, Name, Shared,
-    TextBytes, copy_all,
+    Attr, Axis, Calendar, CallFault, DType, DeepCopy, Fault, Items, LabelList, Labels, Name,
+    Shared, TextBytes, copy_all,
 };
 
 /// An axis with labels.
@@ -57,8 +56,28 @@ fn number_change(
     })
 }
 
+fn is_weekday(field: Field) -> bool
+    ensures { result ≡ of.is_weekday field }
+{
+    match field {
+        Field::Year | Field::Month | Field::Day | Field::DayOfYear => false,
+        Field::Hour | Field::Minute | Field::Second => false,
+        Field::DayOfWeek => true,
+    }
+}
+
+// Only civil dates have weeks.
+fn has_field(calendar: Calendar, field: Field) -> bool
+    ensures { result ≡ of.has_field calendar field }
+{
+    match calendar {
+        Calendar::Civil => true,
+        Calendar::NoLeap | Calendar::Days360 => !is_weekday(field),
+    }
+}
+
 // Groups by a field of the dates.
-#[tactic(auto, unfolding(xr_groups::specs::Groupings::date_change))]
+#[tactic(auto, unfolding(xr_groups::specs::Groupings::date_change, xr_types::specs::Results::unless))]
 pub(crate) fn date_change(
     alloc: Global,
     dimension: &TextBytes,
@@ -70,7 +89,11 @@ pub(crate) fn date_change(
 {
     let axis = axis_found(alloc, dimension, axes)?;
     let index = times_along(axis)?;
-    let keys = field_keys(alloc, index.times, field)?;
+    let calendar = index.coding.units.calendar;
+    if !has_field(calendar, field) {
+        return Err(CallFault::Refused(Fault::BadArgument));
+    }
+    let keys = field_keys(alloc, index.times, field, calendar)?;
     let name = TextBytes::from_str(alloc, field_name(field))?;
     let change = number_change(
         alloc,
@@ -112,7 +135,7 @@ fn copy_attrs(alloc: Global, attrs: &[Attr]) -> Result<Items<Attr>, AllocError>
     copy_all(alloc, attrs)
 }
 
-// The bins of times begin in the years 1 to 9999.
+// The bins of times.
 #[tactic(auto, unfolding(xr_groups::specs::Groupings::bins_along))]
 fn bins_along(
     alloc: Global,
@@ -120,12 +143,11 @@ fn bins_along(
     freq: Freq,
     index: TimeIndex<'_>,
 ) -> Result<Change, CallFault>
-    requires times { All IsTime index.times.now }
+    requires times { All (IsTime index.coding.now.units.calendar) index.times.now }
     requires freq { IsFreq freq }
-    ensures answers { Answers (λ c. c) result (of.bins_along dimension.now freq (index_of index.entry)) }
-    ensures timed { IfOk result IsTimed }
+    ensures { Answers (λ c. c) result (of.bins_along dimension.now freq (index_of index.entry)) }
 {
-    let list = bins(alloc, index.times, freq)?;
+    let list = bins(alloc, index.times, freq, index.coding.units.calendar)?;
     let change = bins_made(alloc, dimension, index, list)?;
     Ok(change)
 }
@@ -148,8 +170,7 @@ pub(crate) fn bin_change(
     axes: &[Axis],
 ) -> Result<Change, CallFault>
     requires { AllByRecursion IsDimension axes.now }
-    ensures answers { Answers (λ c. c) result (of.bin_change dimension.now freq axes.now) }
-    ensures timed { IfOk result IsTimed }
+    ensures { Answers (λ c. c) result (of.bin_change dimension.now freq axes.now) }
 {
     if !is_freq(freq) {
         return Err(CallFault::Refused(Fault::BadArgument));
@@ -158,6 +179,26 @@ pub(crate) fn bin_change(
     let index = times_along(axis)?;
     let change = bins_along(alloc, dimension, freq, index)?;
     Ok(change)
+}
+
+/// Windows along a dimension.
+#[tactic(auto, unfolding(xr_groups::specs::Groupings::window_change, group_window::specs::Windows::rolled, xr_types::specs::Results::unless))]
+pub(crate) fn window_change(
+    alloc: Global,
+    dimension: &TextBytes,
+    width: u64,
+    center: bool,
+    axes: &[Axis],
+) -> Result<Change, CallFault>
+    ensures { Answers (λ c. c) result (of.window_change dimension.now width center axes.now) }
+{
+    let axis = axis_found(alloc, dimension, axes)?;
+    let lists = rolling(axis.size, width, center)?;
+    Ok(Change {
+        dimension: dimension.deep_copy(alloc)?,
+        lists,
+        axis: axis.deep_copy(alloc)?,
+    })
 }
 
 /// One dimension alone.

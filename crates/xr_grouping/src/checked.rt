@@ -1,20 +1,21 @@
-//! How dates and bins group the dimensions of an array or a dataset, once a new name is free.
-ghost use Rattle.std.specs.Prelude.{◌≡◌, ℕ, List, IfOk};
+//! How a grouping groups the dimensions of an array or a dataset, once a new name is free.
+ghost use Rattle.std.specs.Prelude.{◌≡◌, ℕ, List, IfOk, true};
 ghost use Rattle.std.specs.List.{AllByRecursion};
 ghost use Rattle.xr_types.specs.Names.{among, axis_names};
 ghost use Rattle.xr_types.specs.Results.{Answers};
 ghost use Rattle.xr_defs.specs.WellFormed.{names_of, IsDimension};
 ghost use Rattle.xr_groups.specs.Groupings as of;
-ghost use Rattle.xr_defs.specs.declared.grouping.Grouping.TheVariants.{Bins, Dates};
+ghost use Rattle.xr_defs.specs.declared.grouping.Grouping.TheVariants.{Bins, Dates, Windows};
+ghost use Rattle.xr_parts.specs.Frames.{IsFrame};
+ghost use Rattle.xr_grouping.specs.Changes.{is_served, IsChange};
 ghost use Rattle.xr_defs.specs.declared.value.Coord.{Coord};
-ghost use Rattle.xr_grouping.specs.Mades.{IsTimed};
 
-use crate::changes::{bin_change, date_change, one};
+use crate::changes::{bin_change, date_change, one, window_change};
 use crate::fields::field_name;
 use std::alloc::Global;
-use xr_arrays::{Field, Freq};
-use xr_defs::Coord;
+use xr_defs::{Coord, Grouping};
 use xr_groups::Change;
+use xr_times::{Field, Freq};
 use xr_types::{Axis, CallFault, Fault, Items, TextBytes};
 
 fn is_among(names: &[TextBytes], name: &str) -> bool
@@ -96,9 +97,82 @@ pub(crate) fn binned_changes(
     axes: &[Axis],
 ) -> Result<Items<Change>, CallFault>
     requires { AllByRecursion IsDimension axes.now }
-    ensures answers { (coords : List Coord) (others : List (List ℕ)) → Answers (λ cs. cs) result (of.grouped_changes (Bins dimension.now freq) axes.now coords others) }
-    ensures timed { IfOk result (AllByRecursion IsTimed) }
+    ensures { (coords : List Coord) (others : List (List ℕ)) → Answers (λ cs. cs) result (of.grouped_changes (Bins dimension.now freq) axes.now coords others) }
 {
     let change = bin_change(alloc, dimension, freq, axes)?;
     Ok(one(alloc, change)?)
+}
+
+/// How windows along a dimension group it.
+#[tactic(auto, unfolding(xr_groups::specs::Groupings::grouped_changes, xr_groups::specs::Groupings::changes_of, xr_groups::specs::Groupings::check_name))]
+pub(crate) fn windowed_changes(
+    alloc: Global,
+    dimension: &TextBytes,
+    width: u64,
+    center: bool,
+    axes: &[Axis],
+) -> Result<Items<Change>, CallFault>
+    ensures { (least : ℕ) (coords : List Coord) (others : List (List ℕ)) → Answers (λ cs. cs) result (of.grouped_changes (Windows dimension.now width center least) axes.now coords others) }
+{
+    let change = window_change(alloc, dimension, width, center, axes)?;
+    Ok(one(alloc, change)?)
+}
+
+/// Whether a grouping is served: those by dates, by bins, and by windows that need a cell are.
+pub fn is_served(grouping: &Grouping) -> bool
+    ensures { result ≡ is_served grouping.now }
+{
+    match grouping {
+        Grouping::Dates(_, _) | Grouping::Bins(_, _) => true,
+        Grouping::Windows { least, .. } => *least >= 1,
+        Grouping::Coordinate(_) | Grouping::Blocks { .. } => false,
+    }
+}
+
+// How a grouping groups dimensions.
+fn changes_by(
+    alloc: Global,
+    grouping: &Grouping,
+    axes: &[Axis],
+    coords: &[Coord],
+    others: &[TextBytes],
+) -> Result<Items<Change>, CallFault>
+    requires served { is_served grouping.now ≡ true }
+    requires dims { AllByRecursion IsDimension axes.now }
+    ensures { Answers (λ cs. cs) result (of.grouped_changes grouping.now axes.now coords.now others.now) }
+{
+    match grouping {
+        Grouping::Dates(dimension, field) => {
+            dated_changes(alloc, dimension, *field, axes, coords, others)
+        }
+        Grouping::Bins(dimension, freq) => binned_changes(alloc, dimension, *freq, axes),
+        Grouping::Windows {
+            dimension,
+            width,
+            center,
+            ..
+        } => windowed_changes(alloc, dimension, *width, *center, axes),
+        Grouping::Coordinate(_) | Grouping::Blocks { .. } => unreachable!(),
+    }
+}
+
+/// How a grouping groups the positions of dimensions, beside data variables of these names.
+///
+/// # Errors
+/// `NoDimension`, `NotTime`, and what refuses the grouping: `BadArgument`, `NotMonotonic`, `TooLarge`, and `DuplicateName` where
+/// another dimension, a coordinate or a data variable has the name of the groups.
+pub fn grouped_changes(
+    alloc: Global,
+    grouping: &Grouping,
+    axes: &[Axis],
+    coords: &[Coord],
+    others: &[TextBytes],
+) -> Result<Items<Change>, CallFault>
+    requires served { is_served grouping.now ≡ true }
+    requires frame { IsFrame axes.now coords.now }
+    ensures answers { Answers (λ cs. cs) result (of.grouped_changes grouping.now axes.now coords.now others.now) }
+    ensures changes { IfOk result (AllByRecursion (IsChange axes.now coords.now others.now)) }
+{
+    let changes = changes_by(alloc, grouping, axes, coords, others)?;
+    Ok(changes)
 }

@@ -1,5 +1,5 @@
 //! `coarsen(d=w, .., boundary, coord_func)`: the sizes of its blocks, and what it does with a rest and with labels.
-ghost use Rattle.std.specs.Prelude.{◌≡◌, ◌||◌, List, codes, map, filter, not, option_map};
+ghost use Rattle.std.specs.Prelude.{◌≡◌, ◌≤◌, ◌||◌, List, IfOk, codes, map, filter, not, option_map};
 ghost use Rattle.std.specs.Str.{bytes_eq};
 ghost use Rattle.xr_arrays.specs.declared.node.Node.{Node};
 ghost use Rattle.xr_defs.specs.Building as building;
@@ -32,7 +32,7 @@ fn keyword<'a>(name: &str, keyed: &'a [(TextBytes, Value)]) -> Option<&'a Value>
 }
 
 // The argument by this keyword. `None` is no argument.
-fn option_by<'a>(name: &str, keyed: &'a [(TextBytes, Value)]) -> Option<&'a Value>
+pub(crate) fn option_by<'a>(name: &str, keyed: &'a [(TextBytes, Value)]) -> Option<&'a Value>
     ensures { (nodes : List Node) → option_map (λ v. meaning nodes v.now) result ≡ building.given_value (building.keyword name.now (map (with_key nodes) keyed.now)) }
 {
     option(&[keyword(name, keyed)], 0)
@@ -106,7 +106,8 @@ fn as_number(value: &Value) -> Result<i128, CallFault>
 
 #[tactic(auto, using(crate::proofs::Sized::below_one, crate::proofs::Sized::at_least_one))]
 fn from_one(number: i128) -> Result<u128, CallFault>
-    ensures { Answers (λ n. n) result (calls.from_one number) }
+    ensures number { Answers (λ n. n) result (calls.from_one number) }
+    ensures some { IfOk result (λ n. 1 ≤ n) }
 {
     if number < 1 {
         Err(CallFault::Refused(Fault::BadArgument))
@@ -116,8 +117,9 @@ fn from_one(number: i128) -> Result<u128, CallFault>
 }
 
 // No axis has more positions: above that a size says no more than whether it is even.
-fn bounded(size: u128) -> u64
-    ensures { result ≡ calls.bounded size }
+pub(crate) fn bounded(size: u128) -> u64
+    ensures size { result ≡ calls.bounded size }
+    ensures some { 1 ≤ size → 1 ≤ result }
 {
     if size < 4_294_967_296 {
         size as u64
@@ -127,8 +129,9 @@ fn bounded(size: u128) -> u64
 }
 
 #[tactic(auto, unfolding(xr_groups::specs::Calls::size_given))]
-fn size_given(value: &Value) -> Result<u128, CallFault>
-    ensures { (nodes : List Node) → Answers (λ n. n) result (calls.size_given (meaning nodes value.now)) }
+pub(crate) fn size_given(value: &Value) -> Result<u128, CallFault>
+    ensures size { (nodes : List Node) → Answers (λ n. n) result (calls.size_given (meaning nodes value.now)) }
+    ensures some { IfOk result (λ n. 1 ≤ n) }
 {
     let number = as_number(value)?;
     from_one(number)
@@ -184,7 +187,7 @@ fn blocks_given(alloc: Global, keyed: &[(TextBytes, Value)]) -> Result<Items<Blo
 
 /// What the arguments of `coarsen` ask for.
 #[derive(Drop)]
-pub(crate) struct Asked {
+pub struct Asked {
     pub sizes: Items<BlockSize>,
     pub trim: bool,
     pub labels: Option<FoldKind>,
@@ -192,7 +195,7 @@ pub(crate) struct Asked {
 
 /// What the arguments of `coarsen` ask for.
 #[tactic(auto, unfolding(xr_groups::specs::Calls::coarsen_given, xr_types::specs::Results::unless, xr_values::specs::Meaning::given))]
-pub(crate) fn coarsen_given(alloc: Global, args: &Args) -> Result<Asked, CallFault>
+pub fn coarsen_given(alloc: Global, args: &Args) -> Result<Asked, CallFault>
     ensures { (nodes : List Node) → Answers (λ b. Blocks b.sizes b.trim b.labels) result (calls.coarsen_given (given nodes args.now)) }
 {
     if args.plain.len() != 0 {

@@ -10,8 +10,8 @@ ghost use Rattle.xr_grouping.specs.Texts.{split_at};
 
 use std::alloc::Global;
 use xr_arguments::as_text;
-use xr_arrays::Field;
 use xr_defs::Grouping;
+use xr_times::Field;
 use xr_types::{CallFault, DeepCopy, Fault, TextBytes};
 use xr_values::{Args, Value};
 
@@ -133,7 +133,7 @@ fn groups_called(alloc: Global, text: &TextBytes) -> Result<Grouping, CallFault>
 
 /// What the argument of `groupby` names.
 #[tactic(auto, unfolding(xr_groups::specs::Calls::groupby_given))]
-pub(crate) fn groupby_given(alloc: Global, args: &Args) -> Result<Grouping, CallFault>
+pub fn groupby_given(alloc: Global, args: &Args) -> Result<Grouping, CallFault>
     ensures { (nodes : List Node) → Answers (λ g. g) result (calls.groupby_given (given nodes args.now)) }
 {
     let text = as_text(the_one(args)?)?;

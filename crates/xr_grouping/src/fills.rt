@@ -36,7 +36,7 @@ fn fill_for(kind: DType, value: &Value) -> Result<Option<i128>, CallFault>
 }
 
 #[tactic(auto, unfolding(xr_operations::specs::Moves::fill_called))]
-fn fill_called(kind: DType, value: Option<&Value>) -> Result<Option<Option<i128>>, CallFault>
+pub fn fill_called(kind: DType, value: Option<&Value>) -> Result<Option<Option<i128>>, CallFault>
     ensures { (nodes : List Node) → Answers (λ n. n) result (moves.fill_called kind (option_map (λ v. meaning nodes v.now) value.entry)) }
 {
     match value {
@@ -50,7 +50,7 @@ fn fill_called(kind: DType, value: Option<&Value>) -> Result<Option<Option<i128>
 
 // The argument that is the fill.
 #[tactic(auto, unfolding(xr_groups::specs::Methods::fill_option, xr_defs::specs::Building::bound))]
-fn fill_option<'a>(alloc: Global, args: &'a Args) -> Result<Option<&'a Value>, CallFault>
+pub fn fill_option<'a>(alloc: Global, args: &'a Args) -> Result<Option<&'a Value>, CallFault>
     ensures { (nodes : List Node) → Answers (λ v. option_map (λ x. meaning nodes x.now) v) result (methods.fill_option (given nodes args.now)) }
 {
     let values = bound(alloc, &["fill_value"], args)?;
@@ -106,7 +106,7 @@ fn have_empty(changes: &[Change]) -> bool
 
 /// Refuses an empty bin where no fill is given.
 #[tactic(auto, unfolding(xr_groups::specs::Methods::check_filled, xr_types::specs::Results::unless))]
-pub(crate) fn check_filled(changes: &[Change], given: bool) -> Result<(), CallFault>
+pub fn check_filled(changes: &[Change], given: bool) -> Result<(), CallFault>
     ensures { Answers (λ u. u) result (methods.check_filled Empty changes.now given) }
 {
     if given || !have_empty(changes) {
@@ -118,7 +118,7 @@ pub(crate) fn check_filled(changes: &[Change], given: bool) -> Result<(), CallFa
 
 /// Refuses a fill that isn't in the range of the kind.
 #[tactic(auto, unfolding(xr_groups::specs::Methods::check_given, xr_operations::specs::Moves::check_fill, xr_operations::specs::CellMethods::check_fits, xr_types::specs::Results::unless))]
-pub(crate) fn check_given(kind: DType, fill: Option<Option<i128>>) -> Result<(), CallFault>
+pub fn check_given(kind: DType, fill: Option<Option<i128>>) -> Result<(), CallFault>
     ensures { Answers (λ u. u) result (methods.check_given kind fill) }
 {
     match fill {

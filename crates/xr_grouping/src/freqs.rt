@@ -1,7 +1,7 @@
 //! `resample(d="freq")`: the width of its bins.
 ghost use Rattle.std.specs.Prelude.{◌≡◌, ◌≤◌, ◌<◌, ◌+◌, ◌*◌, ◌-◌, ◌^◌, List, length, take, drop, IfSome};
 ghost use Rattle.xr_arrays.specs.declared.node.Node.{Node};
-ghost use Rattle.xr_arrays.specs.Times.{is_digit};
+ghost use Rattle.xr_times.specs.Times.{is_digit};
 ghost use Rattle.xr_defs.specs.declared.grouping.Grouping.TheVariants.{Bins};
 ghost use Rattle.xr_types.specs.Results.{Answers};
 ghost use Rattle.xr_groups.specs.Calls as calls;
@@ -11,7 +11,7 @@ ghost use Rattle.std.specs.Prelude.{map};
 
 use std::alloc::Global;
 use xr_arguments::as_text;
-use xr_arrays::Freq;
+use xr_times::Freq;
 use xr_types::{CallFault, DeepCopy, Fault, Name, TextBytes};
 use xr_values::{Args, Value};
 
@@ -153,7 +153,7 @@ fn freq_called(text: &[u8]) -> Result<Freq, CallFault>
 
 /// What the arguments of `resample` ask for.
 #[tactic(auto, unfolding(xr_groups::specs::Calls::resample_given, xr_types::specs::Results::unless, xr_values::specs::Meaning::given))]
-pub(crate) fn resample_given(alloc: Global, args: &Args) -> Result<(Name, Freq), CallFault>
+pub fn resample_given(alloc: Global, args: &Args) -> Result<(Name, Freq), CallFault>
     ensures { (nodes : List Node) → Answers (λ g. Bins g.0 g.1) result (calls.resample_given (given nodes args.now)) }
 {
     if args.plain.len() != 0 {

@@ -1,12 +1,12 @@
 //! Keys of groups, and labels of keys.
 ghost use Rattle.std.specs.Prelude.{◌≡◌, map, pos, All, IfOk};
-ghost use Rattle.xr_arrays.specs.Times.{IsTime};
+ghost use Rattle.xr_times.specs.Times.{IsTime};
 ghost use Rattle.xr_groups.specs.Groups as of;
 
 use cf_time::fields;
 use std::alloc::{AllocError, Global};
-use xr_arrays::Field;
-use xr_types::{Integers, Items, NoMemory};
+use xr_times::Field;
+use xr_types::{Calendar, Integers, Items, NoMemory};
 
 /// Numbers as keys, none of which is missing.
 pub(crate) fn present(alloc: Global, numbers: &[i64]) -> Result<Vec<Option<i128>>, AllocError>
@@ -25,11 +25,12 @@ pub(crate) fn field_keys(
     alloc: Global,
     times: &[i64],
     field: Field,
+    calendar: Calendar,
 ) -> Result<Vec<Option<i128>>, NoMemory>
-    requires { All IsTime times.now }
-    ensures { IfOk result (λ v. v.items ≡ of.field_keys field times.now) }
+    requires { All (IsTime calendar) times.now }
+    ensures { IfOk result (λ v. v.items ≡ of.field_keys calendar field times.now) }
 {
-    let numbers = fields(alloc, times, field)?;
+    let numbers = fields(alloc, times, field, calendar)?;
     let keys = present(alloc, &numbers)?;
     Ok(keys)
 }

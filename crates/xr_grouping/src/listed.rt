@@ -28,11 +28,7 @@ fn feed_by(alloc: Global, changes: &[Change], name: &TextBytes) -> Result<Feed, 
 }
 
 /// What a fold does with each axis.
-pub(crate) fn feeds_by(
-    alloc: Global,
-    changes: &[Change],
-    axes: &[Axis],
-) -> Result<Items<Feed>, AllocError>
+pub fn feeds_by(alloc: Global, changes: &[Change], axes: &[Axis]) -> Result<Items<Feed>, AllocError>
     ensures { IfOk result (λ fs. fs ≡ of.feeds_by changes.now (axis_names axes.now)) }
 {
     let mut out = Items::new(alloc);
@@ -58,11 +54,7 @@ fn axis_by(alloc: Global, changes: &[Change], axis: &Axis) -> Result<Axis, Alloc
 }
 
 /// The axes afterwards.
-pub(crate) fn axes_by(
-    alloc: Global,
-    changes: &[Change],
-    axes: &[Axis],
-) -> Result<Items<Axis>, AllocError>
+pub fn axes_by(alloc: Global, changes: &[Change], axes: &[Axis]) -> Result<Items<Axis>, AllocError>
     ensures { IfOk result (λ xs. xs ≡ of.axes_by changes.now axes.now) }
 {
     let mut out = Items::new(alloc);
@@ -72,7 +64,7 @@ pub(crate) fn axes_by(
     Ok(out)
 }
 
-fn is_changed(changes: &[Change], name: &TextBytes) -> bool
+pub fn is_changed(changes: &[Change], name: &TextBytes) -> bool
     ensures { result ≡ among (of.dimensions changes.now) name.now }
 {
     match changes {
@@ -92,7 +84,7 @@ pub(crate) fn is_grouped(changes: &[Change], axes: &[Axis]) -> bool
 }
 
 /// The coordinates that have no grouped dimension.
-pub(crate) fn coords_left(
+pub fn coords_left(
     alloc: Global,
     changes: &[Change],
     coords: &[Coord],

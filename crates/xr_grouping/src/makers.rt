@@ -1,21 +1,23 @@
-//! `groupby("d.field")`, `resample` and `coarsen` of arrays: how their positions are grouped.
-ghost use Rattle.std.specs.Prelude.{List, not};
+//! `groupby("d.field")`, `resample`, `rolling` and `coarsen` of arrays: how their positions are grouped.
+ghost use Rattle.std.specs.Prelude.{◌≡◌, List, true, not, IfOk};
 ghost use Rattle.xr_arrays.specs.declared.node.Node.{Node};
 ghost use Rattle.xr_groups.specs.Calls as calls;
-ghost use Rattle.xr_groups.specs.declared.maker.Maker.TheVariants.{Coarsen, Resample};
+ghost use Rattle.xr_groups.specs.declared.maker.Maker.TheVariants.{Coarsen, Resample, Rolling};
 ghost use Rattle.xr_parts.specs.Frames.{IsFrame};
 ghost use Rattle.xr_defs.specs.Building.{is_chars};
 ghost use Rattle.xr_types.specs.Results.{Answers, unless};
 ghost use Rattle.xr_types.specs.declared.fault.Fault.TheVariants.{WrongKind};
 ghost use Rattle.xr_values.specs.Meaning.{given};
 ghost use Rattle.xr_values.specs.Stands.{array_in};
+ghost use Rattle.xr_grouping.specs.Changes.{is_served};
 ghost use Rattle.xr_grouping.specs.Mades.{dated_grouping};
 
 use crate::blocks::check_blocks;
-use crate::checked::{binned_changes, dated_changes};
+use crate::checked::{binned_changes, dated_changes, windowed_changes};
 use crate::coarsens::coarsen_given;
 use crate::fields::groupby_given;
 use crate::freqs::resample_given;
+use crate::rolls::rolling_given;
 use std::alloc::Global;
 use xr_defs::Grouping;
 use xr_formulas::is_chars;
@@ -76,6 +78,33 @@ pub fn binned_grouping(alloc: Global, on: &DataArray, args: &Args) -> Result<Gro
     let (dimension, freq) = resample_given(alloc, args)?;
     binned_changes(alloc, &dimension, freq, on.axes.as_slice())?;
     Ok(Grouping::Bins(dimension, freq))
+}
+
+/// How `rolling(d=w, center, min_periods)` groups the positions of an array in windows.
+///
+/// # Errors
+/// `WrongKind` for an array of chars. Then `BadArgument` for arguments that don't fit, and `WrongKind` for one of another kind. Then
+/// `NoDimension`, and `BadArgument` for a window of an even width that has its position in the middle.
+#[tactic(auto, unfolding(xr_groups::specs::Calls::array_grouping, xr_groups::specs::Calls::grouping_over, xr_groups::specs::Calls::grouping_given))]
+pub fn rolled_grouping(alloc: Global, on: &DataArray, args: &Args) -> Result<Grouping, CallFault>
+    ensures answers { (nodes others : List Node) → Answers (λ g. g) result (calls.array_grouping Rolling (array_in nodes on.now) (given others args.now)) }
+    ensures served { IfOk result (λ g. is_served g ≡ true) }
+{
+    check_kind(on)?;
+    let asked = rolling_given(alloc, args)?;
+    windowed_changes(
+        alloc,
+        &asked.dimension,
+        asked.width,
+        asked.center,
+        on.axes.as_slice(),
+    )?;
+    Ok(Grouping::Windows {
+        dimension: asked.dimension,
+        width: asked.width,
+        center: asked.center,
+        least: asked.least,
+    })
 }
 
 /// How `coarsen(d=w, .., boundary, coord_func)` groups the positions of an array in blocks.

@@ -1,5 +1,5 @@
-//! Methods of arrays in groups by dates and in bins of times.
-ghost use Rattle.std.specs.Prelude.{List, IfOk};
+//! Methods of arrays in groups by dates, in bins of times and in windows.
+ghost use Rattle.std.specs.Prelude.{◌≡◌, List, true, IfOk};
 ghost use Rattle.xr_arrays.specs.declared.node.Node.{Node};
 ghost use Rattle.xr_defs.specs.Room.{AddsForAny};
 ghost use Rattle.xr_defs.specs.declared.grouping.Grouping.TheVariants.{Bins, Dates};
@@ -8,13 +8,16 @@ ghost use Rattle.xr_groups.specs.Methods as calls;
 ghost use Rattle.xr_values.specs.Answers.{AnswersArray};
 ghost use Rattle.xr_values.specs.Meaning.{given};
 ghost use Rattle.xr_values.specs.Stands.{array_in, IsArrayIn};
+ghost use Rattle.xr_grouping.specs.Changes.{is_served};
 
 use crate::arrays::dated_made;
 use crate::bins::binned_made;
+use crate::windows::windowed_array;
 use plan_core::Plan;
 use std::alloc::Global;
-use xr_arrays::{Field, Freq};
+use xr_defs::Grouping;
 use xr_formulas::realize;
+use xr_times::{Field, Freq};
 use xr_types::{CallFault, FoldKind, TextBytes};
 use xr_values::{Args, DataArray};
 
@@ -68,4 +71,43 @@ pub fn binned_array(
 {
     let made = binned_made(alloc, fold, dimension, freq, on, args)?;
     Ok(realize(alloc, plan, made)?)
+}
+
+/// A method of a grouped array.
+///
+/// # Errors
+/// `BadArgument` for a method that the grouping doesn't have, and for arguments that don't fit; `WrongKind` for a fill that is neither
+/// `NA` nor a literal of the result's kind; what refuses the grouping; `WouldPromote` where a fill is needed and none is given;
+/// `DoesNotFit`; `TooLarge`.
+pub fn grouped_array(
+    alloc: Global,
+    plan: &mut Plan,
+    fold: FoldKind,
+    grouping: &Grouping,
+    on: &DataArray,
+    args: &Args,
+) -> Result<DataArray, CallFault>
+    requires served { is_served grouping.now ≡ true }
+    requires is { IsArrayIn plan.old on.now }
+    ensures answers { (nodes : List Node) → AnswersArray plan.new result (calls.grouped_array fold grouping.now (array_in plan.old on.now) (given nodes args.now)) }
+    ensures grows { Grows plan.old plan.new }
+    ensures room { IfOk result (λ b. AddsForAny plan.old plan.new (array_in plan.new b)) }
+{
+    match grouping {
+        Grouping::Dates(dimension, field) => {
+            dated_array(alloc, plan, fold, dimension, *field, on, args)
+        }
+        Grouping::Bins(dimension, freq) => {
+            binned_array(alloc, plan, fold, dimension, *freq, on, args)
+        }
+        Grouping::Windows {
+            dimension,
+            width,
+            center,
+            least,
+        } => windowed_array(
+            alloc, plan, fold, dimension, *width, *center, *least, on, args,
+        ),
+        Grouping::Coordinate(_) | Grouping::Blocks { .. } => unreachable!(),
+    }
 }

@@ -3,8 +3,8 @@ use Rattle.std.proofs.Common.{◌≡◌, ℤ, pos, false, List, [], ◌∷◌, O
 use Rattle.std.specs.Prelude.{codes}
 use Rattle.std.specs.Ordering.{int_cmp}
 use Rattle.xr_types.specs.declared.fault.Fault.TheVariants.{BadArgument}
-use Rattle.xr_arrays.specs.declared.time.Field.TheVariants.{Month}
-use Rattle.xr_arrays.specs.declared.time.Freq.TheVariants.{Seconds, Months}
+use Rattle.xr_times.specs.declared.time.Field.TheVariants.{Month}
+use Rattle.xr_times.specs.declared.time.Freq.TheVariants.{Seconds, Months}
 use Rattle.xr_defs.specs.declared.grouping.Grouping.TheVariants.{Coordinate, Dates}
 use Rattle.xr_groups.specs.Blocks.{blocks, windows}
 use Rattle.xr_groups.specs.Calls.{freq_called, groups_called, width_called, unit_called, split_last, field_called}

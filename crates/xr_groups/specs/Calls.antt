@@ -8,11 +8,11 @@ use Rattle.xr_types.specs.declared.fault.Fault.{Fault}
 use Rattle.xr_types.specs.declared.fault.Fault.TheVariants.{BadArgument, WrongKind}
 use Rattle.xr_types.specs.declared.operation.FoldKind.{FoldKind}
 use Rattle.xr_types.specs.declared.operation.FoldKind.TheVariants.{Sum, Min, Max}
-use Rattle.xr_arrays.specs.Times.{is_digit}
-use Rattle.xr_arrays.specs.declared.time.Field.{Field}
-use Rattle.xr_arrays.specs.declared.time.Field.TheVariants.{Year, Month, Day, Hour, Minute, Second, DayOfYear, DayOfWeek}
-use Rattle.xr_arrays.specs.declared.time.Freq.{Freq}
-use Rattle.xr_arrays.specs.declared.time.Freq.TheVariants.{Seconds, Months, Years}
+use Rattle.xr_times.specs.Times.{is_digit}
+use Rattle.xr_times.specs.declared.time.Field.{Field}
+use Rattle.xr_times.specs.declared.time.Field.TheVariants.{Year, Month, Day, Hour, Minute, Second, DayOfYear, DayOfWeek}
+use Rattle.xr_times.specs.declared.time.Freq.{Freq}
+use Rattle.xr_times.specs.declared.time.Freq.TheVariants.{Seconds, Months, Years}
 use Rattle.xr_defs.specs.Arguments.{wrong, unfit, as_text}
 use Rattle.xr_defs.specs.Building.{given_value, is_chars, keyword}
 use Rattle.xr_defs.specs.Meanings as of

@@ -12,6 +12,8 @@ use Rattle.xr_types.specs.declared.axis.Axis.{Axis}
 use Rattle.xr_types.specs.declared.axis.Labels.{Labels}
 use Rattle.xr_types.specs.declared.axis.LabelList.{LabelList}
 use Rattle.xr_types.specs.declared.axis.LabelList.TheVariants.{Numbers, Times, Texts}
+use Rattle.xr_types.specs.declared.axis.Calendar.{Calendar}
+use Rattle.xr_types.specs.declared.axis.Calendar.TheVariants.{Civil, NoLeap, Days360}
 use Rattle.xr_types.specs.declared.axis.TimeCoding.{TimeCoding}
 use Rattle.xr_types.specs.declared.fault.Fault.{Fault}
 use Rattle.xr_types.specs.declared.fault.Fault.TheVariants.{BadArgument, DuplicateName, LabelKind, NoDimension, NotMultiple, NotTime, NoVariable, WouldPromote, WrongKind}
@@ -19,12 +21,12 @@ use Rattle.xr_types.specs.declared.kind.DType.{DType}
 use Rattle.xr_types.specs.declared.kind.DType.TheVariants as kinds
 use Rattle.xr_types.specs.declared.operation.FoldKind.{FoldKind}
 use Rattle.xr_types.specs.declared.operation.FoldKind.TheVariants.{Sum, Prod, Min, Max, First, Last, ArgMin, ArgMax, Count, Any, All}
-use Rattle.xr_arrays.specs.Bins.{bins_of}
-use Rattle.xr_arrays.specs.declared.bin_list.BinList.{BinList}
-use Rattle.xr_arrays.specs.declared.time.Field.{Field}
-use Rattle.xr_arrays.specs.declared.time.Field.TheVariants.{Year, Month, Day, Hour, Minute, Second, DayOfYear, DayOfWeek}
-use Rattle.xr_arrays.specs.declared.time.Freq.{Freq}
-use Rattle.xr_arrays.specs.declared.time.Freq.TheVariants.{Seconds, Months, Years}
+use Rattle.xr_times.specs.Bins.{bins_of}
+use Rattle.xr_times.specs.declared.bin_list.BinList.{BinList}
+use Rattle.xr_times.specs.declared.time.Field.{Field}
+use Rattle.xr_times.specs.declared.time.Field.TheVariants.{Year, Month, Day, Hour, Minute, Second, DayOfYear, DayOfWeek}
+use Rattle.xr_times.specs.declared.time.Freq.{Freq}
+use Rattle.xr_times.specs.declared.time.Freq.TheVariants.{Seconds, Months, Years}
 use Rattle.xr_defs.specs.Building.{is_integer_kind}
 use Rattle.xr_defs.specs.Parts.{is_labelled_as}
 use Rattle.xr_defs.specs.Selecting.{axis_called}
@@ -87,10 +89,27 @@ field_name Second = codes "second"
 field_name DayOfYear = codes "dayofyear"
 field_name DayOfWeek = codes "dayofweek"
 
+abbrev pub is_weekday : Field → Bool
+is_weekday Year = false
+is_weekday Month = false
+is_weekday Day = false
+is_weekday Hour = false
+is_weekday Minute = false
+is_weekday Second = false
+is_weekday DayOfYear = false
+is_weekday DayOfWeek = true
+
+-- weeks are those of civil dates
+abbrev pub has_field : Calendar → Field → Bool
+has_field Civil field = true
+has_field NoLeap field = not (is_weekday field)
+has_field Days360 field = not (is_weekday field)
+
 -- by a field of the dates, of kind int64
 unfoldable pub date_change : List ℕ → Field → List Axis → Result Change Fault
 date_change d field axes =
-    axis_found d axes >>= λ x. times_along x >>= λ t. Ok (number_groups d (field_name field) kinds.Int64 [] (field_keys field t.times))
+    axis_found d axes >>= λ x. times_along x >>= λ t. unless (has_field t.coding.units.calendar field) BadArgument >>= λ u.
+    Ok (number_groups d (field_name field) kinds.Int64 [] (field_keys t.coding.units.calendar field t.times))
 
 -- by the labels of an index
 unfoldable pub index_groups : List ℕ → Labels → Change
@@ -128,7 +147,7 @@ coordinate_change name axes coords =
 
 unfoldable pub bins_along : List ℕ → Freq → TimeIndex → Result Change Fault
 bins_along d freq t =
-    bins_of freq t.times >>= λ (b : BinList).
+    bins_of t.coding.units.calendar freq t.times >>= λ (b : BinList).
     Ok (record { dimension = d; lists = bin_lists (length b.starts) b.bin; axis = labelled_axis d (Times t.coding b.starts) (length b.starts) t.attrs })
 
 -- a bin has a width

@@ -3,8 +3,9 @@ use Rattle.std.specs.Prelude.{◌==◌, ℕ, ℤ, pos, Bool, false, List, [], �
 use Rattle.std.specs.List.{filter, range_with_len}
 use Rattle.std.specs.declared.cmp.Ordering.{Ordering}
 use Rattle.std.specs.Ordering.{is_eq, match_ordering}
-use Rattle.xr_arrays.specs.declared.time.Field.{Field}
-use Rattle.xr_arrays.specs.Times.{field_of}
+use Rattle.xr_times.specs.declared.time.Field.{Field}
+use Rattle.xr_types.specs.declared.axis.Calendar.{Calendar}
+use Rattle.xr_times.specs.Times.{field_of}
 
 -- ---- groups
 
@@ -44,8 +45,8 @@ bin_lists count places = map (places_of places) (range_with_len 0 count)
 
 -- ---- keys
 
-abbrev pub field_keys : Field → List ℤ → List (Option ℤ)
-field_keys field ts = map (λ t. Some (pos (field_of t field))) ts
+abbrev pub field_keys : Calendar → Field → List ℤ → List (Option ℤ)
+field_keys c field ts = map (λ t. Some (pos (field_of c t field))) ts
 
 abbrev pub each_key : {K : Type 0} → List K → List (Option K)
 each_key xs = map Some xs

@@ -14,7 +14,7 @@ use Rattle.xr_types.specs.declared.axis.LabelList.TheVariants.{Numbers, Times, T
 use Rattle.xr_defs.specs.declared.value.Coord.{Coord}
 use Rattle.xr_types.specs.Names.{among}
 use Rattle.xr_types.specs.Names.{are_distinct}
-use Rattle.xr_arrays.specs.Times.{IsTime}
+use Rattle.xr_times.specs.Times.{IsTime}
 use Rattle.xr_types.specs.Names.{axis_names}
 use Rattle.xr_defs.specs.Values.{axis_position, no_axis, label_count, chosen, chosen_list, chosen_axis, chosen_axes, chosen_content, chosen_coord}
 use Rattle.xr_defs.specs.Selecting.{axis_called}
@@ -35,7 +35,7 @@ index_several : (n : ℕ) (l : Labels) (list : LabelList) (ps : List ℕ) → la
 index_several n l (Numbers kind ns) ps whole are below =
     (length-map ps (λ i. get_or ns i (pos 0)), (are.0, chosen_all (InRange kind) ns ps (pos 0) are.1 (subst (λ m. All (λ p. p < m) ps) (sym whole) below)))
 index_several n l (Times coding ts) ps whole are below =
-    (length-map ps (λ i. get_or ts i (pos 0)), chosen_all IsTime ts ps (pos 0) are (subst (λ m. All (λ p. p < m) ps) (sym whole) below))
+    (length-map ps (λ i. get_or ts i (pos 0)), chosen_all (IsTime coding.units.calendar) ts ps (pos 0) are (subst (λ m. All (λ p. p < m) ps) (sym whole) below))
 index_several n l (Texts ts) ps whole are below = (length-map ps (λ i. get_or ts i []), tt)
 
 axis_several : (x : Axis) (ps : List ℕ) → IsLongAxis x → length ps < 2 ^ 32 → All (λ p. p < x.size) ps → IsLongAxis (chosen_axis x ps)

@@ -18,7 +18,7 @@ use Rattle.xr_defs.specs.Decoding.{is_kept}
 use Rattle.xr_defs.specs.Values as of
 use Rattle.xr_types.specs.Names.{axis_names, shape_over}
 use Rattle.xr_defs.specs.Selecting.{axis_called}
-use Rattle.xr_arrays.specs.Times.{IsTime}
+use Rattle.xr_times.specs.Times.{IsTime}
 use Rattle.xr_values.specs.declared.data_array.DataArray.{DataArray}
 use Rattle.xr_values.specs.declared.variable.Variable.{Variable}
 use Rattle.xr_values.specs.declared.dataset.Dataset.{Dataset}
@@ -40,7 +40,7 @@ pub record AreManyCells (shape : List ℕ) (kind : DType) (masked : Bool) (cells
 abbrev pub IsLongContent : List ℕ → Content → Type 0
 IsLongContent shape (contents.Cells a masked) = (a.shape ≡ shape) × AreManyCells shape a.kind masked a.cells
 IsLongContent shape (contents.Text text) = shape ≡ []
-IsLongContent shape (contents.Time coding t) = (shape ≡ []) × IsTime t
+IsLongContent shape (contents.Time coding t) = (shape ≡ []) × IsTime coding.units.calendar t
 
 -- an axis of a coordinate or a variable is the one of its name
 abbrev pub IsThere : List Axis → Axis → Type 0

@@ -22,7 +22,7 @@ use Rattle.xr_types.specs.declared.kind.DType.{DType}
 use Rattle.xr_types.specs.declared.operation.How.TheVariants.{Inner}
 use Rattle.xr_arrays.specs.Labels.{labels_of, place, repeats}
 use Rattle.xr_arrays.specs.Nodes.{IsBelow}
-use Rattle.xr_arrays.specs.Times.{IsTime}
+use Rattle.xr_times.specs.Times.{IsTime}
 use Rattle.xr_defs.specs.Building.{is_integer_kind, same_labels}
 use Rattle.xr_defs.specs.Limits.{most_cells}
 use Rattle.xr_defs.specs.Values.{label_count}
@@ -179,7 +179,7 @@ AreOf t (Texts ts) = ⊤
 
 kept_range : (t : DType) (p : Label → Bool) (list : LabelList) → AreOf t list → AreLabels list → AreLabels (kept_list t p list)
 kept_range t p (Numbers kind ns) of_kind are = (of_kind.0, All-filter (λ n. p (Int n)) (InRange t) ns (λ k d lt. of_kind.1 (get_or ns k d) (are.1 k d lt)))
-kept_range t p (Times coding ts) of_kind are = All-filter (λ n. p (Time n)) IsTime ts are
+kept_range t p (Times coding ts) of_kind are = All-filter (λ n. p (Time n)) (IsTime coding.units.calendar) ts are
 kept_range t p (Texts ts) of_kind are = tt
 
 all_pass : {X : Type 0} (xs : List X) → filter (λ x. true) xs ≡ xs

@@ -9,8 +9,6 @@ use Rattle.xr_types.specs.Kinds.{promoted}
 use Rattle.xr_types.specs.Names.{among, axis_names, shape_over}
 use Rattle.xr_types.specs.Results.{◌>>=◌, unless}
 use Rattle.xr_types.specs.declared.axis.Axis.{Axis}
-use Rattle.xr_types.specs.declared.axis.Calendar.{Calendar}
-use Rattle.xr_types.specs.declared.axis.Calendar.TheVariants as calendars
 use Rattle.xr_types.specs.declared.axis.Label.{Label}
 use Rattle.xr_types.specs.declared.axis.Label.TheVariants.{Int, Time, Text}
 use Rattle.xr_types.specs.declared.axis.Labels.{Labels}
@@ -24,6 +22,7 @@ use Rattle.xr_types.specs.declared.operation.How.{How}
 use Rattle.xr_types.specs.declared.operation.How.TheVariants as how
 use Rattle.xr_arrays.specs.Arrays.{Array, at, made}
 use Rattle.xr_arrays.specs.Labels.{labels_of, order, place, repeats, same}
+use Rattle.xr_times.specs.Times.{same_calendar}
 use Rattle.xr_defs.specs.Building.{same_labels}
 use Rattle.xr_defs.specs.Selecting.{axis_called}
 use Rattle.xr_defs.specs.Values.{DataArray, array_of, no_axis}
@@ -32,12 +31,6 @@ use Rattle.xr_defs.specs.declared.value.Content.TheVariants as contents
 use Rattle.xr_defs.specs.declared.value.Coord.{Coord}
 
 -- ---- labels of one kind
-
-abbrev pub same_calendar : Calendar → Calendar → Bool
-same_calendar calendars.Civil calendars.Civil = true
-same_calendar calendars.NoLeap calendars.NoLeap = true
-same_calendar calendars.Days360 calendars.Days360 = true
-same_calendar c d = false
 
 -- whole numbers, times of one calendar, or texts
 abbrev pub are_kin : LabelList → LabelList → Bool

@@ -14,10 +14,11 @@ use Rattle.xr_types.specs.declared.fault.Fault.TheVariants.{WrongKind, BadArgume
 use Rattle.xr_types.specs.declared.operation.Near.{Near}
 use Rattle.xr_types.specs.declared.operation.Near.TheVariants.{Pad, Backfill, Nearest}
 use Rattle.xr_arrays.specs.Labels.{direction_of, find_near_of, find_of, hits, is_kin, is_nearest, labels_of, repeats, slice_of, suits}
-use Rattle.xr_arrays.specs.Times.{date_period}
+use Rattle.xr_types.specs.declared.axis.Calendar.{Calendar}
+use Rattle.xr_times.specs.Times.{date_period}
 use Rattle.xr_arrays.specs.declared.search.Direction.{Direction}
 use Rattle.xr_arrays.specs.declared.search.Direction.TheVariants.{Ascending, Descending, Neither}
-use Rattle.xr_arrays.specs.declared.time.Period.{Period}
+use Rattle.xr_times.specs.declared.time.Period.{Period}
 use Rattle.xr_defs.specs.Arguments.{wrong, unfit, as_text, check_dimension}
 use Rattle.xr_defs.specs.Building.{all_values, given_value, keyword}
 use Rattle.xr_defs.specs.Meanings.{Value, Values, Number, Text, Sequence, Slice, NoValue, With, Given}
@@ -84,11 +85,11 @@ check_kind axes kv = if is_bare axes kv.0 then check_selector kv else unless (ar
 
 -- ---- a label among those of an axis. A time is the text of a full date and time.
 
-unfoldable pub as_time : List ℕ → Result Label Fault
-as_time t = if length t == 19 then elim (date_period t) [ None ↦ unfit | Some p ↦ Ok (label.Time p.first) ] else unfit
+unfoldable pub as_time : Calendar → List ℕ → Result Label Fault
+as_time c t = if length t == 19 then elim (date_period c t) [ None ↦ unfit | Some p ↦ Ok (label.Time p.first) ] else unfit
 
 unfoldable pub as_text_label : LabelList → List ℕ → Result Label Fault
-as_text_label (lists.Times coding ts) t = as_time t
+as_text_label (lists.Times coding ts) t = as_time coding.units.calendar t
 as_text_label (lists.Numbers kind ns) t = Ok (label.Text t)
 as_text_label (lists.Texts ts) t = Ok (label.Text t)
 
@@ -145,7 +146,7 @@ abbrev pub second_of : Bool → Period → ℤ
 second_of last p = if last then p.last else p.first
 
 unfoldable pub as_text_end : LabelList → Bool → List ℕ → Result Label Fault
-as_text_end (lists.Times coding ts) last t = elim (date_period t) [ None ↦ unfit | Some p ↦ Ok (label.Time (second_of last p)) ]
+as_text_end (lists.Times coding ts) last t = elim (date_period coding.units.calendar t) [ None ↦ unfit | Some p ↦ Ok (label.Time (second_of last p)) ]
 as_text_end (lists.Numbers kind ns) last t = Ok (label.Text t)
 as_text_end (lists.Texts ts) last t = Ok (label.Text t)
 

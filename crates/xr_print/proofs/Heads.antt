@@ -7,21 +7,22 @@ use Rattle.xr_types.specs.declared.axis.LabelList.TheVariants.{Numbers, Times, T
 use Rattle.xr_defs.specs.declared.value.Content.{Content}
 use Rattle.xr_defs.specs.declared.value.Content.TheVariants as contents
 use Rattle.xr_defs.specs.Text.{printed_name, masked_text, after_blanks, label_kind, label_texts, index_line, quoted, cell_text}
-use Rattle.xr_arrays.specs.Times.{time_text}
+use Rattle.xr_types.specs.declared.axis.Calendar.{Calendar}
+use Rattle.xr_times.specs.Times.{time_text}
 use Rattle.xr_defs.specs.Printing.{dims_text, coord_line, content_line}
 use Rattle.xr_print.specs.Pieces.{index_head, coord_head, content_kind, content_masked, content_items, label_items, shown_time}
 
-time_is : (t : ℤ) → shown_time t ≡ time_text t
+time_is : (c : Calendar) (t : ℤ) → shown_time c t ≡ time_text c t
 unfolding shown_time
-time_is t = refl
+time_is c t = refl
 
-times_are : (ts : List ℤ) → map shown_time ts ≡ map time_text ts
-times_are [] = refl
-times_are (t ∷ ts) = ap (λ x. x ∷ map shown_time ts) (time_is t) ∙ ap (λ xs. time_text t ∷ xs) (times_are ts)
+times_are : (c : Calendar) (ts : List ℤ) → map (shown_time c) ts ≡ map (time_text c) ts
+times_are c [] = refl
+times_are c (t ∷ ts) = ap (λ x. x ∷ map (shown_time c) ts) (time_is c t) ∙ ap (λ xs. time_text c t ∷ xs) (times_are c ts)
 
 items_are : (labels : LabelList) → label_items labels ≡ label_texts labels
 items_are (Numbers kind ns) = refl
-items_are (Times coding ts) = times_are ts
+items_are (Times coding ts) = times_are coding.units.calendar ts
 items_are (Texts ts) = refl
 
 head_and_texts : (name : List ℕ) (labels : LabelList) → index_line name labels ≡ index_head name labels ++ (after_blanks (label_texts labels) ++ 10 ∷ [])
@@ -53,4 +54,4 @@ pub content_parts : (name : List ℕ) (dims : List (List ℕ)) (content : Conten
 content_parts name dims (contents.Cells a masked) = coord_parts name (kind_name a.kind) masked dims (map (cell_text a.kind) a.cells)
 content_parts name dims (contents.Text text) = coord_parts name (codes "text") false dims (quoted text ∷ [])
 content_parts name dims (contents.Time coding t) =
-    coord_parts name (codes "time") false dims (time_text t ∷ []) ∙ ap (λ x. coord_head name (codes "time") false dims ++ (after_blanks (x ∷ []) ++ 10 ∷ [])) (sym (time_is t))
+    coord_parts name (codes "time") false dims (time_text coding.units.calendar t ∷ []) ∙ ap (λ x. coord_head name (codes "time") false dims ++ (after_blanks (x ∷ []) ++ 10 ∷ [])) (sym (time_is coding.units.calendar t))

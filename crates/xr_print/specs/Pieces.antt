@@ -13,7 +13,8 @@ use Rattle.xr_arrays.specs.declared.typed.Cells.TheVariants as kept
 use Rattle.xr_arrays.specs.Numbers.{numbers_of}
 use Rattle.xr_defs.specs.Printing.{chars_text, dims_text}
 use Rattle.xr_defs.specs.Text.{escape, quoted_byte, joined, truth_text, printed_name, masked_text, label_kind, cell_text, quoted}
-use Rattle.xr_arrays.specs.Times.{time_text}
+use Rattle.xr_types.specs.declared.axis.Calendar.{Calendar}
+use Rattle.xr_times.specs.Times.{time_text}
 
 -- the first byte of a character of so many bytes, or one with no character at it
 abbrev pub first_text : ℕ → ℕ → List ℕ
@@ -40,12 +41,12 @@ coord_head name kind masked dims = codes "coord " ++ (printed_name name ++ (32 �
 -- ---- labels
 
 -- the text of a time, as one word
-unfoldable pub shown_time : ℤ → List ℕ
-shown_time t = time_text t
+unfoldable pub shown_time : Calendar → ℤ → List ℕ
+shown_time c t = time_text c t
 
 abbrev pub label_items : LabelList → List (List ℕ)
 label_items (Numbers kind ns) = map signed_decimal ns
-label_items (Times coding ts) = map shown_time ts
+label_items (Times coding ts) = map (shown_time coding.units.calendar) ts
 label_items (Texts ts) = map quoted ts
 
 -- ---- what a coordinate holds
@@ -63,7 +64,7 @@ content_masked (contents.Time coding t) = false
 abbrev pub content_items : Content → List (List ℕ)
 content_items (contents.Cells a masked) = map (cell_text a.kind) a.cells
 content_items (contents.Text text) = quoted text ∷ []
-content_items (contents.Time coding t) = shown_time t ∷ []
+content_items (contents.Time coding t) = shown_time coding.units.calendar t ∷ []
 
 -- ---- attributes
 

@@ -1,7 +1,7 @@
 //! The lines of coordinates that are no index.
 ghost use Rattle.std.specs.Prelude.{◌≡◌, ◌++◌, [], ◌∷◌, OnOk};
 ghost use Rattle.xr_defs.specs.Text.{after_blanks, quoted, masked_text};
-ghost use Rattle.xr_arrays.specs.Times.{IsTime};
+ghost use Rattle.xr_times.specs.Times.{IsTime};
 ghost use Rattle.xr_types.specs.Names.{axis_names};
 ghost use Rattle.xr_defs.specs.Printing.{content_line, coord_text};
 ghost use Rattle.xr_print.specs.Conditions.{IsTimeContent, HoldsTime};
@@ -14,7 +14,7 @@ use crate::times::push_time;
 use itoa::Buffer;
 use std::alloc::AllocError;
 use xr_defs::{Content, Coord};
-use xr_types::Axis;
+use xr_types::{Axis, Calendar};
 
 /// Appends the mark of what is masked.
 pub(crate) fn push_masked(out: &mut Vec<u8>, masked: bool) -> Result<(), AllocError>
@@ -75,12 +75,12 @@ fn push_text_item(out: &mut Vec<u8>, text: &[u8]) -> Result<(), AllocError>
 }
 
 #[tactic(auto, using(crate::proofs::Items::one_item))]
-fn push_time_item(out: &mut Vec<u8>, time: i64) -> Result<(), AllocError>
-    requires { IsTime time }
-    ensures { OnOk result (out.new.items ≡ out.old.items ++ after_blanks (shown_time time ∷ [])) }
+fn push_time_item(out: &mut Vec<u8>, time: i64, calendar: Calendar) -> Result<(), AllocError>
+    requires { IsTime calendar time }
+    ensures { OnOk result (out.new.items ≡ out.old.items ++ after_blanks (shown_time calendar time ∷ [])) }
 {
     out.push(b' ')?;
-    push_time(out, time)
+    push_time(out, time, calendar)
 }
 
 fn push_content(out: &mut Vec<u8>, digits: &mut Buffer, content: &Content) -> Result<(), AllocError>
@@ -90,7 +90,7 @@ fn push_content(out: &mut Vec<u8>, digits: &mut Buffer, content: &Content) -> Re
     match content {
         Content::Cells(cells, _) => push_cells(out, digits, cells),
         Content::Text(text) => push_text_item(out, text.as_bytes()),
-        Content::Time(_, time) => push_time_item(out, *time),
+        Content::Time(coding, time) => push_time_item(out, *time, coding.units.calendar),
     }
 }
 

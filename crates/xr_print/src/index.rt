@@ -2,7 +2,7 @@
 ghost use Rattle.std.specs.Prelude.{◌≡◌, ◌++◌, All, flat_map, map, OnOk};
 ghost use Rattle.std.specs.Fmt.{signed_decimal};
 ghost use Rattle.xr_defs.specs.Text.{after_blanks, quoted, label_kind, index_line, index_text};
-ghost use Rattle.xr_arrays.specs.Times.{IsTime};
+ghost use Rattle.xr_times.specs.Times.{IsTime};
 ghost use Rattle.xr_print.specs.Conditions.{AreTimes, HasTimes};
 ghost use Rattle.xr_print.specs.Pieces.{index_head, label_items, shown_time};
 
@@ -12,15 +12,15 @@ use crate::rows::push_after_blanks;
 use crate::times::push_time;
 use itoa::Buffer;
 use std::alloc::AllocError;
-use xr_types::{Axis, Integers, IntegersForm, LabelList, TextBytes};
+use xr_types::{Axis, Calendar, Integers, IntegersForm, LabelList, TextBytes};
 
-fn push_times(out: &mut Vec<u8>, times: &[i64]) -> Result<(), AllocError>
-    requires { All IsTime times.now }
-    ensures { OnOk result (out.new.items ≡ out.old.items ++ after_blanks (map shown_time times.now)) }
+fn push_times(out: &mut Vec<u8>, times: &[i64], calendar: Calendar) -> Result<(), AllocError>
+    requires { All (IsTime calendar) times.now }
+    ensures { OnOk result (out.new.items ≡ out.old.items ++ after_blanks (map (shown_time calendar) times.now)) }
 {
     for time in times {
         out.push(b' ')?;
-        push_time(out, *time)?;
+        push_time(out, *time, calendar)?;
     }
     Ok(())
 }
@@ -55,7 +55,7 @@ fn push_labels(out: &mut Vec<u8>, digits: &mut Buffer, labels: &LabelList) -> Re
 {
     match labels {
         LabelList::Numbers(_, numbers) => push_integers(out, digits, numbers),
-        LabelList::Times(_, times) => push_times(out, times.as_slice()),
+        LabelList::Times(coding, times) => push_times(out, times.as_slice(), coding.units.calendar),
         LabelList::Texts(texts) => push_texts(out, texts.as_slice()),
     }
 }

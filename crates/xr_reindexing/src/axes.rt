@@ -1,8 +1,8 @@
 //! Axes with new labels.
-ghost use Rattle.std.specs.Prelude.{◌≡◌, ◌++◌, ⊤, Some, map, option_map, All, IfOk, OnOk, MatchOption};
+ghost use Rattle.std.specs.Prelude.{◌≡◌, true, ◌++◌, ⊤, Some, map, option_map, All, IfOk, OnOk, MatchOption};
 ghost use Rattle.xr_types.specs.Kinds.{InRange};
 ghost use Rattle.xr_types.specs.declared.kind.DType.TheVariants as kinds;
-ghost use Rattle.xr_arrays.specs.Times.{IsTime};
+ghost use Rattle.xr_times.specs.Times.{IsTime};
 ghost use Rattle.xr_defs.specs.WellFormed.{AreLabels, IsIndex};
 ghost use Rattle.xr_operations.specs.Alignment.{number_of, relisted, text_of};
 ghost use Rattle.xr_relations.specs.Reindexing as of;
@@ -12,7 +12,8 @@ use crate::named::change_called;
 use std::alloc::Global;
 use xr_relations::Change;
 use xr_types::{
-    Axis, DType, DeepCopy, Integers, Items, Label, LabelList, Labels, NoMemory, Shared, TextBytes,
+    Axis, Calendar, DType, DeepCopy, Integers, Items, Label, LabelList, Labels, NoMemory, Shared,
+    TextBytes,
 };
 
 // The number of a label. One past 64 bits, which is refused before, wants memory.
@@ -42,25 +43,37 @@ fn numbers_of(alloc: Global, labels: &[Label]) -> Result<Items<i64>, NoMemory>
     Ok(numbers)
 }
 
-// The time of a label. One outside the years 1 to 9999, which no text of a date has, wants memory.
-fn time_of(label: &Label) -> Result<i64, NoMemory>
-    ensures is { IfOk result (λ n. n ≡ number_of label.now) }
-    ensures time { IfOk result IsTime }
+// Whether a time stands in the years 1 to 9999 of a calendar.
+fn is_time(time: i64, calendar: Calendar) -> bool
+    ensures { result ≡ true → IsTime calendar time }
 {
-    let time = number_of(label)?;
-    if time < -62_135_596_800 || time >= 253_402_300_800 {
-        return Err(NoMemory);
+    match calendar {
+        Calendar::Civil => time >= -62_135_596_800 && time < 253_402_300_800,
+        Calendar::NoLeap => time >= -62_094_384_000 && time < 253_234_080_000,
+        Calendar::Days360 => time >= -61_243_776_000 && time < 249_765_120_000,
     }
-    Ok(time)
 }
 
-fn times_of(alloc: Global, labels: &[Label]) -> Result<Items<i64>, NoMemory>
+// The time of a label. One outside the years 1 to 9999, which no text of a date has, wants memory.
+fn time_of(label: &Label, calendar: Calendar) -> Result<i64, NoMemory>
+    ensures is { IfOk result (λ n. n ≡ number_of label.now) }
+    ensures time { IfOk result (IsTime calendar) }
+{
+    let time = number_of(label)?;
+    if is_time(time, calendar) {
+        Ok(time)
+    } else {
+        Err(NoMemory)
+    }
+}
+
+fn times_of(alloc: Global, labels: &[Label], calendar: Calendar) -> Result<Items<i64>, NoMemory>
     ensures is { IfOk result (λ ns. ns ≡ map number_of labels.now) }
-    ensures times { IfOk result (All IsTime) }
+    ensures times { IfOk result (All (IsTime calendar)) }
 {
     let mut times = Items::new(alloc);
     for label in labels {
-        times.push(time_of(label)?)?;
+        times.push(time_of(label, calendar)?)?;
     }
     Ok(times)
 }
@@ -96,7 +109,7 @@ fn relisted(alloc: Global, list: &LabelList, labels: &[Label]) -> Result<LabelLi
             Ok(LabelList::Numbers(DType::Int64, numbers))
         }
         LabelList::Times(coding, _) => {
-            let times = Shared::of(alloc, times_of(alloc, labels)?)?;
+            let times = Shared::of(alloc, times_of(alloc, labels, coding.units.calendar)?)?;
             Ok(LabelList::Times(coding.deep_copy(alloc)?, times))
         }
         LabelList::Texts(_) => {

@@ -1,8 +1,8 @@
 //! `times(units, LIST, calendar="proleptic_gregorian")`: labels that are times.
 ghost use Rattle.std.specs.Prelude.{◌≡◌, ◌∷◌, Some, List, map, is_some, option_map, All, IfOk};
 ghost use Rattle.xr_arrays.specs.declared.node.Node.{Node};
-ghost use Rattle.xr_arrays.specs.Times.{IsTime};
-ghost use Rattle.xr_arrays.specs.Units.{reads_early};
+ghost use Rattle.xr_times.specs.Times.{IsTime};
+ghost use Rattle.xr_times.specs.Units.{calendar_named};
 ghost use Rattle.xr_types.specs.Results.{Answers};
 ghost use Rattle.xr_defs.specs.Meanings as meant;
 ghost use Rattle.xr_defs.specs.Selecting as numbers;
@@ -10,7 +10,7 @@ ghost use Rattle.xr_relations.specs.Times as of;
 ghost use Rattle.xr_values.specs.Meaning.{all_values, given, meaning, IsValueIn};
 ghost use Rattle.xr_reindexing.specs.Asked.{behind};
 
-use cf_time::{decode, read_units};
+use cf_time::{calendar_named, decode, read_units};
 use std::alloc::Global;
 use xr_arguments::{argument, as_text, bound, option, required};
 use xr_types::{CallFault, DeepCopy, Fault, Items, NoMemory, Shared, TextBytes, TimeCoding, Units};
@@ -49,10 +49,9 @@ fn counts_given(alloc: Global, value: &Value) -> Result<Items<i128>, CallFault>
 // ---- the calendar and the units
 
 fn is_read(name: &TextBytes) -> bool
-    ensures { result ≡ is_some (reads_early (Some name.now)) }
+    ensures { result ≡ is_some (calendar_named (Some name.now)) }
 {
-    let name = name.as_str();
-    name == "standard" || name == "gregorian" || name == "proleptic_gregorian"
+    calendar_named(name.as_bytes()).is_some()
 }
 
 #[tactic(auto, unfolding(xr_relations::specs::Times::calendar_called))]
@@ -91,7 +90,7 @@ fn units_given(text: &TextBytes, calendar: &TextBytes) -> Result<Units, CallFaul
 #[tactic(auto, unfolding(xr_relations::specs::Times::time_at))]
 fn time_at(units: &Units, count: i128) -> Result<i64, CallFault>
     ensures answers { Answers (λ t. t) result (of.time_at units.now count) }
-    ensures time { IfOk result IsTime }
+    ensures time { IfOk result (IsTime units.now.calendar) }
 {
     match decode(units, count) {
         Some(time) => Ok(time),
@@ -101,9 +100,9 @@ fn time_at(units: &Units, count: i128) -> Result<i64, CallFault>
 
 #[tactic(auto, using(crate::proofs::Loops::behind_both, crate::proofs::Loops::behind_nothing), unfolding(xr_relations::specs::Times::times_at))]
 fn push_times(times: &mut Items<i64>, units: &Units, counts: &[i128]) -> Result<(), CallFault>
-    requires { All IsTime times.old }
+    requires { All (IsTime units.now.calendar) times.old }
     ensures answers { Answers (λ u. times.new) result (behind times.old (of.times_at units.now counts.now)) }
-    ensures times { All IsTime times.new }
+    ensures times { All (IsTime units.now.calendar) times.new }
 {
     match counts {
         [] => Ok(()),
@@ -118,7 +117,7 @@ fn push_times(times: &mut Items<i64>, units: &Units, counts: &[i128]) -> Result<
 #[tactic(auto, using(crate::proofs::Loops::behind_none))]
 fn times_at(alloc: Global, units: &Units, counts: &[i128]) -> Result<Items<i64>, CallFault>
     ensures answers { Answers (λ ts. ts) result (of.times_at units.now counts.now) }
-    ensures times { IfOk result (All IsTime) }
+    ensures times { IfOk result (All (IsTime units.now.calendar)) }
 {
     let mut times = Items::new(alloc);
     push_times(&mut times, units, counts)?;
@@ -134,7 +133,7 @@ fn coded(
     calendar: TextBytes,
     times: Items<i64>,
 ) -> Result<Value, NoMemory>
-    requires { All IsTime times }
+    requires { All (IsTime units.calendar) times }
     ensures means { (nodes : List Node) → IfOk result (λ v. meaning nodes v ≡ meant.Times (of.coded units text.now calendar) times) }
     ensures inside { IfOk result (λ v. (nodes : List Node) → IsValueIn nodes v) }
 {
@@ -167,8 +166,8 @@ fn times_by(
 }
 
 /// The times that counts of a unit from a reference are, as labels: `units` is a text such as `"days since 2000-01-01"`, then
-/// comes the list of counts, and `calendar` is one of `standard`, `gregorian` and `proleptic_gregorian`. The labels keep both
-/// texts.
+/// comes the list of counts, and `calendar` is one of `standard`, `gregorian`, `proleptic_gregorian`, `noleap`, `365_day` and
+/// `360_day`. The labels keep both texts.
 ///
 /// # Errors
 /// `BadArgument` for arguments that fit no parameter, and without `units` or the list; then `WrongKind` for `units` that are no

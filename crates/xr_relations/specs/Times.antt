@@ -6,8 +6,8 @@ use Rattle.xr_types.specs.declared.axis.TimeCoding.{TimeCoding}
 use Rattle.xr_types.specs.declared.axis.Units.{Units}
 use Rattle.xr_types.specs.declared.fault.Fault.{Fault}
 use Rattle.xr_types.specs.declared.fault.Fault.TheVariants.{OutOfRange}
-use Rattle.xr_arrays.specs.Times.{decoded}
-use Rattle.xr_arrays.specs.Units.{reads_early, units_of}
+use Rattle.xr_times.specs.Times.{decoded}
+use Rattle.xr_times.specs.Units.{calendar_named, units_of}
 use Rattle.xr_defs.specs.Arguments.{as_text, unfit, wrong}
 use Rattle.xr_defs.specs.Building.{argument, bound, option, required}
 use Rattle.xr_defs.specs.Meanings.{Given, Sequence, Times, Value}
@@ -19,7 +19,7 @@ counts_given v = wrong
 
 -- the name of a calendar that is read
 unfoldable pub calendar_called : List ℕ → Result (List ℕ) Fault
-calendar_called name = elim (reads_early (Some name)) [ None ↦ unfit | Some early ↦ Ok name ]
+calendar_called name = elim (calendar_named (Some name)) [ None ↦ unfit | Some c ↦ Ok name ]
 
 unfoldable pub calendar_given : Option Value → Result (List ℕ) Fault
 calendar_given None = Ok (codes "proleptic_gregorian")

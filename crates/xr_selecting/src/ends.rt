@@ -7,8 +7,9 @@ ghost use Rattle.xr_operations.specs.Selection as of;
 use cf_time::read_date;
 use label_index::Index;
 use std::alloc::Global;
-use xr_arrays::{Direction, Period, Span};
+use xr_arrays::{Direction, Span};
 use xr_defs::Part;
+use xr_times::Period;
 use xr_types::{CallFault, DeepCopy, Fault, Label, LabelList, TextBytes};
 
 fn second_of(last: bool, period: Period) -> i64
@@ -27,7 +28,7 @@ fn as_text_end(
     ensures { Answers (λ l. l) result (of.as_text_end list.now last text.now) }
 {
     match list {
-        LabelList::Times(_, _) => match read_date(text.as_bytes()) {
+        LabelList::Times(coding, _) => match read_date(text.as_bytes(), coding.units.calendar) {
             Some(period) => Ok(Label::Time(second_of(last, period))),
             None => Err(CallFault::Refused(Fault::BadArgument)),
         },

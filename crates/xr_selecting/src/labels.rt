@@ -7,19 +7,19 @@ ghost use Rattle.xr_values.specs.Meaning.{all_values, meaning};
 
 use cf_time::read_date;
 use std::alloc::Global;
-use xr_types::{CallFault, DeepCopy, Fault, Items, Label, LabelList, TextBytes};
+use xr_types::{Calendar, CallFault, DeepCopy, Fault, Items, Label, LabelList, TextBytes};
 use xr_values::Value;
 
 // The time of a full date and time.
 #[tactic(auto, unfolding(xr_operations::specs::Selection::as_time))]
-fn as_time(text: &TextBytes) -> Result<Label, CallFault>
-    ensures { Answers (λ l. l) result (of.as_time text.now) }
+fn as_time(text: &TextBytes, calendar: Calendar) -> Result<Label, CallFault>
+    ensures { Answers (λ l. l) result (of.as_time calendar text.now) }
 {
     let text = text.as_bytes();
     if text.len() != 19 {
         return Err(CallFault::Refused(Fault::BadArgument));
     }
-    match read_date(text) {
+    match read_date(text, calendar) {
         Some(period) => Ok(Label::Time(period.first)),
         None => Err(CallFault::Refused(Fault::BadArgument)),
     }
@@ -30,7 +30,7 @@ fn as_text_label(alloc: Global, list: &LabelList, text: &TextBytes) -> Result<La
     ensures { Answers (λ l. l) result (of.as_text_label list.now text.now) }
 {
     match list {
-        LabelList::Times(_, _) => as_time(text),
+        LabelList::Times(coding, _) => as_time(text, coding.units.calendar),
         LabelList::Numbers(_, _) => Ok(Label::Text(text.deep_copy(alloc)?)),
         LabelList::Texts(_) => Ok(Label::Text(text.deep_copy(alloc)?)),
     }

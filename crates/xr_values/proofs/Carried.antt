@@ -18,6 +18,9 @@ use Rattle.xr_types.specs.declared.axis.Axis.{Axis}
 use Rattle.xr_arrays.specs.declared.node.Node.{Node}
 use Rattle.xr_files.specs.Classic.{number_of}
 use Rattle.xr_defs.specs.declared.value.Content.{Content}
+use Rattle.xr_types.specs.declared.axis.Calendar.{Calendar}
+use Rattle.xr_types.specs.declared.axis.Calendar.TheVariants.{Civil, NoLeap, Days360}
+use Rattle.xr_times.specs.Times.{same_calendar}
 use Rattle.xr_defs.specs.declared.value.Content.TheVariants.{Cells, Text, Time}
 use Rattle.xr_defs.specs.declared.value.Coord.{Coord}
 use Rattle.xr_defs.specs.Values as of
@@ -71,11 +74,16 @@ cell_same : (c : Option ℤ) → same_cell c c ≡ true
 cell_same None = refl
 cell_same (Some n) = int_same n
 
+calendar_same : (c : Calendar) → same_calendar c c ≡ true
+calendar_same Civil = refl
+calendar_same NoLeap = refl
+calendar_same Days360 = refl
+
 content_same : (c : Content) → same_content c c ≡ true
 unfolding same_content
 content_same (Cells a m) = ap (λ b. b && pointwise same_cell a.cells a.cells) (all_same nat_eq nat_same a.shape) ∙ all_same same_cell cell_same a.cells
 content_same (Text t) = bytes_same t
-content_same (Time c t) = int_same t
+content_same (Time c t) = ap (λ b. b && int_eq t t) (calendar_same c.units.calendar) ∙ int_same t
 
 pub coord_same : (c : Coord) → same_coord c c ≡ true
 unfolding same_coord

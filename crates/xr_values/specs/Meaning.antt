@@ -3,7 +3,7 @@ use Rattle.std.specs.Prelude.{List, [], ◌∷◌, map, All, ⊤}
 use Rattle.xr_types.specs.declared.text.TextBytes.{TextBytes}
 use Rattle.xr_defs.specs.Meanings as of
 use Rattle.xr_defs.specs.Meanings.{Values, NoValue, With, Entries, NoEntry, Entry, Given}
-use Rattle.xr_arrays.specs.Times.{IsTime}
+use Rattle.xr_times.specs.Times.{IsTime}
 use Rattle.xr_arrays.specs.declared.node.Node.{Node}
 use Rattle.xr_values.specs.declared.value.Value.{Value}
 use Rattle.xr_values.specs.declared.value.Value.TheOpen as held
@@ -95,7 +95,7 @@ unfoldable mutual
   IsTreeIn nodes (tree.Slice start stop step) = ⊤
   IsTreeIn nodes (tree.Array a) = IsArrayIn nodes a
   IsTreeIn nodes (tree.Set s) = IsDatasetIn nodes s
-  IsTreeIn nodes (tree.Times coding ts) = All IsTime ts
+  IsTreeIn nodes (tree.Times coding ts) = All (IsTime coding.units.calendar) ts
   IsTreeIn nodes (tree.GroupedArray a g) = IsArrayIn nodes a
   IsTreeIn nodes (tree.GroupedSet s g) = IsDatasetIn nodes s
 
@@ -125,7 +125,7 @@ IsLayerIn nodes (held.Table es) = All (IsEntryIn nodes) es.items
 IsLayerIn nodes (held.Slice start stop step) = ⊤
 IsLayerIn nodes (held.Array a) = IsArrayIn nodes a.value
 IsLayerIn nodes (held.Set s) = IsDatasetIn nodes s.value
-IsLayerIn nodes (held.Times coding ts) = All IsTime ts
+IsLayerIn nodes (held.Times coding ts) = All (IsTime coding.units.calendar) ts
 IsLayerIn nodes (held.GroupedArray a g) = IsArrayIn nodes a.value
 IsLayerIn nodes (held.GroupedSet s g) = IsDatasetIn nodes s.value
 

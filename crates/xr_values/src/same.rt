@@ -4,13 +4,14 @@ ghost use Rattle.std.specs.Str.{bytes_eq};
 ghost use Rattle.std.specs.Cmp.Lexicographic.{pointwise};
 ghost use Rattle.xr_arrays.specs.Arrays.{hidden, wide};
 ghost use Rattle.xr_types.specs.Names.{axis_names};
+ghost use Rattle.xr_times.specs.Times.{same_calendar};
 ghost use Rattle.xr_defs.specs.Carrying.{same_cell, same_content, same_coord};
 
 use std::alloc::{AllocError, Global};
 use stored_cells::as_typed;
 use xr_arrays::{ArrayValue, Cells};
 use xr_defs::{Content, Coord};
-use xr_types::{Axis, Elem, Items};
+use xr_types::{Axis, Calendar, Elem, Items};
 
 /// Whether the axes have the same names in the same order.
 fn same_dimensions(a: &[Axis], b: &[Axis]) -> bool
@@ -124,6 +125,17 @@ fn same_arrays(alloc: Global, a: &ArrayValue, b: &ArrayValue) -> Result<bool, Al
     Ok(a.shape() == b.shape() && same_cells(cells, mask, others, hides))
 }
 
+/// Whether times of the one calendar are labels of the same kind as those of the other.
+pub fn same_calendar(a: Calendar, b: Calendar) -> bool
+    ensures { result ≡ same_calendar a b }
+{
+    match a {
+        Calendar::Civil => matches!(b, Calendar::Civil),
+        Calendar::NoLeap => matches!(b, Calendar::NoLeap),
+        Calendar::Days360 => matches!(b, Calendar::Days360),
+    }
+}
+
 #[tactic(auto, unfolding(xr_defs::specs::Carrying::same_content))]
 fn same_content(alloc: Global, a: &Content, b: &Content) -> Result<bool, AllocError>
     ensures { IfOk result (λ same. same ≡ same_content a.now b.now) }
@@ -131,7 +143,9 @@ fn same_content(alloc: Global, a: &Content, b: &Content) -> Result<bool, AllocEr
     match (a, b) {
         (Content::Cells(cells, _), Content::Cells(others, _)) => same_arrays(alloc, cells, others),
         (Content::Text(text), Content::Text(other)) => Ok(text.is(other)),
-        (Content::Time(_, time), Content::Time(_, other)) => Ok(time == other),
+        (Content::Time(coding, time), Content::Time(others, other)) => {
+            Ok(same_calendar(coding.units.calendar, others.units.calendar) && time == other)
+        }
         _ => Ok(false),
     }
 }

@@ -1,5 +1,5 @@
 use Rattle.std.proofs.Common.{◌≡◌, drop}
-use Rattle.xr_arrays.specs.Bins.{rises_from}
+use Rattle.xr_times.specs.Bins.{rises_from}
 use Rattle.cf_time.proofs.binning.rises_from.Given as goal
 
 abbrev pub invariant-loop-label : goal.invariant-loop-label

@@ -2,7 +2,7 @@ use Rattle.std.proofs.Common.{◌≡◌, ◌<◌, ◌+◌, ◌&&◌, ℕ, ℤ, B
 use Rattle.std.specs.List.{list_all}
 use Rattle.std.proofs.lemmas.Int.{to_z-of_z}
 use Rattle.std.proofs.lemmas.List.{at_drop_more, at_drop_all}
-use Rattle.xr_arrays.specs.Counts.{is_count, are_counts}
+use Rattle.xr_times.specs.Counts.{is_count, are_counts}
 use Rattle.cf_time.proofs.counts.are_counts.Goals as goal
 
 at_label : (f : ℤ → Bool) (ts : List ℤ) (i : ℕ) (t : ℤ) (b : Bool) → i < length ts → b ≡ f (get_or ts i t) → list_all f (drop i ts) ≡ list_all f ts → (b && list_all f (drop (i + 1) ts)) ≡ list_all f ts

@@ -1,5 +1,5 @@
 use Rattle.std.proofs.Common.{◌≡◌, drop}
-use Rattle.xr_arrays.specs.Counts.{are_counts}
+use Rattle.xr_times.specs.Counts.{are_counts}
 use Rattle.cf_time.proofs.counts.are_counts.Given as goal
 
 abbrev pub invariant-loop-label : goal.invariant-loop-label

@@ -3,8 +3,8 @@ use Rattle.std.proofs.Common.{arith, rules, ◌<ℤ◌, ◌≤ℤ◌, ◌≡◌,
 use Rattle.std.specs.Int.{w128}
 use Rattle.std.specs.Prelude.{unsigned_abs}
 use Rattle.std.proofs.lemmas.Int.{ints, to_z-of_z}
-use Rattle.xr_arrays.specs.Times.{unit_seconds, counted}
-use Rattle.xr_arrays.specs.Counts.{is_count}
+use Rattle.xr_times.specs.Times.{unit_seconds, counted}
+use Rattle.xr_times.specs.Counts.{is_count}
 use Rattle.cf_time.proofs.Counted.{counted_to, counted_on, no_rest}
 use Rattle.cf_time.proofs.counts.count.Goals as goal
 

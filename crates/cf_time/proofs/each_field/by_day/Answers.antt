@@ -1,6 +1,6 @@
 use Rattle.std.proofs.Common.{◌≡◌, get_or, pos, w64, to_z, of_z, FitsSigned, ◌∙◌, rules}
 use Rattle.std.proofs.lemmas.Int.{to_z-of_z}
-use Rattle.xr_arrays.specs.Times.{field_of}
+use Rattle.xr_times.specs.Times.{field_of}
 use Rattle.cf_time.proofs.Mapped.{one_more}
 use Rattle.cf_time.proofs.each_field.by_day.Goals as goal
 
@@ -12,6 +12,6 @@ loop-label-preserved c =
     let same : to_z w64 (of_z w64 c.kept-last.result.value) ≡ c.kept-last.result.value = simp to_z-of_z in
     let is = simp to_z-of_z at c.kept-last.ensures.label in
     record {
-      values = rw c.in_ok-push.ensures.items (one_more (λ t. pos (field_of t c.args.field)) c.args.labels.now _ c.loop-label.label-index _ (pos 0) c.loop-label-test.true (same ∙ is) c.loop-label.invariant.values);
+      values = rw c.in_ok-push.ensures.items (one_more (λ t. pos (field_of c.args.calendar t c.args.field)) c.args.labels.now _ c.loop-label.label-index _ (pos 0) c.loop-label-test.true (same ∙ is) c.loop-label.invariant.values);
       last = c.kept-last.ensures.day;
     }

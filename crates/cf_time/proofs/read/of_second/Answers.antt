@@ -1,6 +1,6 @@
 use Rattle.std.proofs.Common.{◌≡◌, true, false, sym, ◌∙◌}
-use Rattle.xr_arrays.specs.Times.{has_year, has_month, has_day, two_at, year_in, clock_period}
-use Rattle.cf_time.proofs.Chosen.{some_if, some_is, none_if, none_first, none_second, chosen, civil}
+use Rattle.xr_times.specs.Times.{has_year, has_month, has_day, two_at, year_in, clock_period}
+use Rattle.cf_time.proofs.Chosen.{some_if, some_is, none_if, none_first, none_second, chosen, date}
 use Rattle.cf_time.proofs.read.of_second.Goals as goal
 
 pub day-requires-clause-year : goal.day-requires-clause-year
@@ -12,6 +12,12 @@ day-requires-clause-month c = some_is _ _ _ c.in-Some-month.ensures.value
 pub day-requires-clause-years : goal.day-requires-clause-years
 day-requires-clause-years c = c.in-Some.ensures.range.1
 
+pub day-requires-clause-from : goal.day-requires-clause-from
+day-requires-clause-from c = c.in-Some-month.ensures.range.0
+
+pub day-requires-clause-to : goal.day-requires-clause-to
+day-requires-clause-to c = c.in-Some-month.ensures.range.1
+
 pub at_clock-requires-clause-year : goal.at_clock-requires-clause-year
 at_clock-requires-clause-year c = some_is _ _ _ c.in-Some.ensures.value
 
@@ -21,8 +27,8 @@ at_clock-requires-clause-month c = some_is _ _ _ c.in-Some-month.ensures.value
 pub at_clock-requires-clause-day : goal.at_clock-requires-clause-day
 at_clock-requires-clause-day c = some_is _ _ _ c.in-Some-day.ensures.value
 
-pub at_clock-requires-clause-civil : goal.at_clock-requires-clause-civil
-at_clock-requires-clause-civil c = civil _ _ _ c.in-Some.ensures.range c.in-Some-month.ensures.range c.in-Some-day.ensures.range
+pub at_clock-requires-clause-date : goal.at_clock-requires-clause-date
+at_clock-requires-clause-date c = date c.args.calendar _ _ _ c.in-Some.ensures.range c.in-Some-month.ensures.range c.in-Some-day.ensures.range
 
 pub returns-in_default : goal.returns-in_default
 returns-in_default c =
@@ -37,10 +43,10 @@ returns-in_default-month c =
 pub returns-in_default-day : goal.returns-in_default-day
 returns-in_default-day c =
     let t = c.args.text.now in
-    let day : has_day t ≡ false = none_if (has_day t) (two_at t 8) (sym c.in_default-day.is ∙ c.day.ensures.value) in
-    sym (chosen (has_year t) (has_month t) (has_day t) false _ (some_if _ _ _ c.in-Some.ensures.value) (some_if _ _ _ c.in-Some-month.ensures.value) day)
+    let day : has_day c.args.calendar t ≡ false = none_if (has_day c.args.calendar t) (two_at t 8) (sym c.in_default-day.is ∙ c.day.ensures.value) in
+    sym (chosen (has_year t) (has_month t) (has_day c.args.calendar t) false _ (some_if _ _ _ c.in-Some.ensures.value) (some_if _ _ _ c.in-Some-month.ensures.value) day)
 
 pub returns : goal.returns
 returns c =
     let t = c.args.text.now in
-    c.at_clock.ensures ∙ sym (chosen (has_year t) (has_month t) (has_day t) true (clock_period t) (some_if _ _ _ c.in-Some.ensures.value) (some_if _ _ _ c.in-Some-month.ensures.value) (some_if _ _ _ c.in-Some-day.ensures.value))
+    c.at_clock.ensures ∙ sym (chosen (has_year t) (has_month t) (has_day c.args.calendar t) true (clock_period c.args.calendar t) (some_if _ _ _ c.in-Some.ensures.value) (some_if _ _ _ c.in-Some-month.ensures.value) (some_if _ _ _ c.in-Some-day.ensures.value))

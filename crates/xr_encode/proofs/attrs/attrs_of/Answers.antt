@@ -1,4 +1,4 @@
-use Rattle.std.proofs.Common.{◌≡◌, ◌++◌, true, map, subst, sym, ap, ◌∙◌}
+use Rattle.std.proofs.Common.{◌≡◌, ◌++◌, true, map, None, subst, sym, ap, ◌∙◌}
 use Rattle.std.specs.Prelude.{IfSome}
 use Rattle.xr_defs.specs.Encoding.{holds, type_of, coordinates_added}
 use Rattle.xr_encode.specs.Attributes.{written_anew}
@@ -18,6 +18,7 @@ push_fill-requires c =
 pub returns : goal.returns
 returns c =
     let own = c.in_ok-push_own.ensures ∙ ap (λ attrs. c.new-attrs.result ++ map (written_anew c.type_of-kind.result c.in_ok-own.own) attrs) c.as_slice.ensures in
-    let lists = c.in_ok-push_coordinates.ensures ∙ ap (λ names. c.push_fill.new.attrs ++ coordinates_added names) c.as_slice-2.ensures in
-    attrs_made c.args.options.now c.args.outline.now c.type_of-kind.result c.in_ok-own.own c.in_ok-option.option c.new-attrs.result c.push_own.new.attrs c.push_dtype.new.attrs c.push_fill.new.attrs c.push_coordinates.new.attrs
-    c.type_of-kind.ensures c.new-attrs.ensures c.in_ok-own.ensures c.in_ok-option.ensures own c.in_ok-push_dtype.ensures c.in_ok-push_fill.ensures lists
+    let coding = c.in_ok-push_own-2.ensures ∙ ap (λ attrs. c.push_own.new.attrs ++ map (written_anew c.type_of-kind.result None) attrs) c.as_slice-2.ensures in
+    let lists = c.in_ok-push_coordinates.ensures ∙ ap (λ names. c.push_fill.new.attrs ++ coordinates_added names) c.as_slice-3.ensures in
+    attrs_made c.args.options.now c.args.outline.now c.type_of-kind.result c.in_ok-own.own c.in_ok-option.option c.new-attrs.result c.push_own.new.attrs c.push_own-2.new.attrs c.push_dtype.new.attrs c.push_fill.new.attrs c.push_coordinates.new.attrs
+    c.type_of-kind.ensures c.new-attrs.ensures c.in_ok-own.ensures c.in_ok-option.ensures own coding c.in_ok-push_dtype.ensures c.in_ok-push_fill.ensures lists

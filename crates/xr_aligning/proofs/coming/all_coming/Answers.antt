@@ -1,0 +1,7 @@
+use Rattle.std.proofs.Common.{subst, sym}
+use Rattle.std.specs.List.{AllByRecursion}
+use Rattle.xr_aligning.specs.Coming.{Comes}
+use Rattle.xr_aligning.proofs.coming.all_coming.Goals as goal
+
+pub returns-clause-comes : goal.returns-clause-comes
+returns-clause-comes c = λ nodes inside. c.in_ok-push_coming.ensures.comes nodes inside (subst (AllByRecursion Comes) (sym c.new-out.ensures) tt)

@@ -1,0 +1,144 @@
+//! The limits of values over joined axes, from their sizes alone.
+ghost use Rattle.std.specs.Prelude.{◌≡◌, ◌&&◌, ℤ, List, Option, map, nat_le, IfOk};
+ghost use Rattle.std.specs.List.{list_all, AllByRecursion};
+ghost use Rattle.xr_types.specs.Names.{shape_over};
+ghost use Rattle.xr_types.specs.Results.{Answers, all_of, unless};
+ghost use Rattle.xr_types.specs.declared.fault.Fault.TheVariants.{TooLarge};
+ghost use Rattle.xr_types.specs.declared.axis.Axis.{Axis as AnAxis};
+ghost use Rattle.xr_arrays.specs.declared.node.Node.{Node};
+ghost use Rattle.xr_defs.specs.Limits.{most_cells};
+ghost use Rattle.xr_defs.specs.Selecting as limits;
+ghost use Rattle.xr_defs.specs.WellFormed.{IsCoordinate};
+ghost use Rattle.xr_operations.specs.Alignment.{fitted_coord, joined_in};
+ghost use Rattle.xr_relations.specs.Aligning as calls;
+ghost use Rattle.xr_parts.specs.Frames.{IsFrame, IsThere};
+ghost use Rattle.xr_aligning.specs.declared.coming.Coming.{Coming as OneComing};
+ghost use Rattle.xr_aligning.specs.Coming.{come, Comes};
+ghost use Rattle.xr_aligning.specs.Fitted.{IsChange};
+ghost use Rattle.xr_aligning.specs.Sets.{are_vars_within, sizes_after};
+
+use crate::coming::{Coming, change_of};
+use crate::fits::{Change, is_within, joined_in, over_axes, over_names};
+use crate::labelled::Labelled;
+use std::alloc::Global;
+use xr_defs::Coord;
+use xr_types::{Axis, CallFault, Fault, MOST_CELLS, NoMemory};
+use xr_values::{DataArray, Dataset, Variable};
+
+fn axes_within(alloc: Global, change: &Change<'_>, axes: &[Axis]) -> Result<bool, NoMemory>
+    requires change { IsChange change.now }
+    requires axes { AllByRecursion (IsThere change.now.own.now) axes.now }
+    ensures { IfOk result (λ b. b ≡ limits.is_within (shape_over (map (joined_in change.now.joined.now) axes.now))) }
+{
+    let fits = over_axes(alloc, change, axes)?;
+    Ok(is_within(fits.as_slice()))
+}
+
+fn coords_within(alloc: Global, change: &Change<'_>, coords: &[Coord]) -> Result<bool, NoMemory>
+    requires change { IsChange change.now }
+    requires coords { AllByRecursion (IsCoordinate change.now.own.now) coords.now }
+    ensures { (fill : Option ℤ) → IfOk result (λ b. b ≡ limits.are_within (map (fitted_coord change.now.joined.now fill) coords.now)) }
+{
+    match coords {
+        [] => Ok(true),
+        [coord, rest @ ..] => {
+            if !axes_within(alloc, change, coord.axes.as_slice())? {
+                return Ok(false);
+            }
+            coords_within(alloc, change, rest)
+        }
+    }
+}
+
+fn var_within(alloc: Global, change: &Change<'_>, var: &Variable) -> Result<bool, NoMemory>
+    requires { IsChange change.now }
+    ensures { IfOk result (λ b. b ≡ limits.is_within (sizes_after change.now.joined.now change.now.own.now var.now.dims)) }
+{
+    let fits = over_names(alloc, change, var.dims.as_slice())?;
+    Ok(is_within(fits.as_slice()))
+}
+
+fn vars_within(alloc: Global, change: &Change<'_>, vars: &[Variable]) -> Result<bool, NoMemory>
+    requires { IsChange change.now }
+    ensures { IfOk result (λ b. b ≡ are_vars_within change.now.joined.now change.now.own.now vars.now) }
+{
+    match vars {
+        [] => Ok(true),
+        [var, rest @ ..] => {
+            if !var_within(alloc, change, var)? {
+                return Ok(false);
+            }
+            vars_within(alloc, change, rest)
+        }
+    }
+}
+
+fn array_within(alloc: Global, change: &Change<'_>, array: &DataArray) -> Result<bool, NoMemory>
+    requires change { IsChange change.now }
+    requires own { change.now.own.now ≡ array.now.axes }
+    requires frame { IsFrame array.now.axes array.now.coords }
+    ensures { (fill : Option ℤ) → IfOk result (λ b. b ≡ (limits.is_within (shape_over (map (joined_in change.now.joined.now) array.now.axes)) && limits.are_within (map (fitted_coord change.now.joined.now fill) array.now.coords))) }
+{
+    if !axes_within(alloc, change, array.axes.as_slice())? {
+        return Ok(false);
+    }
+    coords_within(alloc, change, array.coords.as_slice())
+}
+
+fn are_axes_short(joined: &[Axis], own: &[Axis]) -> bool
+    ensures { result ≡ list_all (λ (x : AnAxis). nat_le x.size most_cells) (map (joined_in joined.now) own.now) }
+{
+    match own {
+        [] => true,
+        [axis, rest @ ..] => {
+            joined_in(joined, axis).size <= MOST_CELLS && are_axes_short(joined, rest)
+        }
+    }
+}
+
+fn set_within(alloc: Global, change: &Change<'_>, set: &Dataset) -> Result<bool, NoMemory>
+    requires change { IsChange change.now }
+    requires own { change.now.own.now ≡ set.now.axes }
+    requires frame { IsFrame set.now.axes set.now.coords }
+    ensures { (fill : Option ℤ) → IfOk result (λ b. b ≡ (list_all (λ (x : AnAxis). nat_le x.size most_cells) (map (joined_in change.now.joined.now) set.now.axes) && (limits.are_within (map (fitted_coord change.now.joined.now fill) set.now.coords) && are_vars_within change.now.joined.now set.now.axes set.now.vars))) }
+{
+    if !are_axes_short(change.joined, set.axes.as_slice()) {
+        return Ok(false);
+    }
+    if !coords_within(alloc, change, set.coords.as_slice())? {
+        return Ok(false);
+    }
+    vars_within(alloc, change, set.vars.as_slice())
+}
+
+#[tactic(auto, using(crate::proofs::Given::is_change, crate::proofs::Given::array_frame, crate::proofs::Given::set_frame))]
+fn is_coming_within(alloc: Global, coming: &Coming<'_>) -> Result<bool, NoMemory>
+    requires { Comes coming.now }
+    ensures { (nodes : List Node) (fill : Option ℤ) → IfOk result (λ b. calls.check_size (come nodes fill coming.now) ≡ unless b TooLarge) }
+{
+    let change = change_of(coming, None);
+    match coming.on {
+        Labelled::Array(array) => array_within(alloc, &change, array),
+        Labelled::Set(set) => set_within(alloc, &change, set),
+    }
+}
+
+/// Refuses values of which one would have more of any than an array or a dataset may have.
+///
+/// # Errors
+/// `TooLarge`.
+#[tactic(auto, unfolding(xr_types::specs::Results::unless))]
+pub fn check_sizes(alloc: Global, coming: &[Coming<'_>]) -> Result<(), CallFault>
+    requires { AllByRecursion Comes coming.now }
+    ensures { (nodes : List Node) (fill : Option ℤ) → Answers (λ u. u) result (all_of (λ (m : OneComing). calls.check_size (come nodes fill m)) coming.now) }
+{
+    match coming {
+        [] => Ok(()),
+        [one, rest @ ..] => {
+            if !is_coming_within(alloc, one)? {
+                return Err(CallFault::Refused(Fault::TooLarge));
+            }
+            check_sizes(alloc, rest)
+        }
+    }
+}

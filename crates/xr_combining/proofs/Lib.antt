@@ -1,0 +1,4 @@
+pub mod Promotion
+pub mod Placed
+pub mod Listed
+pub mod Alike

@@ -1,0 +1,10 @@
+pub mod Fed
+pub mod OneVar
+pub mod Growing
+pub mod Placed
+pub mod Named
+pub mod Framed
+pub mod Told
+pub mod Folded
+pub mod Serving
+pub mod Filled

@@ -1,0 +1,4 @@
+pub mod Own
+pub mod Served
+pub mod Listing
+pub mod Asked

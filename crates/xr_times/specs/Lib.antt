@@ -1,0 +1,4 @@
+pub mod Times
+pub mod Units
+pub mod Counts
+pub mod Bins
