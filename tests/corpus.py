@@ -6,7 +6,8 @@
 The files in corpus/whole were made by tools of others; corpus/whole.json has what netCDF's own library reads from them.
 The files in corpus/edited are changes of those; corpus/edited.json has the answer of each by the format's text, a fault
 at its byte or the values of variables. First the plain reader of classic.py has to agree with these answers, then the
-program with the plain reader of datasets: as it is, and with missing cells.
+program with the plain reader of datasets: as it is, and with missing cells. Each dataset is written, too, and compared with the plain
+writer of writing.py.
 """
 import json
 import os

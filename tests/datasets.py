@@ -19,10 +19,13 @@ class TooLarge(Exception):
 
 @dataclass
 class Index:
-    """The labels of a dimension: whole numbers of a kind, or those of kind `time` or `text`."""
+    """The labels of a dimension: whole numbers of a kind, or those of kind `time` or `text`. Of times also the numbers that stand for
+    them in the file, and the attributes that say how."""
     kind: str
     labels: list
     attrs: list
+    counts: list = field(default_factory=list)
+    coding: list = field(default_factory=list)
 
 
 @dataclass
@@ -91,7 +94,8 @@ def time_index(var, counts, attrs):
     units = text_of(var.attrs, "units")
     coding = cf_times.coding_of(units, text_of(var.attrs, "calendar")) if units is not None else None
     times = [cf_times.decoded(coding, n) for n in counts] if coding else [None]
-    return None if None in times else Index("time", times, without(without(attrs, "units"), "calendar"))
+    texts = [a for name in ("units", "calendar") for a in attrs if a.name == name]
+    return None if None in times else Index("time", times, without(without(attrs, "units"), "calendar"), counts, texts)
 
 
 def index_of(file, var):

@@ -21,7 +21,7 @@ import sys
 import tempfile
 
 TOP = os.path.realpath(os.path.join(os.path.dirname(os.path.abspath(__file__)), ".."))
-TOOLS = ["ncdump", "nccopy", "ncgen", "ncks", "ncrcat", "ncatted", "ncap2", "cdo", "ncvalidator"]
+TOOLS = ["gzip", "ncdump", "nccopy", "ncgen", "ncks", "ncrcat", "ncatted", "ncap2", "cdo", "ncvalidator"]
 MARK = "--- the next command ---"
 
 
@@ -147,7 +147,7 @@ class Checks:
             self.check(holds, f"{name}: {script}: {last!r} and {status}, not {cells[1]}")
         for cell in cells[2:]:
             for script in re.findall(r"`([^`]+)`", cell):
-                if re.match(r"print\(|\w+(?:\[\"\w+\"\])? = |[\w.\"\[\]]+\.to_netcdf\(", script):
+                if re.match(r"print\(|(?:\w+, )*\w+(?:\[\"\w+\"\])? = |[\w.\"\[\]]+\.to_netcdf\(", script):
                     got, status = Folder(self.program).script(before + script.replace("; ", "\n") + "\n")
                     self.check(status == 0, f"{name}: {script}: {got!r} and {status}")
 

@@ -1,17 +1,22 @@
-"""Opens a file with the program, and compares what it says with the plain readers of the format and of datasets."""
+"""Opens a file with the program and writes it again, and compares what it says and writes with the plain readers of the format and of
+datasets, and with the plain writer."""
 import collections
 import os
 import re
 import signal
 import sys
+import zlib
 
 import classic
 import datasets
+import writing
 
-SECONDS = 5
+# Of the processor, and by the clock, since the machine may be busy.
+SECONDS, LATEST = 5, 60
 SPARE_KIB = 64 * 1024
 # How many variables and coordinates of a file are printed.
 MOST_PRINTED = 4
+FORMATS = {1: ', format="NETCDF3_CLASSIC"', 2: ', format="NETCDF3_64BIT"', 5: ""}
 
 Run = collections.namedtuple("Run", "status signal out err peak_kib late")
 
@@ -36,15 +41,15 @@ class Driver:
         return os.path.join(self.folder, name)
 
     def run(self, script):
-        """The program over a script, for at most a few seconds."""
+        """The program over a script, ended where it takes too long."""
         with open(self.path("s.xrs"), "w") as f:
             f.write(script)
         out, err = self.path("out"), self.path("err")
-        writing = os.O_WRONLY | os.O_CREAT | os.O_TRUNC
+        made = os.O_WRONLY | os.O_CREAT | os.O_TRUNC
         child = os.posix_spawn(self.program, [self.program, "s.xrs"], {}, file_actions=[
-            (os.POSIX_SPAWN_OPEN, 1, out, writing, 0o600), (os.POSIX_SPAWN_OPEN, 2, err, writing, 0o600)])
+            (os.POSIX_SPAWN_OPEN, 1, out, made, 0o600), (os.POSIX_SPAWN_OPEN, 2, err, made, 0o600)])
         late = False
-        signal.setitimer(signal.ITIMER_REAL, SECONDS)
+        signal.setitimer(signal.ITIMER_REAL, LATEST)
         try:
             _, status, usage = os.wait4(child, 0)
         except Late:
@@ -56,6 +61,7 @@ class Driver:
         with open(out, "rb") as f, open(err, "rb") as g:
             told, said = f.read(), g.read()
         ended = os.waitstatus_to_exitcode(status)
+        late = late or usage.ru_utime + usage.ru_stime > SECONDS
         return Run(max(ended, 0), max(-ended, 0), told, said, usage.ru_maxrss, late)
 
     def fail(self, label, what, run=None):
@@ -66,7 +72,7 @@ class Driver:
     def is_sound(self, label, size, run):
         """Whether the run ended by itself, with a status, within its time and memory."""
         if run.late:
-            self.fail(label, f"runs for more than {SECONDS} seconds", run)
+            self.fail(label, f"takes more than {SECONDS} seconds of the processor, or {LATEST} by the clock", run)
         elif run.signal:
             self.fail(label, f"ended by signal {run.signal}", run)
         elif run.status > 2:
@@ -103,23 +109,55 @@ class Driver:
             self.fail(label, f"not refused with {fault}", run)
 
     def dataset(self, label, data, set_, mask):
-        """Prints a dataset and some of its parts, writes it and reads it again."""
+        """Prints a dataset and some of its parts, writes it and reads it again; then writes it in one of the formats, with a record
+        dimension or without one."""
         named = [name for name in [*set_.vars, *set_.coords, *set_.indexes] if is_sayable(name) and datasets.array_text(set_, name) is not None]
         parts = named[:MOST_PRINTED]
         printed = "".join(f'print(ds["{name}"])\n' for name in parts)
         first, second = [f'ds = open_dataset("{name}", mask={mask})\nprint(ds)\n{printed}' for name in ("f.nc", "w.nc")]
-        run = self.run(first + 'ds.to_netcdf("w.nc")\n' + second)
-        if not self.is_sound(label, len(data), run):
-            return
         text = datasets.set_text(set_) + b"".join(datasets.array_text(set_, name) for name in parts)
-        if not run.out.startswith(text):
+        run, fault = self.write(label, data, set_, first, second)
+        if run is None:
+            return
+        if not run.out.startswith(text) or fault and run.out != text:
             self.fail(label, f"not the dataset of the file, whose text is {text[:400]!r}", run)
-        elif run.status == 1 and len(run.out) == len(text) and run.err.startswith(f"xrs: statement {len(parts) + 3}: F".encode()):
-            self.counts["printed; writing refused by " + run.err.split(b": ")[2][:3].decode().strip()] += 1
-        elif run.status or again(run.out[len(text):]) != again(text):
+        elif not fault and writing.is_read_again(set_) and again(run.out[len(text):]) != again(text):
             self.fail(label, "written and read again it is another", run)
         else:
-            self.counts["printed, written and read again"] += 1
+            self.counts[f"printed; writing refused by {fault.split()[0]}" if fault else "printed, written and read again"] += 1
+            run, fault = self.write(label, data, set_, f'ds = open_dataset("f.nc", mask={mask})\n', "", *options(data, set_))
+            if run is not None:
+                self.counts[f"with options refused by {fault.split()[0]}" if fault else "with options written"] += 1
+
+    def write(self, label, data, set_, first, second, version=5, unlimited=None):
+        """Writes the dataset that the statements before open. Answers the run, where it does what the plain writer says, and the fault
+        that it was refused with."""
+        try:
+            file, fault = writing.file_of(set_, version, unlimited), None
+        except writing.Refused as refused:
+            file, fault = None, str(refused)
+        if os.path.exists(self.path("w.nc")):
+            os.remove(self.path("w.nc"))
+        how = FORMATS[version] + (f', unlimited_dims="{unlimited}"' if unlimited else "")
+        run = self.run(f'{first}ds.to_netcdf("w.nc"{how})\n{second}')
+        if not self.is_sound(label, len(data), run):
+            return None, None
+        if fault and (run.status, run.err) != (1, f"xrs: statement {first.count(chr(10)) + 1}: {fault}\n".encode()):
+            self.fail(label, f"writing{how} isn't refused with {fault}", run)
+        elif not fault and (run.status or run.err):
+            self.fail(label, f"writing{how} is refused", run)
+        elif file != self.read("w.nc"):
+            self.fail(label, f"writing{how} gives other bytes", run)
+        else:
+            return run, fault
+        return None, None
+
+    def read(self, name):
+        """The bytes of a file; None where there is none."""
+        if not os.path.exists(self.path(name)):
+            return None
+        with open(self.path(name), "rb") as f:
+            return f.read()
 
     def report(self):
         """Prints what was counted and what was wrong, and ends the script."""
@@ -134,6 +172,13 @@ def again(text):
     for missing cells has the type of its variable there."""
     kept = [line for line in text.split(b"\n") if not line.startswith(b"skipped ")]
     return [re.sub(rb"^attr _FillValue \w+:", b"attr _FillValue:", line) for line in kept]
+
+
+def options(data, set_):
+    """A version and a record dimension to write a dataset with, always the same ones for the bytes of a file."""
+    number = zlib.crc32(data)
+    dims = [None, None, *filter(is_sayable, set_.sizes), "elsewhere"]
+    return [1, 2, 5][number % 3], dims[number // 3 % len(dims)]
 
 
 def is_sayable(name):

@@ -1,15 +1,17 @@
 #!/usr/bin/env python3
-"""Random groups, bins and windows, and all their methods, beside plain numpy, cftime and xarray.
+"""Random groups, bins, windows and blocks, and all their methods, beside plain numpy, cftime and xarray.
 
     groups_beside_xarray.py PROGRAM [--count N] [--seed S]
 
 Each script writes an array out, of up to three dimensions of sizes from 0 up, of any kind, with missing cells or without, groups
-it or the dataset of it, and prints every method. The positions that belong together are worked out here: by the dates that cftime
-gives, and by windows of positions; numpy folds their cells. Where no cell is missing xarray groups the
-same array, and its cells have to be those of numpy. One script in six ends in a call that has to be refused. Without numpy,
-cftime and xarray all is skipped, and the output says so. The last line is 'N the same, M differ'.
+it or a dataset of it, with a second variable or alone, and prints every method. The positions that belong together are worked out
+here: by labels, by cells of a coordinate, by the dates that cftime gives, and by windows and blocks of positions; numpy folds their
+cells. Where no cell is missing xarray groups the same array, and its cells have to be those of numpy, and the labels of blocks too.
+One script in six ends in a call that has to be refused. Without numpy, cftime and xarray all is skipped, and the output says so.
+The last line is 'N the same, M differ'.
 """
 import argparse
+import copy
 import datetime
 import itertools
 import os
@@ -40,7 +42,7 @@ FIELDS = {"year": lambda d: d.year, "month": lambda d: d.month, "day": lambda d:
           "second": lambda d: d.second, "dayofyear": lambda d: d.dayofyr, "dayofweek": lambda d: d.dayofwk}
 REDUCTIONS = ["sum", "prod", "min", "max", "count"]
 METHODS = {"groupby": [*REDUCTIONS, "any", "all", "first", "last"], "resample": [*REDUCTIONS, "any", "all", "first", "last"],
-           "rolling": REDUCTIONS}
+           "rolling": REDUCTIONS, "coarsen": [*REDUCTIONS, "any", "all"]}
 
 
 class Dim:
@@ -60,6 +62,11 @@ class Dim:
     def at(self, name, kind, places, shown=None):
         made = Dim(name, len(places) if shown is None else len(shown))
         return made.label(kind, [self.shown[i] for i in places] if shown is None else shown, "", [])
+
+
+def shown_by(kind):
+    """How a label of a kind is printed."""
+    return {"text": lambda it: f'"{it}"', "time": text_of}.get(kind, str)
 
 
 def text_of(d):
@@ -88,12 +95,18 @@ def folded(method, cells):
     return {"min": min, "max": max, "first": lambda it: it[0], "last": lambda it: it[-1]}[method](here)
 
 
+def spelled_cells(it):
+    if isinstance(it, (list, numpy.ndarray)):
+        return "[" + ", ".join(map(spelled_cells, it)) + "]"
+    return "NA" if it is None else str(it)
+
+
 class Case:
     """An array, as a script writes it, and as numpy has it: None for a missing cell."""
 
     def __init__(self, seed):
         self.r = r = random.Random(seed)
-        self.kind = r.choice(KINDS)
+        self.name, self.kind = "v", r.choice(KINDS)
         names = r.sample(["time", "x", "y"], r.choice([1, 1, 2, 2, 3]))
         self.dims = [self.dim(name) for name in names]
         shape = [d.size for d in self.dims]
@@ -144,10 +157,7 @@ class Case:
 
     def script(self):
         """The statement that writes the array out."""
-        def spelled(it):
-            if isinstance(it, numpy.ndarray):
-                return "[" + ", ".join(map(spelled, it)) + "]"
-            return "NA" if it is None else str(it)
+        spelled = spelled_cells
         # No list has an empty dimension before others: one of a position is cut.
         cells, cut = self.cells, "".join(f", {d.name}=slice(0)" for d in self.dims if d.size == 0)
         if cut:
@@ -159,6 +169,18 @@ class Case:
             coords.append(f'"c": DataArray([{", ".join("NA" if it is None else str(it) for it in self.coord)}], ["{self.d.name}"])')
         made = f'v = DataArray({spelled(cells)}, {[d.name for d in self.dims]}, {{{", ".join(coords)}}}, "v", "{self.kind}")'
         return made + (f".isel({cut[2:]})" if cut else "")
+
+    def beside(self, changes):
+        """A second variable of a dataset, along one of the dimensions that are grouped, and the statement that puts it there."""
+        made, d = copy.copy(self), self.r.choice([d for d in self.dims if d.name in changes])
+        made.name, made.dims, made.kind = "w", [d], "bool" if self.kind == "bool" else "int16"
+        made.cells = numpy.empty([d.size], dtype=object)
+        for i in range(d.size):
+            made.cells[i] = None if made.missing and self.r.random() < 0.4 else made.cell()
+        made.masked = any(it is None for it in made.cells)
+        cells = made.cells if d.size else [False if made.kind == "bool" else 0]
+        cut = "" if d.size else f".isel({d.name}=slice(0))"
+        return made, f's["w"] = DataArray({spelled_cells(cells)}, ["{d.name}"], None, "w", "{made.kind}"){cut}'
 
     def peer(self):
         """The array in xarray."""
@@ -179,9 +201,13 @@ class Case:
 
     def groupby(self):
         r, d = self.r, self.d
-        if d.kind == "time":
+        if self.coord and r.random() < 0.5:
+            return self.keyed('groupby("c")', "c", "int64", self.coord, str)
+        if d.kind == "time" and r.random() < 0.7:
             field = r.choice([f for f in FIELDS if f != "dayofweek" or d.calendar in CIVIL])
             return self.keyed(f'groupby("{d.name}.{field}")', field, "int64", [FIELDS[field](it) for it in d.keys], str)
+        if d.kind:
+            return self.keyed(f'groupby("{d.name}")', d.name, d.kind, d.keys, shown_by(d.kind))
         return None
 
     def keyed(self, call, name, kind, keys, shown):
@@ -224,6 +250,26 @@ class Case:
         lists = [[j for j in range(i - back, i + on + 1) if 0 <= j < d.size] for i in range(d.size)]
         return f"rolling({d.name}={width}{options})", {d.name: (lists, d)}
 
+    def coarsen(self):
+        r = self.r
+        chosen = r.sample(self.dims, r.randrange(1, len(self.dims) + 1))
+        widths = {d.name: r.choice([1, 2, 2, 3, 4, d.size or 1]) for d in chosen}
+        trim = any(d.size % widths[d.name] for d in chosen) or r.random() < 0.3
+        labelled = [d for d in chosen if d.kind]
+        how = r.choice(["min", "max", "sum"] if all(d.kind == "int64" for d in labelled) else ["min", "max"])
+        how = how if labelled or r.random() < 0.2 else None
+        options = (r.choice([', boundary="trim"']) if trim else r.choice(["", ', boundary="exact"'])) + (f', coord_func="{how}"' if how else "")
+        changes = {}
+        for d in chosen:
+            w = widths[d.name]
+            lists = [list(range(j * w, j * w + w)) for j in range(d.size // w)]
+            made = Dim(d.name, len(lists))
+            if d.kind:
+                keys = [{"min": min, "max": max, "sum": sum}[how](d.keys[i] for i in it) for it in lists]
+                made.label(d.kind, list(map(shown_by(d.kind), keys)), "", keys)
+            changes[d.name] = lists, made
+        return f"coarsen({', '.join(f'{d.name}={widths[d.name]}' for d in chosen)}{options})", changes
+
     # ---- results
 
     def values(self, method, changes, least, fill):
@@ -240,13 +286,13 @@ class Case:
         """What the program prints."""
         dims = [changes[d.name][1] if d.name in changes else d for d in self.dims]
         kind = result_kind(method, self.kind)
-        lines = [f"DataArray v ({', '.join(f'{d.name}: {d.size}' for d in dims)}) {kind}{' masked' if masked else ''}"]
+        lines = [f"DataArray {self.name} ({', '.join(f'{d.name}: {d.size}' for d in dims)}) {kind}{' masked' if masked else ''}"]
         spelled = lambda it: "NA" if it is None else str(bool(it)) if kind == "bool" else str(int(it))
         if cells.size:
             lines += [" ".join(map(spelled, row)) for row in cells.reshape(-1, cells.shape[-1])]
         for d in dims:
             lines += d.line()
-        if self.coord and (keeps or self.d.name not in changes):
+        if self.coord and self.d in self.dims and (keeps or self.d.name not in changes):
             hidden = " masked" if None in self.coord else ""
             lines.append(" ".join([f"coord c int64{hidden} ({self.d.name}):", *("NA" if it is None else str(it) for it in self.coord)]))
         if self.number is not None:
@@ -259,9 +305,27 @@ def by_xarray(case, call, method):
     v = case.peer()
     # There a window's cells wrap at the kind of the array.
     v = v.astype("int64") if call.startswith("rolling") else v
+    if call.startswith("coarsen"):
+        v = v.drop_vars([name for name, c in v.coords.items() if c.dtype.kind != "i"])
     with warnings.catch_warnings():
         warnings.simplefilter("ignore")
-        return eval(f"v.{call}.{method}()", {"v": v}).values
+        return eval(f"v.{call}.{method}()", {"v": v})
+
+
+def peer_differs(case, call, method, changes, cells):
+    """What xarray has otherwise."""
+    # xarray refuses windows that are wider than the dimension, groups of one cell each, and bins of some frequencies.
+    try:
+        there = by_xarray(case, call, method)
+    except ValueError:
+        return []
+    if there.shape != cells.shape or not all(int(a) == int(b) for a, b in zip(there.values.ravel(), cells.ravel())):
+        return [f"{call}.{method}(): numpy has {cells.tolist()}, xarray {there.values.tolist()}"]
+    if call.startswith("coarsen"):
+        for name, (_, d) in changes.items():
+            if d.kind == "int64" and there.coords[name].values.tolist() != d.keys:
+                return [f"{call}.{method}(): labels {d.keys}, xarray {there.coords[name].values.tolist()}"]
+    return []
 
 
 def is_comparable(case, form, method, cells):
@@ -281,7 +345,13 @@ def wrong_call(case):
         forms.append((f'resample({d.name}="D")', 16))
     elif sorted(d.keys) != d.keys:
         forms.append((f'resample({d.name}="D")', 9))
-    forms.append((f"rolling({d.name}=2).sum()", 11))
+    forms += [(f"rolling({d.name}=2).sum()", 11), ('groupby("z").sum()', 2), ('groupby("n")', 2 if case.number is None else 5), (f"coarsen({d.name}=0)", 5),
+              ("coarsen(z=2)", 3), (f'coarsen({d.name}=1, coord_func="mean")', 5), (f'coarsen({d.name}=1, boundary="pad")', 5)]
+    if d.size:
+        forms.append((f'coarsen({d.name}={d.size + 1}, coord_func="min")', 18))
+    forms += [(f"coarsen({d.name}=1)", 11)] if d.kind else [(f'groupby("{d.name}")', 2)]
+    if d.kind in ("text", "time"):
+        forms.append((f'coarsen({d.name}=1, coord_func="sum").sum()', 10))
     return case.r.choice(forms)
 
 
@@ -293,8 +363,15 @@ def round_of(seed, program, folder):
     if found is None:
         form, found = "rolling", case.rolling()
     call, changes = found
-    of_set = form != "rolling" and case.r.random() < 0.3
-    lines = [case.script(), f"g = v{'.to_dataset()' if of_set else ''}.{call}"]
+    of_set = case.r.random() < 0.4
+    lines, variables = [case.script()], [case]
+    if of_set:
+        lines.append("s = v.to_dataset()")
+        if case.r.random() < 0.5:
+            other, line = case.beside(changes)
+            variables.append(other)
+            lines.append(line)
+    lines.append(f"g = {'s' if of_set else 'v'}.{call}")
     wanted, wrong = "", []
     least = case.least if form == "rolling" else None
     empty = form == "resample" and any(not it for it in changes[case.d.name][0])
@@ -305,22 +382,17 @@ def round_of(seed, program, folder):
         if takes:
             fill = case.r.choice([None, True if kind == "bool" else 7])
             given = f"fill_value={'NA' if fill is None else fill}"
-        cells = case.values(method, changes, least, fill)
-        if form == "rolling":
-            masked = fill is None if takes else case.masked
-        else:
-            masked = case.masked and method in ("min", "max", "first", "last") or takes and fill is None
-        part = '["v"]' if of_set else ""
-        lines.append(f"print(g.{method}({given}){part})")
-        wanted += case.printed(method, changes, cells, masked, form == "rolling")
-        if not needs and is_comparable(case, form, method, cells):
-            # xarray refuses windows that are wider than the dimension, groups of one cell each, and bins of some frequencies.
-            try:
-                there = by_xarray(case, call, method)
-            except ValueError:
-                continue
-            if there.shape != cells.shape or not all(int(a) == int(b) for a, b in zip(there.ravel(), cells.ravel())):
-                wrong.append(f"{call}.{method}(): numpy has {cells.tolist()}, xarray {there.tolist()}")
+        for it in variables:
+            cells = it.values(method, changes, least, fill)
+            if form == "rolling":
+                masked = fill is None if takes else it.masked
+            else:
+                masked = it.masked and method in ("min", "max", "first", "last") or takes and fill is None
+            part = f'["{it.name}"]' if of_set else ""
+            lines.append(f"print(g.{method}({given}){part})")
+            wanted += it.printed(method, changes, cells, masked, form == "rolling")
+            if it is case and not needs and is_comparable(case, form, method, cells):
+                wrong += peer_differs(case, call, method, changes, cells)
     refused = None
     if case.r.random() < 1 / 6:
         text, number = wrong_call(case)

@@ -1,13 +1,16 @@
 #!/usr/bin/env python3
-"""Changes the files of the corpus at random and opens them with the program.
+"""Changes the files of the corpus at random, and others that it makes, and opens them with the program.
 
     mutations.py PROGRAM [--count N] [--seed S] [--keep FOLDER]
 
 Of each changed file (10,000 by default) the plain readers of classic.py and datasets.py say what it is. A file that spells
 nothing has to be refused with its first fault, at its byte. Another is opened as a dataset, which is printed with up to four of its
-parts, written and read again: the texts have to be those of the plain reader, and the same the second time. No run may end by a
-signal, take more than 5 seconds, or more memory than twice the file and 64 MiB. The same seed changes the same files in the same
-way; where none is given it is a new one, which is printed. With --keep the files that were wrong stay in FOLDER.
+parts, written and read again: the texts have to be those of the plain reader, and the same the second time. The file that is
+written has to have the bytes of the plain writer of writing.py, and where that refuses the dataset, the program has to refuse it
+with the same fault and to write nothing; so it goes in one of the three versions, with a record dimension or without one, too. No
+run may end by a signal, take more than 5 seconds of the processor, or more memory than twice the file and 64 MiB. The same seed
+changes the same files in the same way; where none is given it is a new one, which is printed. With --keep the files that were wrong
+stay in FOLDER.
 """
 import argparse
 import os
@@ -15,6 +18,7 @@ import random
 import tempfile
 
 import classic
+import made_files
 from driving import Driver
 
 HERE = os.path.dirname(os.path.abspath(__file__))
@@ -104,10 +108,13 @@ CHANGES = [with_a_byte, with_a_bit, with_a_number, with_a_number, with_a_step, w
 
 
 def mutation(random_, files):
-    part = random_.choice(["whole", "whole", "edited"])
-    name = random_.choice([name for name in sorted(files) if name.startswith(part)])
-    data, others = files[name], list(files.values())
-    for _ in range(random_.choice([1, 1, 1, 1, 2, 3, 5])):
+    part, others = random_.choice(["whole", "whole", "edited", "made"]), list(files.values())
+    if part == "made":
+        name, data, changes = "one that was made", made_files.made(random_), random_.choice([0, 0, 0, 1])
+    else:
+        name = random_.choice([name for name in sorted(files) if name.startswith(part)])
+        data, changes = files[name], random_.choice([1, 1, 1, 1, 2, 3, 5])
+    for _ in range(changes):
         if data:
             data = random_.choice(CHANGES)(random_, data, others)
     return name, data

@@ -86,6 +86,12 @@ LINES = [
     ('x = t.sel(time=slice("2000-02-30", None))', 5, TypeError),
     ('x = DataArray([1, 2], ["t"], {"t": times("days since 2000-01-01", [1])})', 13, ValueError),
     ('x = t + DataArray([1, 2, 4], ["time"], {"time": times("days since 2000-01-01", [0, 0, 1])})', 8, ValueError),
+    ('x, y = align(a, n, join="exact")', 14, ValueError),
+    ('x, y = align(a, a.isel(x=[0, 0]), fill_value=0)', 8, ValueError),
+    ('x, y = align(a, m)', 13, ValueError),
+    ('x, y = align(a, n, join="middle")', 5, ValueError),
+    ('x, y = align(a)', 5, ValueError),
+    ('x, y = align(a, 5)', 4, AttributeError),
 ]
 
 
@@ -102,7 +108,7 @@ def error_of(line, folder):
     here = os.getcwd()
     os.chdir(folder)
     try:
-        names = {"DataArray": data_array, "times": times, "open_dataset": lambda name: xarray.open_dataset(name, mask_and_scale=False).load()}
+        names = {"DataArray": data_array, "times": times, "align": xarray.align, "open_dataset": lambda name: xarray.open_dataset(name, mask_and_scale=False).load()}
         exec("\n".join(BEFORE), names)
         try:
             exec(line, names)

@@ -46,11 +46,12 @@ def rows():
 
 
 def answers():
-    """What stands under the name of each row: its text, and the number of its exit."""
+    """What stands under each row: the text that its script prints, and the number of its exit."""
     with open(os.path.join(ROWS, "stdout"), encoding="utf-8") as f:
         parts = re.split(r"^=== (.*)\n", f.read(), flags=re.M)[1:]
     found = {}
     for name, text in zip(parts[::2], parts[1::2]):
+        text = re.sub(r"\A(?:(?:[>*+]|word|fails) .*\n|no word\n)*", "", text)
         end = re.search(r"^exit (\d+)$", text, re.M)
         found.setdefault(name, (text[:end.start()], int(end.group(1))))
     return found

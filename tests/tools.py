@@ -4,7 +4,7 @@
     tools.py PROGRAM
 
 The tools are `ncdump`, `ncvalidator` and `ncmpidump` (Debian: netcdf-bin, pnetcdf-bin), and scipy, netCDF4 and xarray of Debian's
-Python. What is missing is skipped, and the output says so.
+Python. What is missing, or doesn't start (`ncmpidump` without openmpi-bin), is skipped, and the output says so.
 The last line is 'N passed, M failed, K skipped'.
 """
 import os
@@ -77,6 +77,11 @@ def has_library(name):
     return subprocess.run([PYTHON, "-c", f"import {name}"], capture_output=True).returncode == 0
 
 
+def starts(*words):
+    """Whether a tool is installed and reads a file of ours that needs nothing of it: one that lacks a part of its own reads none."""
+    return bool(shutil.which(words[0])) and subprocess.run([*words, os.path.join(EXAMPLES, "a.nc")], capture_output=True).returncode == 0
+
+
 def main():
     program = os.path.abspath(sys.argv[1])
     passed = failed = skipped = 0
@@ -87,15 +92,15 @@ def main():
             f.write(SCRIPT)
         subprocess.run([program, "s.xrs"], cwd=folder, check=True)
         checks = {
-            "ncdump": (bool(shutil.which("ncdump")), lambda path, values: by_dump("ncdump", path, values) == values),
-            "ncmpidump": (bool(shutil.which("ncmpidump")), lambda path, values: by_dump("ncmpidump", path, values) == values),
-            "ncvalidator": (bool(shutil.which("ncvalidator")), lambda path, values: subprocess.run(["ncvalidator", "-q", path], capture_output=True).returncode == 0),
+            "ncdump": (starts("ncdump", "-h"), lambda path, values: by_dump("ncdump", path, values) == values),
+            "ncmpidump": (starts("ncmpidump", "-h"), lambda path, values: by_dump("ncmpidump", path, values) == values),
+            "ncvalidator": (starts("ncvalidator", "-q"), lambda path, values: subprocess.run(["ncvalidator", "-q", path], capture_output=True).returncode == 0),
         }
         for library, code in LIBRARIES.items():
             checks[library] = (has_library(library), lambda path, values, code=code: by_library(code, path, values) == values)
         for tool, (there, holds) in checks.items():
             if not there:
-                print(f"skipped: {tool} isn't installed")
+                print(f"skipped: {tool} isn't installed, or doesn't start")
                 skipped += 1
                 continue
             files = WRITTEN | WRITTEN_IN_5 if tool in READ_5 else WRITTEN

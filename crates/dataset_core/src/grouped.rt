@@ -1,6 +1,5 @@
 //! Arrays and datasets with their positions in groups, and the methods of these.
-ghost use Rattle.std.specs.Prelude.{◌≡◌, ◌++◌, List, Err, IfOk};
-ghost use Rattle.xr_types.specs.declared.fault.Fault.TheVariants.{UnknownName};
+ghost use Rattle.std.specs.Prelude.{◌≡◌, ◌++◌, List, IfOk};
 ghost use Rattle.xr_arrays.specs.declared.node.Node.{Node};
 ghost use Rattle.xr_arrays.specs.Added.{AddsAtMost};
 ghost use Rattle.xr_defs.specs.Room.{portions, room};
@@ -8,91 +7,61 @@ ghost use Rattle.xr_runs.specs.Calls.{array_grouped, end_called, fold_called, gr
 ghost use Rattle.plan_core.specs.Plans.{Grows};
 ghost use Rattle.xr_values.specs.Meaning.{meaning, given, IsValueIn};
 ghost use Rattle.xr_values.specs.Stands.{array_in, dataset_in, IsArrayIn, IsDatasetIn};
-ghost use Rattle.dataset_core.specs.Answers.{AnswersValue, RefusesValue};
+ghost use Rattle.dataset_core.specs.Answers.{AnswersValue};
 
 use crate::cells::reduction;
 use crate::held::{array_value, set_value};
 use plan_core::Plan;
 use std::alloc::Global;
 use std::rc::Rc;
-use xr_group_sets::{are_listed, grouped_set, set_grouping};
-use xr_grouping::{binned_grouping, dated_grouping, grouped_array, is_served, rolled_grouping};
+use xr_group_sets::{grouped_set, set_grouping};
+use xr_grouping::{array_grouping, grouped_array};
 use xr_groups::Maker;
-use xr_types::{CallFault, DeepCopy, Fault, FoldKind, TextBytes};
+use xr_types::{CallFault, Fault, FoldKind};
 use xr_values::{Args, DataArray, Dataset, Value};
 
-// What isn't there so far.
-fn unknown(alloc: Global, name: &TextBytes) -> CallFault
-    ensures { RefusesValue result (Err (UnknownName name.now)) }
-{
-    match name.deep_copy(alloc) {
-        Ok(name) => CallFault::Refused(Fault::UnknownName(name)),
-        Err(_) => CallFault::NoMemory,
-    }
-}
-
-// An array in groups, bins or windows.
-#[tactic(auto, using(xr_arguments::proofs::Variants::is_grouped_array, xr_arguments::proofs::Inside::grouped_array_inside), unfolding(xr_runs::specs::Calls::array_grouped, xr_runs::specs::Calls::by_field, xr_grouping::specs::Mades::dated_grouping, xr_grouping::specs::Mades::by_dates))]
+// An array in groups.
 fn array_in_groups(
     alloc: Global,
     array: &Rc<DataArray, Global>,
-    name: &TextBytes,
     maker: Maker,
     args: &Args,
 ) -> Result<Value, CallFault>
     requires { (nodes : List Node) × IsArrayIn nodes array.now.value }
-    ensures answers { (nodes : List Node) → IsArrayIn nodes array.now.value → AnswersValue nodes result (array_grouped name.now maker (array_in nodes array.now.value) (given nodes args.now)) }
+    ensures answers { (nodes : List Node) → IsArrayIn nodes array.now.value → AnswersValue nodes result (array_grouped maker (array_in nodes array.now.value) (given nodes args.now)) }
 {
-    match maker {
-        Maker::GroupBy => match dated_grouping(alloc, array, args)? {
-            Some(grouping) => Ok(Value::GroupedArray(array.clone()?, grouping)),
-            None => Err(unknown(alloc, name)),
-        },
-        Maker::Resample => {
-            let grouping = binned_grouping(alloc, array, args)?;
-            Ok(Value::GroupedArray(array.clone()?, grouping))
-        }
-        Maker::Rolling => {
-            let grouping = rolled_grouping(alloc, array, args)?;
-            Ok(Value::GroupedArray(array.clone()?, grouping))
-        }
-        Maker::Coarsen => Err(unknown(alloc, name)),
-    }
+    let grouping = array_grouping(alloc, maker, array, args)?;
+    Ok(Value::GroupedArray(array.clone()?, grouping))
 }
 
 // A dataset in groups.
-#[tactic(auto, using(xr_arguments::proofs::Variants::is_grouped_set, xr_arguments::proofs::Inside::grouped_set_inside), unfolding(xr_runs::specs::Calls::set_grouped, xr_group_sets::specs::Served::listed_grouping, xr_group_sets::specs::Served::listed_over, xr_group_sets::specs::Served::listed_by))]
 fn set_in_groups(
     alloc: Global,
     set: &Rc<Dataset, Global>,
-    name: &TextBytes,
     maker: Maker,
     args: &Args,
 ) -> Result<Value, CallFault>
     requires { (nodes : List Node) × IsDatasetIn nodes set.now.value }
-    ensures answers { (nodes : List Node) → IsDatasetIn nodes set.now.value → AnswersValue nodes result (set_grouped name.now maker (dataset_in nodes set.now.value) (given nodes args.now)) }
+    ensures answers { (nodes : List Node) → IsDatasetIn nodes set.now.value → AnswersValue nodes result (set_grouped maker (dataset_in nodes set.now.value) (given nodes args.now)) }
 {
-    match set_grouping(alloc, maker, set, args)? {
-        Some(grouping) => Ok(Value::GroupedSet(set.clone()?, grouping)),
-        None => Err(unknown(alloc, name)),
-    }
+    let grouping = set_grouping(alloc, maker, set, args)?;
+    Ok(Value::GroupedSet(set.clone()?, grouping))
 }
 
-/// `groupby("d.field")`, `resample(d="freq")` and `rolling(d=w)`.
+/// `groupby`, `resample`, `rolling` and `coarsen`.
 #[tactic(auto, using(xr_arguments::proofs::Variants::is_array, xr_arguments::proofs::Variants::is_set, xr_arguments::proofs::Inside::held_array, xr_arguments::proofs::Inside::held_set, xr_values::proofs::Meaning::meaning_out), unfolding(xr_runs::specs::Calls::grouped_by))]
 pub(crate) fn grouping(
     alloc: Global,
     on: &Value,
-    name: &TextBytes,
     maker: Maker,
     args: &Args,
 ) -> Result<Value, CallFault>
     requires { (nodes : List Node) × IsValueIn nodes on.now }
-    ensures answers { (nodes : List Node) → IsValueIn nodes on.now → AnswersValue nodes result (grouped_by name.now maker (meaning nodes on.now) (given nodes args.now)) }
+    ensures answers { (nodes : List Node) → IsValueIn nodes on.now → AnswersValue nodes result (grouped_by maker (meaning nodes on.now) (given nodes args.now)) }
 {
     match on {
-        Value::Array(array) => array_in_groups(alloc, array, name, maker, args),
-        Value::Set(set) => set_in_groups(alloc, set, name, maker, args),
+        Value::Array(array) => array_in_groups(alloc, array, maker, args),
+        Value::Set(set) => set_in_groups(alloc, set, maker, args),
         _ => Err(CallFault::Refused(Fault::WrongKind)),
     }
 }
@@ -113,16 +82,10 @@ pub(crate) fn fold(
 {
     match on {
         Value::GroupedArray(array, grouping) => {
-            if !is_served(grouping) {
-                return Err(CallFault::Refused(Fault::WrongKind));
-            }
             let answer = grouped_array(alloc, plan, kind, grouping, array, args)?;
             Ok(array_value(alloc, answer)?)
         }
         Value::GroupedSet(set, grouping) => {
-            if !are_listed(grouping) {
-                return Err(CallFault::Refused(Fault::WrongKind));
-            }
             let answer = grouped_set(alloc, plan, kind, grouping, set, args)?;
             Ok(set_value(alloc, answer)?)
         }

@@ -103,7 +103,7 @@ fn grouping_called(
     ensures { (nodes : List Node) → IsValueIn nodes on.now → AnswersValue nodes result (calls.grouping_called (meaning nodes on.now) name.now (given nodes args.now)) }
 {
     match maker_named(name.as_str()) {
-        Some(maker) => grouping(alloc, on, name, maker, args),
+        Some(maker) => grouping(alloc, on, maker, args),
         None => Err(other_method(alloc, on, name)),
     }
 }

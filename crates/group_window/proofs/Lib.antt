@@ -1,3 +1,4 @@
 pub mod Fits
 pub mod Lists
 pub mod Ranked
+pub mod Mapped

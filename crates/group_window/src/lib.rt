@@ -6,5 +6,5 @@ mod groups;
 mod windows;
 
 pub use bins::bin_lists;
-pub use groups::{NumberGroups, number_groups};
+pub use groups::{NumberGroups, TextGroups, number_groups, text_groups};
 pub use windows::{coarsen, rolling};

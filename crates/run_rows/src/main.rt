@@ -1,5 +1,5 @@
-//! Runs worked scripts, each over files in memory, and prints how each ended. Its standard input lists the scripts, and `stdout` what it
-//! has to print, so that a further script is a matter of data alone.
+//! Runs worked scripts, each over files in memory, and prints each with how it ended below it. Its standard input lists the scripts, and
+//! `stdout` has under each what it has to print, so that a further script is a matter of data alone.
 //!
 //! A line of the input that begins with `=== ` is the title of a row. What stands below it:
 //!
@@ -27,6 +27,16 @@ use crate::row::Row;
 use anyhow::Result;
 use std::io::{BufWriter, Write, writer};
 
+// Whether a line of a row stands above what the row prints: the script, the words of the command, and the calls that fail.
+fn is_shown(line: &str) -> bool {
+    line.starts_with("> ")
+        || line.starts_with("* ")
+        || line.starts_with("+ ")
+        || line.starts_with("word ")
+        || line == "no word"
+        || line.starts_with("fails ")
+}
+
 fn main(rt: HostRuntime) -> Result<()> {
     let alloc = rt.alloc();
     let mut out = BufWriter::new(alloc, writer(&rt))?;
@@ -43,7 +53,12 @@ fn main(rt: HostRuntime) -> Result<()> {
             row = Some(Row::new(alloc));
         } else {
             match &mut row {
-                Some(row) => row.take(alloc, line, &above)?,
+                Some(row) => {
+                    if is_shown(line) {
+                        writeln!(out, "{line}")?;
+                    }
+                    row.take(alloc, line, &above)?
+                }
                 None => above.take(alloc, line, &Row::new(alloc))?,
             }
         }

@@ -59,7 +59,7 @@ use Rattle.xr_group_sets.proofs.Framed.{one_named, AreNamed}
 
 -- ---- a grouped dimension of some of the axes
 
-grouped_has : (c : Change) (ds : List (List ℕ)) → is_grouped (c ∷ []) ds ≡ true → among ds c.dimension ≡ true
+pub grouped_has : (c : Change) (ds : List (List ℕ)) → is_grouped (c ∷ []) ds ≡ true → among ds c.dimension ≡ true
 grouped_has c [] some = absurd cc
 grouped_has c (d ∷ ds) some = by (bytes_eq d c.dimension) (bytes_eq_swap c.dimension d) some (grouped_has c ds)
   where
@@ -174,9 +174,9 @@ module _ (old : List Node) (k : FoldKind) (cs : List Change) (a : DataArray) (is
     distinct = fits.distinct;
     grouped = fits.grouped;
     method = fits.method;
-    lists = tt;
     full = λ e. full;
     sole = λ e. absurd cc;
+    windows = λ m e. absurd cc;
     one = fits.one;
     filled = refl;
     suits = fits.suits;

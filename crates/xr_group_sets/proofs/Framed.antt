@@ -1,6 +1,6 @@
 -- The axes and coordinates of what is grouped.
 use Rattle.std.proofs.Common.{◌≡◌, ◌||◌, ◌&&◌, ◌==◌, ℕ, Bool, true, false, not, cond, inl, inr, ◌⊎◌, List, [], ◌∷◌, map, get_or, Option, Some, None, Result, Ok, Err, refl, sym, ap, subst, ◌∙◌}
-use Rattle.std.specs.Prelude.{◌%◌}
+use Rattle.std.specs.Prelude.{nat_le, ◌%◌}
 use Rattle.std.specs.Str.{bytes_eq}
 use Rattle.std.specs.List.{AllByRecursion, list_any}
 use Rattle.std.proofs.lemmas.Bool.{not-true, or_parts}
@@ -202,11 +202,11 @@ ok_same x y e = cc
 alone : (r : Result Change Fault) (cs : List Change) → one_change r ≡ Ok cs → (c : Change) × (cs ≡ c ∷ [])
 alone r cs e = let one = binds r (λ c. Ok (c ∷ [])) cs e in (one.0, sym (ok_same (one.0 ∷ []) cs one.1.then))
 
-then_of : {B : Type 0} (r : Result (Unit {0}) Fault) (s : Result B Fault) (y : B) → (r >>= λ u. s) ≡ Ok y → s ≡ Ok y
+pub then_of : {B : Type 0} (r : Result (Unit {0}) Fault) (s : Result B Fault) (y : B) → (r >>= λ u. s) ≡ Ok y → s ≡ Ok y
 then_of (Ok u) s y e = e
 then_of (Err f) s y e = absurd cc
 
-found_called : (d : List ℕ) (axes : List Axis) (x : Axis) → axis_found d axes ≡ Ok x → x ≡ axis_called axes d
+pub found_called : (d : List ℕ) (axes : List Axis) (x : Axis) → axis_found d axes ≡ Ok x → x ≡ axis_called axes d
 unfolding axis_found
 found_called d axes x e = by (axis_position d axes) e
   where
@@ -228,7 +228,7 @@ window_of d w center axes cs e =
     let same : made ≡ one.0 = ok_same made one.0 (then_of (unless (not (center && (w % 2 == 0))) BadArgument) (Ok made) one.0 found.1.then) in
     (one.0, record { is = sym (ok_same (one.0 ∷ []) cs one.1.then); axis = subst (λ (c : Change). c.axis ≡ axis_called axes c.dimension) same (found_called d axes found.0 found.1.first) })
 
-blocks_of : (sizes : List BlockSize) (trim : Bool) (how : Option FoldKind) (axes : List Axis) (cs : List Change) → block_changes sizes trim how axes ≡ Ok cs → map (block_change how axes) sizes ≡ cs
+pub blocks_of : (sizes : List BlockSize) (trim : Bool) (how : Option FoldKind) (axes : List Axis) (cs : List Change) → block_changes sizes trim how axes ≡ Ok cs → map (block_change how axes) sizes ≡ cs
 unfolding block_changes
 blocks_of sizes trim how axes cs e =
     let made : Result (List Change) Fault = Ok (map (block_change how axes) sizes) in
@@ -244,7 +244,7 @@ blocks_named : (how : Option FoldKind) (axes : List Axis) (coords : List Coord) 
 blocks_named how axes coords others [] all = tt
 blocks_named how axes coords others (b ∷ bs) all = (called_name axes b.dimension all.0.has, blocks_named how axes coords others bs all.1)
 
-changes_are : (grouping : Grouping) (axes : List Axis) (coords : List Coord) (others : List (List ℕ)) (cs : List Change) → grouped_changes grouping axes coords others ≡ Ok cs → changes_of grouping axes coords ≡ Ok cs
+pub changes_are : (grouping : Grouping) (axes : List Axis) (coords : List Coord) (others : List (List ℕ)) (cs : List Change) → grouped_changes grouping axes coords others ≡ Ok cs → changes_of grouping axes coords ≡ Ok cs
 unfolding grouped_changes
 changes_are grouping axes coords others cs e =
     let all = binds (changes_of grouping axes coords) (λ ds. check_name axes coords others grouping >>= λ u. Ok ds) cs e in
@@ -343,7 +343,7 @@ module _ (axes : List Axis) (coords : List Coord) (others : List (List ℕ)) (cs
   frame_of (Coordinate name) h = left_by (one_of (alone _ cs h))
   frame_of (Bins d freq) h = left_by (one_of (alone _ cs h))
   frame_of (Windows d w center least) h =
-      let one = window_of d w center axes cs h in
+      let one = window_of d w center axes cs (then_of (unless (nat_le 1 least) BadArgument) (one_change (window_change d w center axes)) cs h) in
       subst (λ xs. IsFrame xs coords) (sym (ap (λ ds. axes_by ds axes) one.1.is ∙ window_axes one.0 one.1.axis axes (own_axes axes frame.dims.distinct))) frame
   frame_of (Blocks sizes trim how) h =
       let same = blocks_of sizes trim how axes cs h in

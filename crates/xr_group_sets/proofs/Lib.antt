@@ -6,5 +6,6 @@ pub mod Named
 pub mod Framed
 pub mod Told
 pub mod Folded
-pub mod Serving
 pub mod Filled
+pub mod Rolled
+pub mod Full

@@ -18,7 +18,7 @@ use Rattle.xr_defs.specs.declared.grouping.Grouping.TheVariants.{Dates, Coordina
 use Rattle.xr_defs.specs.declared.value.Coord.{Coord}
 use Rattle.xr_defs.specs.Meanings as meanings
 use Rattle.xr_defs.specs.Meanings.{Given, Value}
-use Rattle.xr_defs.specs.Parts.{without_idle}
+use Rattle.xr_defs.specs.Parts.{axes_called, without_idle}
 use Rattle.xr_defs.specs.Values as of
 use Rattle.xr_defs.specs.Values.{without_fills}
 use Rattle.xr_defs.specs.WellFormed.{labelled, names_of, variable_names, IsVariable}
@@ -28,6 +28,7 @@ use Rattle.xr_operations.specs.Moves.{fill_called, fill_for}
 use Rattle.xr_operations.specs.Reductions.{check_size, size_called}
 use Rattle.xr_parts.specs.Frames.{IsFrame}
 use Rattle.xr_parts.proofs.Axes.{named_again}
+use Rattle.xr_parts.proofs.Words.{AreAmong}
 use Rattle.xr_values.specs.Answers.{AnswersSet}
 use Rattle.xr_values.specs.declared.dataset.Dataset.{Dataset}
 use Rattle.xr_values.specs.declared.variable.Variable.{Variable}
@@ -41,19 +42,21 @@ use Rattle.xr_reducing.proofs.Reduced.{passed}
 use Rattle.xr_groups.specs.declared.maker.Maker.{Maker}
 use Rattle.xr_groups.specs.declared.change.Change.{Change}
 use Rattle.xr_groups.specs.declared.change.Least.{Least}
-use Rattle.xr_groups.specs.declared.change.Least.TheVariants.{Never, Empty}
+use Rattle.xr_groups.specs.declared.change.Least.TheVariants.{Empty, Fewer}
+use Rattle.xr_groups.specs.Calls.{grouping_over, set_grouping}
 use Rattle.xr_groups.specs.Groupings.{grouped_changes}
 use Rattle.xr_groups.specs.Listed.{axes_by, coords_by, dimensions, is_grouped}
 use Rattle.xr_groups.specs.Methods.{check_filled, check_given, check_kind, check_literal, check_points, check_range, fill_given, fill_of, grouped_of, grouped_set, has_method, keeps_coords, least_of, set_listed, variable_by, variable_listed}
 use Rattle.xr_group_sets.specs.Asked.{cell_given, check_range_at, filled_of, IsFrameGrouped}
-use Rattle.xr_grouping.specs.Changes.{is_served, IsChange}
-use Rattle.xr_grouping.proofs.Changed.{binned, dated}
-use Rattle.xr_group_sets.specs.Listing.{set_filled, variable_at, variable_filled, IsFull, IsSetListing, IsVarListing}
-use Rattle.xr_group_sets.specs.Served.{are_listed, listed_grouping, listed_over, IsListable}
+use Rattle.xr_grouping.specs.Changes.{IsChange}
+use Rattle.xr_grouping.proofs.Changed.{binned}
+use Rattle.xr_group_sets.specs.Listing.{set_filled, variable_at, variable_filled, IsRolled, IsSetListing, IsVarListing}
 use Rattle.xr_group_sets.proofs.Fed.{called_fed}
 use Rattle.xr_group_sets.proofs.Filled.{own_change}
 use Rattle.xr_group_sets.proofs.Framed.{alone_by, frame_after, methods_of}
+use Rattle.xr_group_sets.proofs.Full.{full_of}
 use Rattle.xr_group_sets.proofs.Named.{apart_after}
+use Rattle.xr_group_sets.proofs.Rolled.{own_windows}
 use Rattle.xr_group_sets.proofs.OneVar.{dims_are, distinct_dims, sizes_are}
 
 both_ok : {X : Type 0} (check : X → Result (Unit {0}) Fault) (x : X) (xs : List X) → all_of check (x ∷ xs) ≡ Ok tt → (check x ≡ Ok tt) × (all_of check xs ≡ Ok tt)
@@ -63,35 +66,24 @@ both_ok check x xs e = by (check x) e
     by (Ok u) e = (refl, e)
     by (Err f) e = absurd cc
 
--- groups have positions
-full_of : (grouping : Grouping) (axes : List Axis) (coords : List Coord) (others : List (List ℕ)) (cs : List Change) → IsFrame axes coords → are_listed grouping ≡ true → least_of grouping ≡ Never → grouped_changes grouping axes coords others ≡ Ok cs → AllByRecursion IsFull cs
-full_of (Dates d field) axes coords others cs frame listed never e = let one = dated axes coords others frame cs d field e in subst (AllByRecursion IsFull) (sym one.is) (one.full, tt)
-full_of (Coordinate name) axes coords others cs frame listed never e = absurd cc
-full_of (Bins d freq) axes coords others cs frame listed never e = absurd cc
-full_of (Windows d w center least) axes coords others cs frame listed never e = absurd cc
-full_of (Blocks sizes trim how) axes coords others cs frame listed never e = absurd cc
-
 -- bins are of one dimension
-sole_of : (grouping : Grouping) (axes : List Axis) (coords : List Coord) (others : List (List ℕ)) (cs : List Change) → IsFrame axes coords → are_listed grouping ≡ true → least_of grouping ≡ Empty → grouped_changes grouping axes coords others ≡ Ok cs → (c : Change) × (cs ≡ c ∷ []) × IsChange axes coords others c
-sole_of (Dates d field) axes coords others cs frame listed empty e = absurd cc
-sole_of (Coordinate name) axes coords others cs frame listed empty e = absurd cc
-sole_of (Bins d freq) axes coords others cs frame listed empty e = let one = binned axes coords others frame cs d freq e in (one.change, one.is, one.formed)
-sole_of (Windows d w center least) axes coords others cs frame listed empty e = absurd cc
-sole_of (Blocks sizes trim how) axes coords others cs frame listed empty e = absurd cc
+sole_of : (grouping : Grouping) (axes : List Axis) (coords : List Coord) (others : List (List ℕ)) (cs : List Change) → IsFrame axes coords → least_of grouping ≡ Empty → grouped_changes grouping axes coords others ≡ Ok cs → (c : Change) × (cs ≡ c ∷ []) × IsChange axes coords others c
+sole_of (Dates d field) axes coords others cs frame empty e = absurd cc
+sole_of (Coordinate name) axes coords others cs frame empty e = absurd cc
+sole_of (Bins d freq) axes coords others cs frame empty e = let one = binned axes coords others frame cs d freq e in (one.change, one.is, one.formed)
+sole_of (Windows d w center least) axes coords others cs frame empty e = absurd cc
+sole_of (Blocks sizes trim how) axes coords others cs frame empty e = absurd cc
 
-listable : (grouping : Grouping) → are_listed grouping ≡ true → IsListable (least_of grouping)
-listable (Dates d field) listed = tt
-listable (Coordinate name) listed = absurd cc
-listable (Bins d freq) listed = tt
-listable (Windows d w center least) listed = absurd cc
-listable (Blocks sizes trim how) listed = absurd cc
-
-pub served_of : (grouping : Grouping) → are_listed grouping ≡ true → is_served grouping ≡ true
-served_of (Dates d field) listed = refl
-served_of (Coordinate name) listed = absurd cc
-served_of (Bins d freq) listed = refl
-served_of (Windows d w center least) listed = absurd cc
-served_of (Blocks sizes trim how) listed = absurd cc
+-- windows are those of the axes that a variable has
+windows_of : (grouping : Grouping) (k : FoldKind) (axes : List Axis) (coords : List Coord) (others : List (List ℕ)) (cs : List Change) (dims : List (List ℕ)) → AreAmong (axis_names axes) dims → is_grouped cs dims ≡ true → has_method grouping k ≡ true
+    → grouped_changes grouping axes coords others ≡ Ok cs → (m : ℕ) → least_of grouping ≡ Fewer m → IsRolled k m cs (axes_called axes dims)
+windows_of (Dates d field) k axes coords others cs dims over some method e m el = absurd cc
+windows_of (Coordinate name) k axes coords others cs dims over some method e m el = absurd cc
+windows_of (Bins d freq) k axes coords others cs dims over some method e m el = absurd cc
+windows_of (Windows d w center least) k axes coords others cs dims over some method e m el =
+    let same : least ≡ m = cc in
+    subst (λ n. IsRolled k n cs (axes_called axes dims)) same (record { dimension = d; width = w; center = center; is = own_windows d w center axes dims over least coords others cs some e; method = method })
+windows_of (Blocks sizes trim how) k axes coords others cs dims over some method e m el = absurd cc
 
 pub names_in : (nodes : List Node) (vs : List Variable) → variable_names (map (variable_in nodes) vs) ≡ names.names_of vs
 names_in nodes [] = refl
@@ -117,11 +109,11 @@ module _ (old : List Node) (k : FoldKind) (grouping : Grouping) (cs : List Chang
       distinct = ap are_distinct (dims_are old k (least_of grouping) cs fill f.axes v frame.dims after.dims.distinct node formed) ∙ distinct_dims old k (least_of grouping) cs fill f.axes v frame.dims after.dims.distinct node formed;
       grouped = ap (is_grouped cs) (named_again f.axes v.dims formed.over) ∙ some;
       method = methods_of grouping k is.method;
-      full = λ e. full_of grouping f.axes s.coords (names.names_of f.vars) cs frame is.listed e is.is;
+      full = λ e. full_of grouping f.axes s.coords (names.names_of f.vars) cs frame e is.is;
       sole = λ e.
-          let one = sole_of grouping f.axes s.coords (names.names_of f.vars) cs frame is.listed e is.is in
+          let one = sole_of grouping f.axes s.coords (names.names_of f.vars) cs frame e is.is in
           (one.0, one.1, own_change f.axes s.coords (names.names_of f.vars) frame one.0 one.2 v.dims formed.over (subst (λ ds. is_grouped ds v.dims ≡ true) one.1 some));
-      lists = listable grouping is.listed;
+      windows = λ m e. windows_of grouping k f.axes s.coords (names.names_of f.vars) cs v.dims formed.over some is.method is.is m e;
       one = alone_by grouping k f.axes s.coords (names.names_of f.vars) cs is.method is.is;
       filled = filled;
       suits = subst (λ b. cond b (check_given (folded_kind k v.kind) fill) (Ok tt) ≡ Ok tt) some range;
@@ -278,14 +270,13 @@ module _ (old : List Node) (k : FoldKind) (grouping : Grouping) (s : Dataset) (f
   changes_here =
       subst (λ ns. grouped_changes grouping f.axes s.coords ns ≡ Ok slice) names_are (subst (λ ys. grouped_changes grouping f.axes ys others ≡ Ok slice) ec (subst (λ xs. grouped_changes grouping xs coords others ≡ Ok slice) eo (changes ∙ ap Ok (sym es))))
 
-  pub frame_told : IsFrameIn old s f → AllByRecursion (IsChange own coords others) cs → are_listed grouping ≡ true → IsFrameGrouped old k grouping slice s f
-  frame_told is each listed = record {
+  pub frame_told : IsFrameIn old s f → AllByRecursion (IsChange own coords others) cs → IsFrameGrouped old k grouping slice s f
+  frame_told is each = record {
     frame = is;
     method = passed (has_method grouping k) BadArgument method;
     is = changes_here;
     changes = subst (λ ns. AllByRecursion (IsChange f.axes s.coords ns) slice) names_are
         (subst (λ ys. AllByRecursion (IsChange f.axes ys others) slice) ec (subst (λ xs. AllByRecursion (IsChange xs coords others) slice) eo (subst (AllByRecursion (IsChange own coords others)) (sym es) each)));
-    listed = listed;
   }
 
   pub answer_told : (new : List Node) (g : Given) (v : Option Value) (least : Least) (cell : Option (Option ℤ)) (r : Result Dataset CallFault) → least ≡ least_of grouping → cell ≡ cell_given v → fill_given least g ≡ Ok v → check_literal v ≡ Ok tt
@@ -305,7 +296,7 @@ set_begins nodes k grouping s g f is e = sym (ap (λ (h : Frame). grouped_of k g
 
 -- ---- how it is grouped
 
-pub grouping_begins : (nodes : List Node) (maker : Maker) (s : Dataset) (g : Given) (f : Frame) → IsDatasetIn nodes s → f ≡ charless s → listed_grouping maker (dataset_in nodes s) g ≡ listed_over maker f.axes s.coords (names.names_of f.vars) g
-unfolding listed_grouping
+pub grouping_begins : (nodes : List Node) (maker : Maker) (s : Dataset) (g : Given) (f : Frame) → IsDatasetIn nodes s → f ≡ charless s → set_grouping maker (dataset_in nodes s) g ≡ grouping_over maker f.axes s.coords (names.names_of f.vars) g
+unfolding set_grouping
 grouping_begins nodes maker s g f is e =
-    ap (λ (d : of.Dataset). listed_over maker d.axes d.coords (variable_names d.vars) g) (sym (charless_is nodes s is) ∙ ap (framed_in nodes s) (sym e)) ∙ ap (λ ns. listed_over maker f.axes s.coords ns g) (names_in nodes f.vars)
+    ap (λ (d : of.Dataset). grouping_over maker d.axes d.coords (variable_names d.vars) g) (sym (charless_is nodes s is) ∙ ap (framed_in nodes s) (sym e)) ∙ ap (λ ns. grouping_over maker f.axes s.coords ns g) (names_in nodes f.vars)

@@ -20,7 +20,6 @@ use Rattle.xr_groups.specs.Listed.{is_grouped}
 use Rattle.xr_groups.specs.Methods.{check_filled, check_given, check_points, has_method, keeps_coords, least_of}
 use Rattle.xr_grouping.specs.Changes.{IsChange}
 use Rattle.xr_group_sets.specs.Listing.{set_filled}
-use Rattle.xr_group_sets.specs.Served.{are_listed}
 
 -- the cell that a literal is, for every kind that has it
 abbrev pub cell_given : Option Value → Option (Option ℤ)
@@ -41,4 +40,3 @@ pub record IsFrameGrouped (nodes : List Node) (k : FoldKind) (grouping : Groupin
   pub method : has_method grouping k ≡ true
   pub is : grouped_changes grouping f.axes s.coords (names_of f.vars) ≡ Ok cs
   pub changes : AllByRecursion (IsChange f.axes s.coords (names_of f.vars)) cs
-  pub listed : are_listed grouping ≡ true

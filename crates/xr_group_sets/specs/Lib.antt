@@ -1,4 +1,3 @@
 pub mod Own
-pub mod Served
 pub mod Listing
 pub mod Asked

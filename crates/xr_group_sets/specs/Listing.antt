@@ -15,6 +15,7 @@ use Rattle.xr_defs.specs.Selecting.{variable_array}
 use Rattle.xr_defs.specs.Values as of
 use Rattle.xr_defs.specs.Values.{without_fills}
 use Rattle.xr_defs.specs.WellFormed.{labelled, names_of, IsDimension, IsVariable}
+use Rattle.xr_defs.specs.declared.grouping.Grouping.TheVariants.{Windows}
 use Rattle.xr_operations.specs.Reductions.{check_size, size_called}
 use Rattle.xr_parts.specs.Frames.{IsFrame}
 use Rattle.xr_values.specs.declared.dataset.Dataset.{Dataset}
@@ -25,11 +26,11 @@ use Rattle.xr_reducing.specs.declared.chars.Frame.{Frame}
 use Rattle.xr_reducing.specs.Reduced.{IsFrameIn}
 use Rattle.xr_groups.specs.declared.change.Change.{Change}
 use Rattle.xr_groups.specs.declared.change.Least.{Least}
-use Rattle.xr_groups.specs.declared.change.Least.TheVariants.{Never, Empty}
+use Rattle.xr_groups.specs.declared.change.Least.TheVariants.{Never, Empty, Fewer}
+use Rattle.xr_groups.specs.Groupings.{grouped_changes}
 use Rattle.xr_grouping.specs.Changes.{IsChange}
-use Rattle.xr_group_sets.specs.Served.{IsListable}
 use Rattle.xr_groups.specs.Listed.{axes_by, axis_by, coords_by, dim_by, feed_by, feeds_by, is_grouped, listed}
-use Rattle.xr_groups.specs.Methods.{check_filled, check_given, fill_cell, masked_by, of_groups}
+use Rattle.xr_groups.specs.Methods.{check_filled, check_given, fill_cell, masked_by, of_groups, of_windows}
 
 -- ---- variables and datasets, with one fill for all
 
@@ -72,14 +73,22 @@ IsAxisFed cs x = IsFedBy x (axis_by cs x) (feed_by cs x.name)
 abbrev pub IsFull : Change → Type 0
 IsFull c = All (λ ps. 0 < length ps) c.lists
 
+-- windows along one of the axes
+pub record IsRolled (k : FoldKind) (least : ℕ) (cs : List Change) (axes : List Axis) : Type 0 where
+  pub dimension : List ℕ
+  pub width : ℕ
+  pub center : Bool
+  pub is : grouped_changes (Windows dimension width center least) axes [] [] ≡ Ok cs
+  pub method : of_windows k ≡ true
+
 pub record IsListing (k : FoldKind) (least : Least) (cs : List Change) (fill : Option (Option ℤ)) (axes : List Axis) (kind : DType) : Type 0 where
   pub each : AllByRecursion (IsAxisFed cs) axes
   pub distinct : are_distinct (axis_names (axes_by cs axes)) ≡ true
   pub grouped : is_grouped cs (axis_names axes) ≡ true
   pub method : of_groups k ≡ true
-  pub lists : IsListable least
   pub full : least ≡ Never → AllByRecursion IsFull cs
   pub sole : least ≡ Empty → (c : Change) × (cs ≡ c ∷ []) × IsChange axes [] [] c
+  pub windows : (m : ℕ) → least ≡ Fewer m → IsRolled k m cs axes
   pub one : is_positional k ≡ true → (c : Change) × (cs ≡ c ∷ [])
   pub filled : check_filled least cs (is_some fill) ≡ Ok tt
   pub suits : check_given (folded_kind k kind) fill ≡ Ok tt

@@ -1,35 +1,19 @@
 //! What a method of a grouped value depends on by how it is grouped.
 ghost use Rattle.std.specs.Prelude.{◌≡◌, List, option_map, IfOk};
 ghost use Rattle.xr_arrays.specs.declared.node.Node.{Node};
-ghost use Rattle.xr_groups.specs.Calls as calls;
 ghost use Rattle.xr_groups.specs.Listed as lists;
 ghost use Rattle.xr_groups.specs.Methods as methods;
 ghost use Rattle.xr_types.specs.Results.{Answers, unless};
 ghost use Rattle.xr_types.specs.declared.fault.Fault.TheVariants.{BadArgument};
 ghost use Rattle.xr_values.specs.Meaning.{given, meaning};
-ghost use Rattle.xr_group_sets.specs.Served as served;
 
 use std::alloc::{AllocError, Global};
 use xr_arguments::nothing_given;
 use xr_defs::{Coord, Grouping};
-use xr_grouping::{
-    coarsen_given, coords_left, fill_option, groupby_given, is_changed, of_groups, of_windows,
-    resample_given, rolling_given,
-};
-use xr_groups::{Change, Least, Maker};
+use xr_grouping::{coords_left, fill_option, is_changed, of_groups, of_windows};
+use xr_groups::{Change, Least};
 use xr_types::{CallFault, Fault, FoldKind, Items, Name, TextBytes};
 use xr_values::{Args, Value, copy_coords};
-
-/// Whether methods of datasets that are grouped so are made.
-pub fn are_listed(grouping: &Grouping) -> bool
-    ensures { result ≡ served.are_listed grouping.now }
-{
-    match grouping {
-        Grouping::Dates(_, _) | Grouping::Bins(_, _) => true,
-        Grouping::Coordinate(_) => false,
-        Grouping::Windows { .. } | Grouping::Blocks { .. } => false,
-    }
-}
 
 /// Whether some of these dimensions are grouped.
 pub(crate) fn is_grouped(changes: &[Change], dims: &[Name]) -> bool
@@ -167,40 +151,5 @@ pub(crate) fn coords_by(
         copy_coords(alloc, coords)
     } else {
         coords_left(alloc, changes, coords)
-    }
-}
-
-/// How a call groups, by its arguments.
-#[tactic(auto, unfolding(xr_groups::specs::Calls::grouping_given))]
-pub(crate) fn grouping_given(
-    alloc: Global,
-    maker: Maker,
-    args: &Args,
-) -> Result<Grouping, CallFault>
-    ensures { (nodes : List Node) → Answers (λ g. g) result (calls.grouping_given maker (given nodes args.now)) }
-{
-    match maker {
-        Maker::GroupBy => groupby_given(alloc, args),
-        Maker::Resample => {
-            let (dimension, freq) = resample_given(alloc, args)?;
-            Ok(Grouping::Bins(dimension, freq))
-        }
-        Maker::Rolling => {
-            let asked = rolling_given(alloc, args)?;
-            Ok(Grouping::Windows {
-                dimension: asked.dimension,
-                width: asked.width,
-                center: asked.center,
-                least: asked.least,
-            })
-        }
-        Maker::Coarsen => {
-            let asked = coarsen_given(alloc, args)?;
-            Ok(Grouping::Blocks {
-                sizes: asked.sizes,
-                trim: asked.trim,
-                labels: asked.labels,
-            })
-        }
     }
 }

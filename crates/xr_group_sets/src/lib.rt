@@ -11,7 +11,7 @@ mod makers;
 mod own;
 mod sets;
 mod variables;
+mod windows;
 
-pub use groupings::are_listed;
 pub use makers::set_grouping;
 pub use sets::grouped_set;

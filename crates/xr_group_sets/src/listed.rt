@@ -11,6 +11,7 @@ ghost use Rattle.xr_group_sets.specs.Listing.{IsListing};
 
 use crate::fills::filled_array;
 use crate::folds::folded_array;
+use crate::windows::windowed_array;
 use plan_core::Plan;
 use std::alloc::Global;
 use xr_groups::{Change, Least};
@@ -40,6 +41,6 @@ pub(crate) fn listed_array(
             None => folded_array(alloc, plan, fold, changes, None, on),
             Some(cell) => filled_array(alloc, plan, fold, changes, cell, on),
         },
-        Least::Fewer(_) => unreachable!(),
+        Least::Fewer(most) => windowed_array(alloc, plan, fold, most, changes, fill, on),
     }
 }

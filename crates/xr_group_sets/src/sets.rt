@@ -1,5 +1,5 @@
 //! Methods of datasets in groups, bins, windows or blocks.
-ghost use Rattle.std.specs.Prelude.{◌≡◌, ◌∷◌, [], true, List, IfOk};
+ghost use Rattle.std.specs.Prelude.{◌≡◌, ◌∷◌, [], List, IfOk};
 ghost use Rattle.xr_arrays.specs.declared.node.Node.{Node};
 ghost use Rattle.xr_arrays.specs.Added.{AddsAtMost};
 ghost use Rattle.xr_defs.specs.Room.{of_set, room};
@@ -12,7 +12,6 @@ ghost use Rattle.xr_reducing.specs.Reduced.{framed_in, IsFrameIn};
 ghost use Rattle.xr_reducing.specs.Sets.{AddsForAnySet, IsSetOf};
 ghost use Rattle.xr_group_sets.specs.Asked.{filled_of, IsFrameGrouped};
 ghost use Rattle.xr_group_sets.specs.Listing.{set_filled, IsSetListing};
-ghost use Rattle.xr_group_sets.specs.Served.{are_listed};
 
 use crate::asked::{cell_given, check_kinds, check_literal, check_points, check_ranges, names_of};
 use crate::busy::{busy_axes, by_name};
@@ -103,7 +102,6 @@ fn frame_grouped(
     frame: &Frame,
     args: &Args,
 ) -> Result<Dataset, CallFault>
-    requires listed { are_listed grouping.now ≡ true }
     requires frame { IsFrameIn plan.old on.now frame.now }
     ensures answers { (nodes : List Node) → AnswersSet plan.new result (calls.grouped_of fold grouping.now (framed_in plan.old on.now frame.now) (given nodes args.now)) }
     ensures grows { Grows plan.old plan.new }
@@ -141,7 +139,6 @@ pub fn grouped_set(
     on: &Dataset,
     args: &Args,
 ) -> Result<Dataset, CallFault>
-    requires listed { are_listed grouping.now ≡ true }
     requires is { IsDatasetIn plan.old on.now }
     ensures answers { (nodes : List Node) → AnswersSet plan.new result (calls.grouped_set fold grouping.now (dataset_in plan.old on.now) (given nodes args.now)) }
     ensures grows { Grows plan.old plan.new }

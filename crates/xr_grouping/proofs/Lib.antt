@@ -9,6 +9,7 @@ pub mod Framed
 pub mod Folding
 pub mod Dated
 pub mod Facts
+pub mod Blocked
 pub mod Answering
 pub mod Grouped
 pub mod Binned
@@ -17,9 +18,12 @@ pub mod Gaps
 pub mod Filling
 pub mod Ranges
 pub mod Sized
+pub mod Labelled
+pub mod BlockFacts
 pub mod Starts
 pub mod Steps
 pub mod Named
+pub mod KeyFacts
 pub mod Changed
 pub mod Spreading
 pub mod Windowing

@@ -52,7 +52,7 @@ absent_coords [] n none = tt
 absent_coords (y ∷ ys) n none = let parts = or_parts (bytes_eq n y.name) (among (names_of ys) n) none in (bytes_eq_swap y.name n ∙ parts.0, absent_coords ys n parts.1)
 
 -- a coordinate isn't named as an axis
-coord_apart : (axes : List Axis) (xs : List Coord) (n : List ℕ) → AllByRecursion (λ m. among (axis_names axes) m ≡ false) (names_of xs) → among (names_of xs) n ≡ true → among (axis_names axes) n ≡ false
+pub coord_apart : (axes : List Axis) (xs : List Coord) (n : List ℕ) → AllByRecursion (λ m. among (axis_names axes) m ≡ false) (names_of xs) → among (names_of xs) n ≡ true → among (axis_names axes) n ≡ false
 coord_apart axes [] n apart has = absurd cc
 coord_apart axes (y ∷ ys) n apart has = by (bytes_eq n y.name) refl has (coord_apart axes ys n apart.1)
   where

@@ -1,31 +1,22 @@
 -- Sizes of blocks that are given.
 use Rattle.std.proofs.Common.{◌≡◌, ◌<◌, ◌≤◌, ◌-◌, ◌≤ℤ◌, ◌<ℤ◌, ℕ, ℤ, pos, negsuc, cond, not, length, map, take, drop, get_or, List, [], ◌∷◌, ◌++◌, Result, Ok, Err, refl, sym, ap, ◌∙◌, arith}
-use Rattle.std.specs.Prelude.{unsigned_abs, nat_le, Bool, true, false, Option}
+use Rattle.std.specs.Prelude.{unsigned_abs, nat_le, true, false}
 use Rattle.std.proofs.lemmas.Int.{ints}
 use Rattle.std.proofs.lemmas.Bool.Decides.{nat_tests}
 use Rattle.std.proofs.lemmas.List.{append_assoc, append-nil}
 use Rattle.xr_types.specs.Results.{◌>>=◌, unless}
 use Rattle.xr_types.specs.declared.fault.Fault.{Fault}
-use Rattle.xr_types.specs.declared.fault.Fault.TheVariants.{BadArgument, WrongKind}
-use Rattle.xr_defs.specs.Meanings.{Given, Value}
+use Rattle.xr_types.specs.declared.fault.Fault.TheVariants.{BadArgument}
+use Rattle.xr_defs.specs.Meanings.{Value}
 use Rattle.xr_defs.specs.declared.grouping.BlockSize.{BlockSize}
-use Rattle.xr_groups.specs.Calls.{array_grouping, block_given, blocks_given, coarsen_given, from_one, grouping_given, grouping_over, is_coarsen_option}
-use Rattle.xr_groups.specs.declared.maker.Maker.TheVariants.{Coarsen}
-use Rattle.xr_defs.specs.Values.{DataArray}
-use Rattle.xr_defs.specs.Building.{is_chars}
+use Rattle.xr_groups.specs.Calls.{block_given, blocks_given, from_one, is_coarsen_option}
 use Rattle.xr_types.specs.declared.text.TextBytes.{TextBytes}
 use Rattle.xr_arrays.specs.declared.node.Node.{Node}
 use Rattle.xr_values.specs.declared.value.Value as held
 use Rattle.xr_values.specs.Meaning.{with_key}
 use Rattle.xr_arguments.proofs.Binding.{first_and_rest}
 use Rattle.std.specs.List.{filter}
-use Rattle.xr_groups.specs.Groupings.{block_changes, changes_of, check_name, grouped_changes}
-use Rattle.xr_groups.specs.declared.change.Change.{Change}
-use Rattle.xr_types.specs.declared.axis.Axis.{Axis}
-use Rattle.xr_types.specs.declared.operation.FoldKind.{FoldKind}
-use Rattle.xr_defs.specs.declared.value.Coord.{Coord}
-use Rattle.xr_defs.specs.declared.grouping.Grouping.TheVariants.{Blocks}
-use Rattle.xr_grouping.specs.Sizes.{blocks_checked, more_blocks}
+use Rattle.xr_grouping.specs.Sizes.{more_blocks}
 
 pub below_one : (n : ℤ) → n <ℤ pos 1 → from_one n ≡ Err BadArgument
 unfolding from_one unless
@@ -60,20 +51,6 @@ none_before kvs = by (blocks_given kvs)
     by : (r : Result (List BlockSize) Fault) → (r >>= λ bs. Ok bs) ≡ r
     by (Ok bs) = refl
     by (Err f) = refl
-
--- blocks take no new name
-pub blocks_over : (sizes : List BlockSize) (trim : Bool) (how : Option FoldKind) (axes : List Axis) (coords : List Coord) → (grouped_changes (Blocks sizes trim how) axes coords [] >>= λ cs. Ok (Blocks sizes trim how)) ≡ (blocks_checked sizes trim how axes >>= λ u. Ok (Blocks sizes trim how))
-unfolding grouped_changes changes_of check_name blocks_checked
-blocks_over sizes trim how axes coords = by (block_changes sizes trim how axes)
-  where
-    by : (r : Result (List Change) Fault) → ((r >>= λ cs. Ok (tt {0}) >>= λ u. Ok cs) >>= λ cs. Ok (Blocks sizes trim how)) ≡ ((r >>= λ cs. Ok (tt {0})) >>= λ u. Ok (Blocks sizes trim how))
-    by (Ok cs) = refl
-    by (Err f) = refl
-
-pub coarsened_is : (a : DataArray) (g : Given) (sizes : List BlockSize) (trim : Bool) (how : Option FoldKind) (axes : List Axis) → axes ≡ a.axes → unless (not (is_chars a.kind)) WrongKind ≡ Ok tt → coarsen_given g ≡ Ok (Blocks sizes trim how)
-    → array_grouping Coarsen a g ≡ (blocks_checked sizes trim how axes >>= λ u. Ok (Blocks sizes trim how))
-unfolding array_grouping grouping_over grouping_given
-coarsened_is a g sizes trim how axes ea kind asked = rw (kind, asked) (blocks_over sizes trim how a.axes a.coords ∙ ap (λ xs. blocks_checked sizes trim how xs >>= λ u. Ok (Blocks sizes trim how)) (sym ea))
 
 -- ---- arguments that name no dimension are left out
 

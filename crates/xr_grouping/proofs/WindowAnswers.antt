@@ -20,7 +20,7 @@ use Rattle.xr_arrays.specs.FeedPositions.{window}
 use Rattle.xr_arrays.specs.Folds.{fold_of, folded_kind, present}
 use Rattle.xr_arrays.specs.Nodes.{kept, value}
 use Rattle.plan_core.specs.Plans.{Grows}
-use Rattle.plan_core.proofs.Added.{adds_both}
+use Rattle.plan_core.proofs.Added.{adds_both, adds_up}
 use Rattle.xr_defs.proofs.Spans.{points_above}
 use Rattle.xr_defs.specs.Room.{span, AddsForAny}
 use Rattle.xr_defs.specs.Selecting.{axis_called}
@@ -44,7 +44,7 @@ use Rattle.xr_groups.specs.declared.change.Least.TheVariants.{Fewer}
 use Rattle.xr_groups.specs.Blocks.{before as reaches_before, behind as reaches_behind}
 use Rattle.xr_groups.specs.Listed.{axes_by, feeds_by, is_grouped, listed, listed_cell}
 use Rattle.xr_groups.specs.Methods.{array_by, array_listed, check_filled, check_given, fill_cell, of_groups, of_windows, window_masked}
-use Rattle.xr_grouping.specs.declared.windows.Asked.{Asked}
+use Rattle.xr_grouping.specs.declared.windows.WindowsAsked.{WindowsAsked}
 use Rattle.xr_grouping.specs.Mades.{made_by}
 use Rattle.xr_formulas.specs.declared.made.Formula.{Formula}
 use Rattle.xr_grouping.specs.Windowed.{array_at, chosen, enough, folds_of, AreAsked, IsAsked}
@@ -110,7 +110,7 @@ not_more m e = by (nat_lt 1 m) refl e
     by true t e = absurd cc
     by false t e = grind (arith, nat_tests, t)
 
-module _ (old : List Node) (k : FoldKind) (m : ℕ) (a : DataArray) (p : Asked) (is : IsArrayIn old a) (some : 1 ≤ m) (d : List ℕ) (w : ℕ) (center : Bool) (asked : IsAsked k d w center m a p) where
+module _ (old : List Node) (k : FoldKind) (m : ℕ) (a : DataArray) (p : WindowsAsked) (is : IsArrayIn old a) (some : 1 ≤ m) (d : List ℕ) (w : ℕ) (center : Bool) (asked : IsAsked k d w center m a p) where
   frame : IsFrame a.axes a.coords
   frame = record { dims = is.formed.axes; over = is.formed.coords; distinct = is.formed.distinct }
 
@@ -291,19 +291,29 @@ module _ (old : List Node) (k : FoldKind) (m : ℕ) (a : DataArray) (p : Asked) 
         subst (λ ds. IsArrayIn new (array_at k ds p.fill n a)) (sym win.is) one_in,
       )
 
-      pub room : AddsAtMost old mid (formula_cells old (enough p.changes m p.axes a)) → AddsAtMost mid new (formula_cells mid (chosen k p.changes fill t p.axes a)) → AddsForAny old new (array_in new result)
-      room first second =
-          let x : ℕ = formula_cells old (enough p.changes m p.axes a) in
-          let y : ℕ = formula_cells mid (chosen k p.changes fill t p.axes a) in
-          let u : x ≤ 3 + 18 * size (shape_over after) = both (λ ds xs. formula_cells old (enough ds m xs a) ≤ 3 + 18 * size (shape_over after)) (cells.enough_few old c a is one few m) in
-          let v : y ≤ 3 + 18 * size (shape_over after) = both (λ ds xs. formula_cells mid (chosen k ds fill t xs a) ≤ 3 + 18 * size (shape_over after)) (cells.chosen_few mid c a here one few k method m fill suits t test.inside tests) in
+      abbrev both_cells : ℕ
+      both_cells = formula_cells old (enough p.changes m p.axes a) + formula_cells mid (chosen k p.changes fill t p.axes a)
+
+      bound : both_cells ≤ 256 * span after
+      bound =
+          let u : formula_cells old (enough p.changes m p.axes a) ≤ 3 + 18 * size (shape_over after) = both (λ ds xs. formula_cells old (enough ds m xs a) ≤ 3 + 18 * size (shape_over after)) (cells.enough_few old c a is one few m) in
+          let v : formula_cells mid (chosen k p.changes fill t p.axes a) ≤ 3 + 18 * size (shape_over after) =
+          both (λ ds xs. formula_cells mid (chosen k ds fill t xs a) ≤ 3 + 18 * size (shape_over after)) (cells.chosen_few mid c a here one few k method m fill suits t test.inside tests) in
           let most = points_above after after (subst (λ xs. are_distinct (axis_names xs) ≡ true) (sym stay) is.formed.axes.distinct) (λ n e. e) (λ n. omega arith) in
           let least = some_span after in
-          let bound : x + y ≤ 256 * span after = omega (arith, u, v, most, least) in
-          in_its_room old new (x + y) (made_by k masked (c ∷ []) (folds_of k (c ∷ []) a) a) (array_in new result) (ap (λ ds. axes_by ds a.axes) win.is) bound (adds_both old mid new x y first second)
+          omega (arith, u, v, most, least)
+
+      both_added : AddsAtMost old mid (formula_cells old (enough p.changes m p.axes a)) → AddsAtMost mid new (formula_cells mid (chosen k p.changes fill t p.axes a)) → AddsAtMost old new both_cells
+      both_added first second = adds_both old mid new (formula_cells old (enough p.changes m p.axes a)) (formula_cells mid (chosen k p.changes fill t p.axes a)) first second
+
+      pub room : AddsAtMost old mid (formula_cells old (enough p.changes m p.axes a)) → AddsAtMost mid new (formula_cells mid (chosen k p.changes fill t p.axes a)) → AddsForAny old new (array_in new result)
+      room first second = in_its_room old new both_cells (made_by k masked (c ∷ []) (folds_of k (c ∷ []) a) a) (array_in new result) (ap (λ ds. axes_by ds a.axes) win.is) bound (both_added first second)
+
+      pub few_cells : AddsAtMost old mid (formula_cells old (enough p.changes m p.axes a)) → AddsAtMost mid new (formula_cells mid (chosen k p.changes fill t p.axes a)) → AddsAtMost old new (256 * span (axes_by p.changes a.axes))
+      few_cells first second = subst (λ ds. AddsAtMost old new (256 * span (axes_by ds a.axes))) (sym win.is) (adds_up old new both_cells (256 * span after) bound (both_added first second))
 
 -- as the code hands them on
-module _ (old : List Node) (k : FoldKind) (m : ℕ) (a : DataArray) (p : Asked) (is : IsArrayIn old a) (some : 1 ≤ m) (asked : AreAsked k m a p) (slice : List Change) (own : List Axis) (es : slice ≡ p.changes) (eo : own ≡ p.axes)
+module _ (old : List Node) (k : FoldKind) (m : ℕ) (a : DataArray) (p : WindowsAsked) (is : IsArrayIn old a) (some : 1 ≤ m) (asked : AreAsked k m a p) (slice : List Change) (own : List Axis) (es : slice ≡ p.changes) (eo : own ≡ p.axes)
     (tests : Formula) (et : tests ≡ enough slice m own a) where
   first : tests ≡ enough p.changes m p.axes a
   first = et ∙ ap (λ ds. enough ds m own a) es ∙ ap (λ xs. enough p.changes m xs a) eo
@@ -337,3 +347,8 @@ module _ (old : List Node) (k : FoldKind) (m : ℕ) (a : DataArray) (p : Asked) 
       handed_room one two =
           subst (λ b. AddsForAny old new (array_in new b)) (sym same)
           (room old k m a p is some asked.0 asked.1 asked.2 asked.3 mid grown t tested new more n noded (subst (λ f. AddsAtMost old mid (formula_cells old f)) first one) (subst (λ f. AddsAtMost mid new (formula_cells mid f)) second two))
+
+      pub handed_cells : AddsAtMost old mid (formula_cells old tests) → AddsAtMost mid new (formula_cells mid cells) → AddsAtMost old new (256 * span array.axes)
+      handed_cells one two =
+          subst (λ (b : DataArray). AddsAtMost old new (256 * span b.axes)) (sym same)
+          (few_cells old k m a p is some asked.0 asked.1 asked.2 asked.3 mid grown t tested new more n noded (subst (λ f. AddsAtMost old mid (formula_cells old f)) first one) (subst (λ f. AddsAtMost mid new (formula_cells mid f)) second two))

@@ -1,12 +1,10 @@
 -- What dimensions that are grouped become.
-use Rattle.std.specs.Prelude.{◌≡◌, ◌⊎◌, ℕ, Bool, true, false, List, [], ◌∷◌, length, is_some, nat_le, All}
+use Rattle.std.specs.Prelude.{◌≡◌, ◌<◌, ◌⊎◌, ℕ, true, false, List, [], ◌∷◌, length, is_some, All}
 use Rattle.xr_types.specs.Names.{among, axis_names}
 use Rattle.xr_types.specs.declared.axis.Axis.{Axis}
 use Rattle.xr_arrays.specs.Nodes.{ArePositions}
 use Rattle.xr_defs.specs.Selecting.{axis_called}
 use Rattle.xr_defs.specs.WellFormed.{names_of, IsDimension}
-use Rattle.xr_defs.specs.declared.grouping.Grouping.{Grouping}
-use Rattle.xr_defs.specs.declared.grouping.Grouping.TheVariants.{Dates, Coordinate, Bins, Windows, Blocks}
 use Rattle.xr_defs.specs.declared.value.Coord.{Coord}
 use Rattle.xr_operations.specs.Reductions.{coords_left}
 use Rattle.xr_groups.specs.declared.change.Change.{Change}
@@ -27,10 +25,10 @@ pub record IsChange (axes : List Axis) (coords : List Coord) (others : List (Lis
   -- one that keeps its name has labels only where it had some
   pub labelled : c.axis.name ≡ c.dimension → is_some c.axis.labels ≡ true → is_some (axis_called axes c.dimension).labels ≡ true
 
--- groupings that are served: by dates, by bins, and by windows that need a cell
-abbrev pub is_served : Grouping → Bool
-is_served (Dates d field) = true
-is_served (Coordinate name) = false
-is_served (Bins d freq) = true
-is_served (Windows d w center least) = nat_le 1 least
-is_served (Blocks sizes trim how) = false
+-- a dimension that is grouped keeps its name, and each list has positions
+pub record Stays (axes : List Axis) (c : Change) : Type 0 where
+  pub axis : IsDimension c.axis
+  pub name : c.axis.name ≡ c.dimension
+  pub sized : c.axis.size ≡ length c.lists
+  pub fed : All (ArePositions (axis_called axes c.dimension).size 0) c.lists
+  pub full : All (λ ps. 0 < length ps) c.lists

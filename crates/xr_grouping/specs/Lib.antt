@@ -4,6 +4,7 @@ pub mod Widths
 pub mod Fills
 pub mod Mades
 pub mod Sizes
+pub mod Labelled
 pub mod Changes
 pub mod Windowed
 pub mod Told

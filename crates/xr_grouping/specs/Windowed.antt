@@ -28,7 +28,7 @@ use Rattle.xr_groups.specs.Groupings.{grouped_changes}
 use Rattle.xr_groups.specs.Listed.{axes_by, feeds_by}
 use Rattle.xr_groups.specs.Methods.{array_by, check_filled, check_given, of_windows, window_masked}
 use Rattle.xr_values.specs.declared.data_array.DataArray.{DataArray}
-use Rattle.xr_grouping.specs.declared.windows.Asked.{Asked}
+use Rattle.xr_grouping.specs.declared.windows.WindowsAsked.{WindowsAsked}
 use Rattle.xr_grouping.specs.Mades.{fill_asked}
 
 -- no position
@@ -75,7 +75,7 @@ array_at k cs fill node a =
     }
 
 -- windows that nothing refuses
-pub record IsAsked (k : FoldKind) (d : List ℕ) (w : ℕ) (center : Bool) (m : ℕ) (a : DataArray) (p : Asked) : Type 0 where
+pub record IsAsked (k : FoldKind) (d : List ℕ) (w : ℕ) (center : Bool) (m : ℕ) (a : DataArray) (p : WindowsAsked) : Type 0 where
   pub method : unless (of_windows k) BadArgument ≡ Ok tt
   pub changes : grouped_changes (Windows d w center m) a.axes a.coords [] ≡ Ok p.changes
   pub filled : check_filled (Fewer m) p.changes (is_some p.fill) ≡ Ok tt
@@ -83,5 +83,5 @@ pub record IsAsked (k : FoldKind) (d : List ℕ) (w : ℕ) (center : Bool) (m : 
   pub few : check_size (shape_over (axes_by p.changes a.axes)) ≡ Ok tt
   pub axes : p.axes ≡ axes_by p.changes a.axes
 
-abbrev pub AreAsked : FoldKind → ℕ → DataArray → Asked → Type 0
+abbrev pub AreAsked : FoldKind → ℕ → DataArray → WindowsAsked → Type 0
 AreAsked k m a p = (d : List ℕ) × (w : ℕ) × (center : Bool) × IsAsked k d w center m a p

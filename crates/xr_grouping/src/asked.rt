@@ -6,6 +6,8 @@ ghost use Rattle.xr_types.specs.declared.fault.Fault.TheVariants.{BadArgument};
 ghost use Rattle.xr_groups.specs.Methods as calls;
 ghost use Rattle.xr_operations.specs.Reductions as reductions;
 
+use crate::windows::of_windows;
+use xr_defs::Grouping;
 use xr_types::{CallFault, DType, Fault, FoldKind, is_unsigned};
 
 /// The kind of a fold of cells of a kind.
@@ -38,6 +40,7 @@ pub fn needs_cells(fold: FoldKind) -> bool
     }
 }
 
+/// Which methods groups and bins have.
 pub fn of_groups(fold: FoldKind) -> bool
     ensures { result ≡ calls.of_groups fold }
 {
@@ -49,7 +52,45 @@ pub fn of_groups(fold: FoldKind) -> bool
     }
 }
 
-/// Refuses a method that groups and bins don't have.
+/// Which methods blocks have.
+pub fn of_blocks(fold: FoldKind) -> bool
+    ensures { result ≡ calls.of_blocks fold }
+{
+    match fold {
+        FoldKind::Sum | FoldKind::Prod | FoldKind::Min | FoldKind::Max | FoldKind::Count => true,
+        FoldKind::Any | FoldKind::All => true,
+        FoldKind::First | FoldKind::Last => false,
+        FoldKind::ArgMax | FoldKind::ArgMin => false,
+    }
+}
+
+/// Whether what is grouped so has a method.
+pub fn has_method(grouping: &Grouping, fold: FoldKind) -> bool
+    ensures { result ≡ calls.has_method grouping.now fold }
+{
+    match grouping {
+        Grouping::Windows { .. } => of_windows(fold),
+        Grouping::Bins(_, _) | Grouping::Dates(_, _) | Grouping::Coordinate(_) => of_groups(fold),
+        Grouping::Blocks { .. } => of_blocks(fold),
+    }
+}
+
+/// Refuses a method that the grouping doesn't have.
+///
+/// # Errors
+/// `BadArgument`.
+#[tactic(auto, unfolding(xr_types::specs::Results::unless))]
+pub fn check_has_method(grouping: &Grouping, fold: FoldKind) -> Result<(), CallFault>
+    ensures { Answers (λ u. u) result (unless (calls.has_method grouping.now fold) BadArgument) }
+{
+    if has_method(grouping, fold) {
+        Ok(())
+    } else {
+        Err(CallFault::Refused(Fault::BadArgument))
+    }
+}
+
+/// Refuses a method that bins don't have.
 #[tactic(auto, unfolding(xr_types::specs::Results::unless))]
 pub(crate) fn check_method(fold: FoldKind) -> Result<(), CallFault>
     ensures { Answers (λ u. u) result (unless (calls.of_groups fold) BadArgument) }

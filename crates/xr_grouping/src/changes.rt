@@ -12,15 +12,15 @@ ghost use Rattle.xr_grouping.specs.Found.{bins_made, index_of};
 
 use crate::axes::{TimeIndex, axis_found, times_along};
 use crate::fields::field_name;
-use crate::keys::{field_keys, integers};
+use crate::keys::{field_keys, integers, present, signed};
 use cf_time::bins;
-use group_window::{bin_lists, number_groups, rolling};
+use group_window::{bin_lists, number_groups, rolling, text_groups};
 use std::alloc::{AllocError, Global};
 use xr_groups::Change;
 use xr_times::{BinList, Field, Freq};
 use xr_types::{
     Attr, Axis, Calendar, CallFault, DType, DeepCopy, Fault, Items, LabelList, Labels, Name,
-    Shared, TextBytes, copy_all,
+    Shared, TextBytes, TimeCoding, copy_all,
 };
 
 /// An axis with labels.
@@ -34,8 +34,8 @@ fn labelled(name: Name, list: LabelList, size: u64, attrs: Items<Attr>) -> Axis
     }
 }
 
-// Groups by whole numbers.
-fn number_change(
+/// Groups by whole numbers.
+pub(crate) fn number_change(
     alloc: Global,
     dimension: &TextBytes,
     name: Name,
@@ -49,6 +49,50 @@ fn number_change(
     let held = groups.keys.as_slice();
     let size = held.len() as u64;
     let list = LabelList::Numbers(kind, integers(alloc, held)?);
+    Ok(Change {
+        dimension: dimension.deep_copy(alloc)?,
+        lists: groups.lists,
+        axis: labelled(name, list, size, attrs),
+    })
+}
+
+/// Groups by times.
+pub(crate) fn time_change(
+    alloc: Global,
+    dimension: &TextBytes,
+    name: Name,
+    coding: &TimeCoding,
+    attrs: Items<Attr>,
+    times: &[i64],
+) -> Result<Change, AllocError>
+    ensures { IfOk result (λ c. c ≡ of.time_groups dimension.now name coding.now attrs (groups.each_key times.now)) }
+{
+    let keys = present(alloc, times)?;
+    let groups = number_groups(alloc, &keys)?;
+    let held = groups.keys.as_slice();
+    let size = held.len() as u64;
+    let starts = Shared::of(alloc, signed(alloc, held)?)?;
+    let list = LabelList::Times(coding.deep_copy(alloc)?, starts);
+    Ok(Change {
+        dimension: dimension.deep_copy(alloc)?,
+        lists: groups.lists,
+        axis: labelled(name, list, size, attrs),
+    })
+}
+
+/// Groups by texts.
+pub(crate) fn text_change(
+    alloc: Global,
+    dimension: &TextBytes,
+    name: Name,
+    attrs: Items<Attr>,
+    texts: &[TextBytes],
+) -> Result<Change, AllocError>
+    ensures { IfOk result (λ c. c ≡ of.text_groups dimension.now name attrs (groups.each_key texts.now)) }
+{
+    let groups = text_groups(alloc, texts)?;
+    let size = groups.keys.as_slice().len() as u64;
+    let list = LabelList::Texts(Shared::of(alloc, groups.keys)?);
     Ok(Change {
         dimension: dimension.deep_copy(alloc)?,
         lists: groups.lists,
@@ -129,7 +173,8 @@ fn bins_made(
     })
 }
 
-fn copy_attrs(alloc: Global, attrs: &[Attr]) -> Result<Items<Attr>, AllocError>
+/// A copy of attributes.
+pub(crate) fn copy_attrs(alloc: Global, attrs: &[Attr]) -> Result<Items<Attr>, AllocError>
     ensures { IfOk result (λ xs. xs ≡ attrs.now) }
 {
     copy_all(alloc, attrs)

@@ -1,22 +1,24 @@
 //! How a grouping groups the dimensions of an array or a dataset, once a new name is free.
-ghost use Rattle.std.specs.Prelude.{◌≡◌, ℕ, List, IfOk, true};
+ghost use Rattle.std.specs.Prelude.{◌≡◌, ◌≤◌, ℕ, List, IfOk, true};
 ghost use Rattle.std.specs.List.{AllByRecursion};
 ghost use Rattle.xr_types.specs.Names.{among, axis_names};
 ghost use Rattle.xr_types.specs.Results.{Answers};
 ghost use Rattle.xr_defs.specs.WellFormed.{names_of, IsDimension};
 ghost use Rattle.xr_groups.specs.Groupings as of;
-ghost use Rattle.xr_defs.specs.declared.grouping.Grouping.TheVariants.{Bins, Dates, Windows};
+ghost use Rattle.xr_defs.specs.declared.grouping.Grouping.TheVariants.{Bins, Blocks, Coordinate, Dates, Windows};
 ghost use Rattle.xr_parts.specs.Frames.{IsFrame};
-ghost use Rattle.xr_grouping.specs.Changes.{is_served, IsChange};
+ghost use Rattle.xr_grouping.specs.Changes.{IsChange};
 ghost use Rattle.xr_defs.specs.declared.value.Coord.{Coord};
 
+use crate::blocks::block_changes;
 use crate::changes::{bin_change, date_change, one, window_change};
 use crate::fields::field_name;
+use crate::keyed::coordinate_change;
 use std::alloc::Global;
-use xr_defs::{Coord, Grouping};
+use xr_defs::{BlockSize, Coord, Grouping};
 use xr_groups::Change;
 use xr_times::{Field, Freq};
-use xr_types::{Axis, CallFault, Fault, Items, TextBytes};
+use xr_types::{Axis, CallFault, Fault, FoldKind, Items, TextBytes};
 
 fn is_among(names: &[TextBytes], name: &str) -> bool
     ensures { result ≡ among names.now name.now }
@@ -88,6 +90,20 @@ pub(crate) fn dated_changes(
     Ok(one(alloc, change)?)
 }
 
+/// How the labels of an index, or the values of a coordinate, group a dimension.
+#[tactic(auto, unfolding(xr_groups::specs::Groupings::grouped_changes, xr_groups::specs::Groupings::changes_of, xr_groups::specs::Groupings::check_name))]
+fn keyed_changes(
+    alloc: Global,
+    name: &TextBytes,
+    axes: &[Axis],
+    coords: &[Coord],
+) -> Result<Items<Change>, CallFault>
+    ensures { (others : List (List ℕ)) → Answers (λ cs. cs) result (of.grouped_changes (Coordinate name.now) axes.now coords.now others) }
+{
+    let change = coordinate_change(alloc, name, axes, coords)?;
+    Ok(one(alloc, change)?)
+}
+
 /// How bins of the times of a dimension group it.
 #[tactic(auto, unfolding(xr_groups::specs::Groupings::grouped_changes, xr_groups::specs::Groupings::changes_of, xr_groups::specs::Groupings::check_name))]
 pub(crate) fn binned_changes(
@@ -103,30 +119,40 @@ pub(crate) fn binned_changes(
     Ok(one(alloc, change)?)
 }
 
-/// How windows along a dimension group it.
-#[tactic(auto, unfolding(xr_groups::specs::Groupings::grouped_changes, xr_groups::specs::Groupings::changes_of, xr_groups::specs::Groupings::check_name))]
+/// How windows along a dimension, which need so many present cells, group it.
+#[tactic(auto, unfolding(xr_groups::specs::Groupings::grouped_changes, xr_groups::specs::Groupings::changes_of, xr_groups::specs::Groupings::check_name, xr_types::specs::Results::unless))]
 pub(crate) fn windowed_changes(
     alloc: Global,
     dimension: &TextBytes,
     width: u64,
     center: bool,
+    least: u64,
     axes: &[Axis],
 ) -> Result<Items<Change>, CallFault>
-    ensures { (least : ℕ) (coords : List Coord) (others : List (List ℕ)) → Answers (λ cs. cs) result (of.grouped_changes (Windows dimension.now width center least) axes.now coords others) }
+    ensures changes { (coords : List Coord) (others : List (List ℕ)) → Answers (λ cs. cs) result (of.grouped_changes (Windows dimension.now width center least) axes.now coords others) }
+    ensures some { IfOk result (λ cs. 1 ≤ least) }
 {
+    if least < 1 {
+        return Err(CallFault::Refused(Fault::BadArgument));
+    }
     let change = window_change(alloc, dimension, width, center, axes)?;
     Ok(one(alloc, change)?)
 }
 
-/// Whether a grouping is served: those by dates, by bins, and by windows that need a cell are.
-pub fn is_served(grouping: &Grouping) -> bool
-    ensures { result ≡ is_served grouping.now }
+// How blocks along dimensions group them.
+#[tactic(auto, unfolding(xr_groups::specs::Groupings::grouped_changes, xr_groups::specs::Groupings::changes_of, xr_groups::specs::Groupings::check_name))]
+fn blocked_changes(
+    alloc: Global,
+    sizes: &[BlockSize],
+    trim: bool,
+    how: Option<FoldKind>,
+    axes: &[Axis],
+) -> Result<Items<Change>, CallFault>
+    requires { AllByRecursion IsDimension axes.now }
+    ensures { (coords : List Coord) (others : List (List ℕ)) → Answers (λ cs. cs) result (of.grouped_changes (Blocks sizes.now trim how) axes.now coords others) }
 {
-    match grouping {
-        Grouping::Dates(_, _) | Grouping::Bins(_, _) => true,
-        Grouping::Windows { least, .. } => *least >= 1,
-        Grouping::Coordinate(_) | Grouping::Blocks { .. } => false,
-    }
+    let changes = block_changes(alloc, sizes, trim, how, axes)?;
+    Ok(changes)
 }
 
 // How a grouping groups dimensions.
@@ -137,8 +163,7 @@ fn changes_by(
     coords: &[Coord],
     others: &[TextBytes],
 ) -> Result<Items<Change>, CallFault>
-    requires served { is_served grouping.now ≡ true }
-    requires dims { AllByRecursion IsDimension axes.now }
+    requires { AllByRecursion IsDimension axes.now }
     ensures { Answers (λ cs. cs) result (of.grouped_changes grouping.now axes.now coords.now others.now) }
 {
     match grouping {
@@ -150,17 +175,23 @@ fn changes_by(
             dimension,
             width,
             center,
-            ..
-        } => windowed_changes(alloc, dimension, *width, *center, axes),
-        Grouping::Coordinate(_) | Grouping::Blocks { .. } => unreachable!(),
+            least,
+        } => windowed_changes(alloc, dimension, *width, *center, *least, axes),
+        Grouping::Coordinate(name) => keyed_changes(alloc, name, axes, coords),
+        Grouping::Blocks {
+            sizes,
+            trim,
+            labels,
+        } => blocked_changes(alloc, sizes.as_slice(), *trim, *labels, axes),
     }
 }
 
 /// How a grouping groups the positions of dimensions, beside data variables of these names.
 ///
 /// # Errors
-/// `NoDimension`, `NotTime`, and what refuses the grouping: `BadArgument`, `NotMonotonic`, `TooLarge`, and `DuplicateName` where
-/// another dimension, a coordinate or a data variable has the name of the groups.
+/// `NoDimension`, `NoVariable`, `NotTime`, and what refuses the grouping: `BadArgument`, `WrongKind`, `NotMonotonic`, `TooLarge`,
+/// `NotMultiple`, `WouldPromote`, `LabelKind`, and `DuplicateName` where another dimension, a coordinate or a data variable has the
+/// name of the groups.
 pub fn grouped_changes(
     alloc: Global,
     grouping: &Grouping,
@@ -168,8 +199,7 @@ pub fn grouped_changes(
     coords: &[Coord],
     others: &[TextBytes],
 ) -> Result<Items<Change>, CallFault>
-    requires served { is_served grouping.now ≡ true }
-    requires frame { IsFrame axes.now coords.now }
+    requires { IsFrame axes.now coords.now }
     ensures answers { Answers (λ cs. cs) result (of.grouped_changes grouping.now axes.now coords.now others.now) }
     ensures changes { IfOk result (AllByRecursion (IsChange axes.now coords.now others.now)) }
 {

@@ -19,6 +19,21 @@ pub(crate) fn present(alloc: Global, numbers: &[i64]) -> Result<Vec<Option<i128>
     Ok(keys)
 }
 
+/// Labels as keys.
+#[tactic(auto, using(plan_core::proofs::Steps::first_at))]
+pub(crate) fn integer_keys(
+    alloc: Global,
+    numbers: &Integers,
+) -> Result<Vec<Option<i128>>, AllocError>
+    ensures { IfOk result (λ v. v.items ≡ of.each_key numbers.now) }
+{
+    let mut keys = Vec::with_capacity(alloc, numbers.len())?;
+    for at in 0..numbers.len() {
+        keys.push(Some(numbers.get(at)))?;
+    }
+    Ok(keys)
+}
+
 /// A field of each time as its key.
 #[tactic(auto, using(crate::proofs::KeysHeld::field_keys_are))]
 pub(crate) fn field_keys(
@@ -45,8 +60,8 @@ fn are_signed(numbers: &[i128]) -> bool {
     true
 }
 
-// Numbers in 64 bits with a sign. None of them is past that.
-fn signed(alloc: Global, numbers: &[i128]) -> Result<Items<i64>, AllocError>
+/// Numbers in 64 bits with a sign. None of them is past that.
+pub(crate) fn signed(alloc: Global, numbers: &[i128]) -> Result<Items<i64>, AllocError>
     ensures { IfOk result (λ ns. ns ≡ numbers.now) }
 {
     let mut out = Items::new(alloc);

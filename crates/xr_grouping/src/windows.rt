@@ -1,7 +1,8 @@
 //! Methods of arrays in windows.
-ghost use Rattle.std.specs.Prelude.{◌≡◌, ◌≤◌, ◌++◌, List, length, true, IfOk, OnOk};
+ghost use Rattle.std.specs.Prelude.{◌≡◌, ◌≤◌, ◌*◌, ◌++◌, List, length, true, IfOk, OnOk};
 ghost use Rattle.xr_arrays.specs.declared.node.Node.{Node};
-ghost use Rattle.xr_defs.specs.Room.{AddsForAny};
+ghost use Rattle.xr_arrays.specs.Added.{AddsAtMost};
+ghost use Rattle.xr_defs.specs.Room.{span, AddsForAny};
 ghost use Rattle.xr_defs.specs.declared.grouping.Grouping.TheVariants.{Windows};
 ghost use Rattle.plan_core.specs.Plans.{Grows};
 ghost use Rattle.xr_formulas.specs.Spread as spreads;
@@ -196,9 +197,9 @@ fn is_masked(masked: bool, fill: Option<Option<i128>>) -> bool
     }
 }
 
-/// Windows that nothing refuses: how the dimension is grouped, the fill that is given, and the axes.
+/// A method of windows that nothing refuses: how the dimension is grouped, the fill that is given, and the axes, which stay.
 #[derive(Drop)]
-pub(crate) struct Asked {
+pub struct WindowsAsked {
     pub changes: Items<Change>,
     pub fill: Option<Option<i128>>,
     pub axes: Items<Axis>,
@@ -215,20 +216,21 @@ fn windows_asked(
     least: u64,
     on: &DataArray,
     args: &Args,
-) -> Result<Asked, CallFault>
+) -> Result<WindowsAsked, CallFault>
     ensures answers { (nodes others : List Node) → Answers (λ p. methods.array_by fold (Fewer least) true p.changes p.fill (array_in nodes on.now)) result (of.windowed_of fold dimension.now width center least (array_in nodes on.now) (given others args.now)) }
     ensures asked { IfOk result (of.IsAsked fold dimension.now width center least on.now) }
+    ensures some { IfOk result (λ p. 1 ≤ least) }
 {
     check_method(fold)?;
     let kind = folded_kind(fold, on.kind);
     let fill = fill_given(alloc, kind, args)?;
     let own = on.axes.as_slice();
-    let changes = windowed_changes(alloc, dimension, width, center, own)?;
+    let changes = windowed_changes(alloc, dimension, width, center, least, own)?;
     check_filled(least, fill.is_some())?;
     check_given(kind, fill)?;
     let axes = axes_by(alloc, changes.as_slice(), own)?;
     check_axes(axes.as_slice())?;
-    Ok(Asked {
+    Ok(WindowsAsked {
         changes,
         fill,
         axes,
@@ -260,14 +262,15 @@ fn array_at(
     })
 }
 
-// The array of the windows.
-fn windows_of(
+/// The array of a method of windows that nothing refuses: each window gives the fold of its present cells where they are `least` or
+/// more, and else the fill. The array keeps its name, its coordinates, and its attributes but for those that name fill numbers.
+pub fn window_folds(
     alloc: Global,
     plan: &mut Plan,
     fold: FoldKind,
     least: u64,
     on: &DataArray,
-    asked: Asked,
+    asked: WindowsAsked,
 ) -> Result<DataArray, NoMemory>
     requires some { 1 ≤ least }
     requires is { IsArrayIn plan.old on.now }
@@ -275,6 +278,7 @@ fn windows_of(
     ensures array { IfOk result (λ b. (methods.array_by fold (Fewer least) true asked.changes asked.fill (array_in plan.old on.now) ≡ array_in plan.new b) × IsArrayIn plan.new b) }
     ensures grows { Grows plan.old plan.new }
     ensures room { IfOk result (λ b. AddsForAny plan.old plan.new (array_in plan.new b)) }
+    ensures cells { IfOk result (λ b. AddsAtMost plan.old plan.new (256 * span b.axes)) }
 {
     let changes = asked.changes.as_slice();
     let axes = asked.axes.as_slice();
@@ -308,13 +312,12 @@ pub(crate) fn windowed_array(
     on: &DataArray,
     args: &Args,
 ) -> Result<DataArray, CallFault>
-    requires some { 1 ≤ least }
-    requires is { IsArrayIn plan.old on.now }
+    requires { IsArrayIn plan.old on.now }
     ensures answers { (nodes : List Node) → AnswersArray plan.new result (methods.grouped_array fold (Windows dimension.now width center least) (array_in plan.old on.now) (given nodes args.now)) }
     ensures grows { Grows plan.old plan.new }
     ensures room { IfOk result (λ b. AddsForAny plan.old plan.new (array_in plan.new b)) }
 {
     let asked = windows_asked(alloc, fold, dimension, width, center, least, on, args)?;
-    let array = windows_of(alloc, plan, fold, least, on, asked)?;
+    let array = window_folds(alloc, plan, fold, least, on, asked)?;
     Ok(array)
 }

@@ -1,6 +1,6 @@
 -- How a grouping groups the positions of dimensions, or the first fault: the dimension is there, its labels serve, and its size fits
 -- (xarray, `groupby`, `resample`, `rolling` and `coarsen` of `DataArray` and `Dataset`).
-use Rattle.std.specs.Prelude.{nat_lt, ◌==◌, ◌%◌, ◌||◌, ◌&&◌, ℕ, ℤ, Bool, true, false, not, List, [], ◌∷◌, length, map, find, get_or, Option, Some, None, is_some, Result, Ok, Err, codes}
+use Rattle.std.specs.Prelude.{nat_lt, nat_le, ◌==◌, ◌%◌, ◌||◌, ◌&&◌, ℕ, ℤ, Bool, true, false, not, List, [], ◌∷◌, length, map, find, get_or, Option, Some, None, is_some, Result, Ok, Err, codes}
 use Rattle.std.specs.Str.{bytes_eq}
 use Rattle.std.specs.List.{list_all}
 use Rattle.std.specs.Ordering.{int_cmp, nat_cmp}
@@ -238,7 +238,8 @@ unfoldable pub changes_of : Grouping → List Axis → List Coord → Result (Li
 changes_of (Dates d field) axes coords = one_change (date_change d field axes)
 changes_of (Coordinate name) axes coords = one_change (coordinate_change name axes coords)
 changes_of (Bins d freq) axes coords = one_change (bin_change d freq axes)
-changes_of (Windows d w center least) axes coords = one_change (window_change d w center axes)
+-- windows that need no cell would fold none
+changes_of (Windows d w center least) axes coords = unless (nat_le 1 least) BadArgument >>= λ u. one_change (window_change d w center axes)
 changes_of (Blocks sizes trim how) axes coords = block_changes sizes trim how axes
 
 -- ---- the name of the new axis: no other dimension, coordinate or data variable has it

@@ -13,7 +13,7 @@ use Rattle.xr_runs.specs.Calls.{set_written}
 use Rattle.xr_runs.specs.Evaluation.{Names, value_of, given_of}
 use Rattle.xr_runs.specs.Runs.{State, step, with_file, written_by}
 use Rattle.xr_run.specs.declared.effect.Effect.{Effect}
-use Rattle.xr_run.specs.declared.effect.Effect.TheVariants.{Bind, Print, Write}
+use Rattle.xr_run.specs.declared.effect.Effect.TheVariants.{Bind, BindEach, Print, Write}
 use Rattle.xr_run.specs.declared.stopped.Stopped.{Stopped}
 use Rattle.xr_run.specs.declared.stopped.Stopped.TheVariants.{Refused, Storage, NoMemory}
 use Rattle.xr_run.specs.Answers.{Gives, GivesOrFails}
@@ -91,6 +91,7 @@ unperformed nodes l names after files files_after told taken NoMemory same_names
 -- a file that only to_netcdf puts
 pub kept_by : (l : Line) (e : Effect) (names : Names) (files mid after : Files) → mid ≡ files → EffectFits names files l (Ok e) → PerformKeeps e mid after → StepKeeps l names files after
 kept_by l (Bind name value) names files mid after same fits keeps = λ n none. ap (λ (fs : Files). fs n) (keeps ∙ same)
+kept_by l (BindEach targets values) names files mid after same fits keeps = λ n none. ap (λ (fs : Files). fs n) (keeps ∙ same)
 kept_by l (Print text) names files mid after same fits keeps = λ n none. ap (λ (fs : Files). fs n) (keeps ∙ same)
 kept_by (tree.Written e) (Write name bytes) names files mid after same fits keeps = λ n none.
     keeps n (λ is. none (bytes, fits ∙ ap (λ (m : List ℕ). Ok (m, bytes)) (sym is))) ∙ ap (λ (fs : Files). fs n) same

@@ -12,3 +12,4 @@ mod Stepped
 mod Timed
 mod ValuesKept
 mod Placing
+mod Puts

@@ -1,5 +1,5 @@
 -- What statements do, done.
-use Rattle.std.proofs.Common.{◌≡◌, ◌≢◌, ℕ, Bool, true, false, cond, List, [], Option, Some, Ok, refl, sym, ap, ap₂, subst, ◌∙◌}
+use Rattle.std.proofs.Common.{◌≡◌, ◌≢◌, ℕ, Bool, true, false, cond, List, [], Option, Some, Ok, map, refl, sym, ap, ap₂, subst, ◌∙◌}
 use Rattle.std.specs.Str.{bytes_eq}
 use Rattle.std.proofs.Math.Path.{fun_ext}
 use Rattle.std.proofs.lemmas.Bool.{false≢true}
@@ -8,12 +8,12 @@ use Rattle.std.proofs.lemmas.Slice.Eq.{bytes_eq-Decides}
 use Rattle.xr_types.specs.declared.text.TextBytes.{TextBytes}
 use Rattle.xr_defs.specs.Stores.{Files}
 use Rattle.xr_runs.specs.Evaluation.{Names}
-use Rattle.xr_runs.specs.Runs.{put}
+use Rattle.xr_runs.specs.Runs.{put, put_each}
 use Rattle.xr_arrays.specs.declared.node.Node.{Node}
 use Rattle.xr_values.specs.declared.value.Value.{Value}
 use Rattle.xr_values.specs.Meaning.{meaning}
 use Rattle.xr_run.specs.declared.effect.Effect.{Effect}
-use Rattle.xr_run.specs.declared.effect.Effect.TheVariants.{Bind, Write}
+use Rattle.xr_run.specs.declared.effect.Effect.TheVariants.{Bind, BindEach, Write}
 use Rattle.xr_outside.specs.Outside.{OthersSame}
 use Rattle.xr_run.specs.Steps.{at, PerformIs}
 
@@ -31,6 +31,12 @@ put_is old new name x here others =
 pub bound : (nodes : List Node) (e : Effect) (name : TextBytes) (value : Value) (names after : Names) (files : Files) (told : Bool) (taken : List ℕ) → e ≡ Bind name value → after ≡ put names name (meaning nodes value)
     → PerformIs nodes e names after files files told taken taken (Ok tt)
 bound nodes e name value names after files told taken is same =
+    subst (λ (x : Effect). PerformIs nodes x names after files files told taken taken (Ok tt)) (sym is)
+    ([], λ t. sym (append-nil taken), λ text. ap₂ (λ (ns : Names) (w : List ℕ). at ns files w) (sym same) (sym (append-nil text)))
+
+pub bound_each : (nodes : List Node) (e : Effect) (targets : List TextBytes) (values : List Value) (names after : Names) (files : Files) (told : Bool) (taken : List ℕ) → e ≡ BindEach targets values
+    → after ≡ put_each names targets (map (meaning nodes) values) → PerformIs nodes e names after files files told taken taken (Ok tt)
+bound_each nodes e targets values names after files told taken is same =
     subst (λ (x : Effect). PerformIs nodes x names after files files told taken taken (Ok tt)) (sym is)
     ([], λ t. sym (append-nil taken), λ text. ap₂ (λ (ns : Names) (w : List ℕ). at ns files w) (sym same) (sym (append-nil text)))
 

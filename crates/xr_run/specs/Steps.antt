@@ -1,14 +1,14 @@
 -- What a statement does, and what it leaves.
-use Rattle.std.specs.Prelude.{◌≡◌, ◌≢◌, ◌≤◌, ◌⊎◌, ℕ, Bool, List, ◌++◌, IsTrue, Result, Ok, Err}
+use Rattle.std.specs.Prelude.{◌≡◌, ◌≢◌, ◌≤◌, ◌⊎◌, ℕ, Bool, List, ◌++◌, IsTrue, Result, Ok, Err, map, All}
 use Rattle.xr_defs.specs.Stores.{Files}
 use Rattle.xr_syntax.specs.Syntax as tree
 use Rattle.xr_syntax.specs.Syntax.{Line}
 use Rattle.xr_runs.specs.Evaluation.{Names}
-use Rattle.xr_runs.specs.Runs.{State, step, with_name, with_text, with_file, written_by}
+use Rattle.xr_runs.specs.Runs.{State, step, with_name, with_names, with_text, with_file, written_by}
 use Rattle.xr_arrays.specs.declared.node.Node.{Node}
 use Rattle.xr_values.specs.Meaning.{meaning, IsValueIn}
 use Rattle.xr_run.specs.declared.effect.Effect.{Effect}
-use Rattle.xr_run.specs.declared.effect.Effect.TheVariants.{Bind, Print, Write}
+use Rattle.xr_run.specs.declared.effect.Effect.TheVariants.{Bind, BindEach, Print, Write}
 use Rattle.xr_run.specs.declared.stopped.Stopped.{Stopped}
 use Rattle.xr_run.specs.declared.stopped.Stopped.TheVariants.{Refused, Storage, NoMemory}
 use Rattle.xr_outside.specs.Outside.{Rose}
@@ -19,12 +19,14 @@ at names files text = record { names = names; files = files; text = text }
 -- what a statement does to a state once nothing refuses it
 abbrev pub done : List Node → Effect → State → State
 done nodes (Bind name value) s = with_name s name (meaning nodes value)
+done nodes (BindEach names values) s = with_names s names (map (meaning nodes) values)
 done nodes (Print text) s = with_text s text.items
 done nodes (Write name bytes) s = with_file s name bytes
 
 -- the arrays and datasets that it binds are of the plan
 abbrev pub IsEffectIn : List Node → Effect → Type 0
 IsEffectIn nodes (Bind name value) = IsValueIn nodes value
+IsEffectIn nodes (BindEach names values) = All (IsValueIn nodes) values
 IsEffectIn nodes (Print text) = Unit {0}
 IsEffectIn nodes (Write name bytes) = Unit {0}
 
@@ -38,6 +40,7 @@ EffectIs nodes l names files (Err NoMemory) = Unit {0}
 -- only to_netcdf puts a file, and it is the one that the statement names
 abbrev pub IsOf : Names → Files → Line → Effect → Type 0
 IsOf names files l (Bind name value) = Unit {0}
+IsOf names files l (BindEach targets values) = Unit {0}
 IsOf names files l (Print text) = Unit {0}
 IsOf names files (tree.Written e) (Write name bytes) = written_by names files e ≡ Ok (name, bytes)
 IsOf names files l (Write name bytes) = ⊥
@@ -55,6 +58,7 @@ PerformIs nodes e names after files files_after told taken now (Err stopped) = U
 -- the files but the one that it puts hold what they held
 abbrev pub PerformKeeps : Effect → Files → Files → Type 0
 PerformKeeps (Bind name value) files after = after ≡ files
+PerformKeeps (BindEach names values) files after = after ≡ files
 PerformKeeps (Print text) files after = after ≡ files
 PerformKeeps (Write name bytes) files after = (n : List ℕ) → n ≢ name → after n ≡ files n
 

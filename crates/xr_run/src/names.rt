@@ -1,7 +1,7 @@
 //! The values of names.
-ghost use Rattle.std.specs.Prelude.{◌≡◌, List, None, option_map, IfSome, OnOk, OnErr};
+ghost use Rattle.std.specs.Prelude.{◌≡◌, List, None, map, All, option_map, IfSome, OnOk, OnErr};
 ghost use Rattle.xr_arrays.specs.declared.node.Node.{Node};
-ghost use Rattle.xr_runs.specs.Runs.{put};
+ghost use Rattle.xr_runs.specs.Runs.{put, put_each};
 ghost use Rattle.xr_values.specs.Meaning.{meaning, IsValueIn};
 ghost use Rattle.xr_run.specs.Named.{names_of, AreNamesIn};
 
@@ -51,6 +51,29 @@ impl NameMap {
         match self.values.insert(key, value) {
             Ok(_) => Ok(()),
             Err(_) => Err(AllocError),
+        }
+    }
+
+    /// Lets each name stand for the value at its place, one after another.
+    #[tactic(auto, using(crate::proofs::Puts::none_put, crate::proofs::Puts::no_value_put))]
+    pub(crate) fn set_each(
+        &mut self,
+        alloc: Global,
+        names: &[TextBytes],
+        values: &[Value],
+    ) -> Result<(), AllocError>
+        ensures ok { (nodes : List Node) → OnOk result (names_of nodes self.new ≡ put_each (names_of nodes self.old) names.now (map (meaning nodes) values.now)) }
+        ensures inside { (nodes : List Node) → AreNamesIn nodes self.old → All (IsValueIn nodes) values.now → AreNamesIn nodes self.new }
+    {
+        match names {
+            [] => Ok(()),
+            [name, names @ ..] => match values {
+                [] => Ok(()),
+                [value, values @ ..] => {
+                    self.set(alloc, name, value.copy(alloc)?)?;
+                    self.set_each(alloc, names, values)
+                }
+            },
         }
     }
 }

@@ -1,10 +1,12 @@
 //! Carries out one statement: what it does is found first, with each check, and then done.
-ghost use Rattle.std.specs.Prelude.{◌≡◌, List, IsTrue, IfOk, codes};
+ghost use Rattle.std.specs.Prelude.{◌≡◌, List, map, All, IsTrue, IfOk, codes};
 ghost use denote.Param.Send.{IsSync};
 ghost use Rattle.xr_arrays.specs.declared.node.Node.{Node};
 ghost use Rattle.xr_syntax.specs.Syntax.{line_of, tree_of, all_arguments, Assigned, Aligned, Placed, Printed as a_print, Written as a_write, Call as a_call, Method as a_method};
 ghost use Rattle.plan_core.specs.Plans.{Grows};
-ghost use Rattle.xr_run.specs.Answers.{Tallied};
+ghost use Rattle.xr_relations.specs.Aligning.{align_called};
+ghost use Rattle.xr_values.specs.Meaning.{meaning, given, IsValueIn, AreArgsIn};
+ghost use Rattle.xr_run.specs.Answers.{Gives, Tallied};
 ghost use Rattle.xr_run.specs.Named.{names_of, AreNamesIn};
 ghost use Rattle.xr_run.specs.Steps.{EffectIs, EffectFits, IsEffectIn, PerformIs, PerformKeeps, StepIs, StepKeeps, PerformTallied, BothTallied};
 
@@ -14,13 +16,14 @@ use crate::names::NameMap;
 use crate::printing::printed;
 use crate::stopped::Stopped;
 use crate::writing::written;
+use plan_core::Plan;
 use plan_whole::Whole;
-use std::alloc::Global;
+use std::alloc::{AllocError, Global};
 use std::thread::Threads;
 use xr_outside::{Sink, Store, StoreFault, write_all};
 use xr_syntax::{Argument, Expr, Statement};
-use xr_types::{DeepCopy, Fault, TextBytes};
-use xr_values::Cx;
+use xr_types::{DeepCopy, Items, TextBytes, copy_all};
+use xr_values::{Args, Cx, Value};
 
 // `name = expr`
 #[tactic(auto, unfolding(xr_runs::specs::Runs::step))]
@@ -49,8 +52,26 @@ fn assign<R: Threads + Sync, S: Store>(
     }
 }
 
-// `a, b = align(..)`. Nothing aligns so far.
-#[tactic(auto, unfolding(xr_runs::specs::Runs::step))]
+// The values over their joined axes.
+fn aligned_values(
+    alloc: Global,
+    plan: &mut Plan,
+    count: usize,
+    args: &Args,
+) -> Result<Items<Value>, Stopped>
+    requires { AreArgsIn plan.old args.now }
+    ensures value { Gives (λ vs. map (meaning plan.new) vs) result (align_called count (given plan.old args.now)) }
+    ensures inside { IfOk result (All (IsValueIn plan.new)) }
+    ensures grows { Grows plan.old plan.new }
+{
+    match xr_aligning::align(alloc, plan, count, args) {
+        Ok(values) => Ok(values),
+        Err(fault) => Err(Stopped::from(fault)),
+    }
+}
+
+// `a, b = align(..)`
+#[tactic(auto, unfolding(xr_runs::specs::Runs::step, xr_runs::specs::Runs::values_aligned))]
 fn align<R: Threads + Sync, S: Store>(
     rt: &R,
     alloc: Global,
@@ -70,12 +91,11 @@ fn align<R: Threads + Sync, S: Store>(
     ensures tells { S.tells store.new ≡ S.tells store.old }
     ensures tallied { Tallied (S.faults store.old) (S.faults store.new) result }
 {
-    let _ = targets;
     match eval_arguments(rt, alloc, arguments, names, store, cx) {
-        Ok(args) => {
-            drop(args);
-            Err(Stopped::Refused(Fault::UnknownName(TextBytes::from_str(alloc, "align")?)))
-        }
+        Ok(args) => match aligned_values(alloc, &mut cx.plan, targets.len(), &args) {
+            Ok(values) => Ok(Effect::BindEach(copy_all(alloc, targets)?, values)),
+            Err(stopped) => Err(stopped),
+        },
         Err(stopped) => Err(stopped),
     }
 }
@@ -235,6 +255,12 @@ fn perform<S: Store, O: Sink>(
             Ok(()) => Ok(()),
             Err(_) => Err(Stopped::NoMemory),
         },
+        Effect::BindEach(targets, values) => {
+            match names.set_each(alloc, targets.as_slice(), values.as_slice()) {
+                Ok(()) => Ok(()),
+                Err(_) => Err(Stopped::NoMemory),
+            }
+        }
         Effect::Print(text) => match write_all(out, &text) {
             Ok(()) => Ok(()),
             Err(_) => Err(Stopped::Storage),

@@ -1,6 +1,6 @@
 -- The functions and methods of scripts. Every call is checked in one order: it exists, its receiver is of a kind that has it, its arguments fit its signature, each argument has its
 -- kind and then its value, the dimensions that it names exist, and then come its own checks.
-use Rattle.std.specs.Prelude.{◌||◌, ℕ, ℤ, Bool, true, false, not, nat_le, List, [], ◌∷◌, ◌++◌, Option, Some, None, Result, Ok, Err, if◌then◌else◌, codes}
+use Rattle.std.specs.Prelude.{◌||◌, ℕ, ℤ, Bool, true, false, List, [], ◌∷◌, ◌++◌, Option, Some, None, Result, Ok, Err, if◌then◌else◌, codes}
 use Rattle.std.specs.Str.{bytes_eq}
 use Rattle.std.specs.Fmt.{signed_decimal}
 use Rattle.xr_types.specs.declared.fault.Fault.{Fault}
@@ -25,15 +25,8 @@ use Rattle.xr_operations.specs.Selection.{sel_array, sel_set}
 use Rattle.xr_relations.specs.Reindexing.{reindex_array, reindex_set}
 use Rattle.xr_types.specs.declared.operation.FoldKind.{FoldKind}
 use Rattle.xr_types.specs.declared.operation.FoldKind.TheVariants.{First, Last}
-use Rattle.xr_operations.specs.Reductions.{without_chars}
-use Rattle.xr_defs.specs.Building.{is_chars}
-use Rattle.xr_defs.specs.WellFormed.{variable_names}
-use Rattle.xr_defs.specs.declared.grouping.Grouping.{Grouping}
-use Rattle.xr_defs.specs.declared.grouping.Grouping.TheVariants.{Dates, Coordinate, Bins, Windows, Blocks}
 use Rattle.xr_groups.specs.declared.maker.Maker.{Maker}
-use Rattle.xr_groups.specs.declared.maker.Maker.TheVariants.{GroupBy, Resample, Rolling, Coarsen}
-use Rattle.xr_groups.specs.Calls.{array_grouping, groupby_given, grouping_given, maker_named}
-use Rattle.xr_groups.specs.Groupings.{grouped_changes}
+use Rattle.xr_groups.specs.Calls.{array_grouping, maker_named, set_grouping}
 use Rattle.xr_groups.specs.Methods.{grouped_array, grouped_set}
 use Rattle.xr_relations.specs.Times.{times_given}
 use Rattle.xr_defs.specs.Meanings.{Value, Truth, Number, Text, Array, Set, GroupedArray, GroupedSet, Given}
@@ -113,49 +106,25 @@ promoting = codes "mean" ∷ codes "std" ∷ codes "var" ∷ codes "median" ∷ 
 unfoldable pub other_method : Value → List ℕ → Result Value Fault
 other_method v name = if among promoting name then Err (if is_labelled_data v || is_grouped v then WouldPromote else WrongKind) else Err (UnknownName name)
 
--- Positions in groups by a field of dates, in bins of times, and in windows. Groups by a coordinate, blocks, and windows of datasets
--- aren't there so far.
-abbrev pub array_served : Grouping → Bool
-array_served (Dates d field) = true
-array_served (Coordinate name) = false
-array_served (Bins d freq) = true
-array_served (Windows d w center least) = nat_le 1 least
-array_served (Blocks sizes trim how) = false
+-- positions in groups, bins, windows or blocks
+unfoldable pub array_grouped : Maker → DataArray → Given → Result Value Fault
+array_grouped m a g = array_grouping m a g >>= λ by. Ok (GroupedArray a by)
 
-unfoldable pub by_field : List ℕ → DataArray → Grouping → Result Value Fault
-by_field name a (Dates d field) = grouped_changes (Dates d field) a.axes a.coords [] >>= λ cs. Ok (GroupedArray a (Dates d field))
-by_field name a by = Err (UnknownName name)
+unfoldable pub set_grouped : Maker → Dataset → Given → Result Value Fault
+set_grouped m s g = set_grouping m s g >>= λ by. Ok (GroupedSet s by)
 
-unfoldable pub array_grouped : List ℕ → Maker → DataArray → Given → Result Value Fault
-array_grouped name GroupBy a g = unless (not (is_chars a.kind)) WrongKind >>= λ u. groupby_given g >>= λ by. by_field name a by
-array_grouped name Resample a g = array_grouping Resample a g >>= λ by. Ok (GroupedArray a by)
-array_grouped name Rolling a g = array_grouping Rolling a g >>= λ by. Ok (GroupedArray a by)
-array_grouped name Coarsen a g = Err (UnknownName name)
-
-abbrev pub set_served : Grouping → Bool
-set_served (Dates d field) = true
-set_served (Coordinate name) = false
-set_served (Bins d freq) = true
-set_served (Windows d w center least) = false
-set_served (Blocks sizes trim how) = false
-
-unfoldable pub set_grouped : List ℕ → Maker → Dataset → Given → Result Value Fault
-set_grouped name m s g =
-    (let t = without_chars s in
-    grouping_given m g >>= λ by. if set_served by then (grouped_changes by t.axes t.coords (variable_names t.vars) >>= λ cs. Ok (GroupedSet s by)) else Err (UnknownName name))
-
-unfoldable pub grouped_by : List ℕ → Maker → Value → Given → Result Value Fault
-grouped_by name m (Array a) g = array_grouped name m a g
-grouped_by name m (Set s) g = set_grouped name m s g
-grouped_by name m v g = wrong
+unfoldable pub grouped_by : Maker → Value → Given → Result Value Fault
+grouped_by m (Array a) g = array_grouped m a g
+grouped_by m (Set s) g = set_grouped m s g
+grouped_by m v g = wrong
 
 unfoldable pub grouping_called : Value → List ℕ → Given → Result Value Fault
-grouping_called v name g = elim (maker_named name) [ None ↦ other_method v name | Some m ↦ grouped_by name m v g ]
+grouping_called v name g = elim (maker_named name) [ None ↦ other_method v name | Some m ↦ grouped_by m v g ]
 
 -- the fold of each group, or a reduction of some or all dimensions
 unfoldable pub fold_called : FoldKind → Value → Given → Result Value Fault
-fold_called k (GroupedArray a by) g = if array_served by then (grouped_array k by a g >>= λ b. Ok (Array b)) else wrong
-fold_called k (GroupedSet s by) g = if set_served by then (grouped_set k by s g >>= λ t. Ok (Set t)) else wrong
+fold_called k (GroupedArray a by) g = grouped_array k by a g >>= λ b. Ok (Array b)
+fold_called k (GroupedSet s by) g = grouped_set k by s g >>= λ t. Ok (Set t)
 fold_called k v g = of_both (λ a. reduced_array k a g) (λ s. reduced_set k s g) v
 
 -- the first and the last present cell are those of groups alone

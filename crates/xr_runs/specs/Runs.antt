@@ -1,5 +1,5 @@
 -- What a statement does, and what a run of a script gives: the files, the text printed, and how it ended.
-use Rattle.std.specs.Prelude.{◌≡◌, ◌+◌, ℕ, List, [], ◌∷◌, ◌++◌, Option, Some, None, Result, Ok, Err, if◌then◌else◌}
+use Rattle.std.specs.Prelude.{◌≡◌, ◌+◌, ℕ, codes, length, List, [], ◌∷◌, ◌++◌, Option, Some, None, Result, Ok, Err, if◌then◌else◌}
 use Rattle.std.specs.Str.{bytes_eq}
 use Rattle.xr_types.specs.declared.fault.Fault.{Fault}
 use Rattle.xr_types.specs.declared.fault.Fault.TheVariants.{UnknownName, WrongKind}
@@ -11,8 +11,8 @@ use Rattle.xr_syntax.specs.Syntax as tree
 use Rattle.xr_syntax.specs.Syntax.{Line, Tree}
 use Rattle.xr_syntax.specs.Scripts.{IsScriptText, IsFirstFault}
 use Rattle.xr_defs.specs.Stores.{Files}
-use Rattle.xr_defs.specs.Meanings.{Value}
-use Rattle.xr_relations.specs.Aligning.{value_assigned}
+use Rattle.xr_defs.specs.Meanings.{Given, Value}
+use Rattle.xr_relations.specs.Aligning.{align_called, value_assigned}
 use Rattle.xr_runs.specs.Calls.{text_printed, set_written}
 use Rattle.xr_runs.specs.Evaluation.{Names, named, value_of, given_of}
 
@@ -30,6 +30,15 @@ put entries name x other = if bytes_eq other name then Some x else entries other
 abbrev pub with_name : State → List ℕ → Value → State
 with_name s name v = record s { names = put s.names name v }
 
+-- the map with one entry after another put into it
+abbrev pub put_each : {X : Type 0} → (List ℕ → Option X) → List (List ℕ) → List X → List ℕ → Option X
+put_each entries [] xs = entries
+put_each entries (n ∷ ns) [] = entries
+put_each entries (n ∷ ns) (x ∷ xs) = put_each (put entries n x) ns xs
+
+abbrev pub with_names : State → List (List ℕ) → List Value → State
+with_names s names vs = record s { names = put_each s.names names vs }
+
 abbrev pub with_text : State → List ℕ → State
 with_text s text = record s { text = s.text ++ text }
 
@@ -41,10 +50,14 @@ unfoldable pub written_by : Names → Files → Tree → Result (List ℕ × Lis
 written_by names files (tree.Method e f gs) = value_of names files e >>= λ v. given_of names files gs >>= λ g. set_written v g
 written_by names files e = Err WrongKind
 
--- The next state, or the statement's first fault. No function aligns so far.
+-- `align` alone gives several values
+unfoldable pub values_aligned : List ℕ → ℕ → Given → Result (List Value) Fault
+values_aligned f n g = if bytes_eq f (codes "align") then align_called n g else Err (UnknownName f)
+
+-- The next state, or the statement's first fault.
 unfoldable pub step : Line → State → Result State Fault
 step (tree.Assigned name e) s = value_of s.names s.files e >>= λ v. Ok (with_name s name v)
-step (tree.Aligned names (tree.Call f gs)) s = given_of s.names s.files gs >>= λ g. Err (UnknownName f)
+step (tree.Aligned names (tree.Call f gs)) s = given_of s.names s.files gs >>= λ g. values_aligned f (length names) g >>= λ vs. Ok (with_names s names vs)
 step (tree.Aligned names e) s = Err WrongKind
 step (tree.Placed name variable e) s = value_of s.names s.files e >>= λ v. named s.names name >>= λ w. value_assigned w variable v >>= λ t. Ok (with_name s name t)
 step (tree.Printed e) s = value_of s.names s.files e >>= λ v. text_printed v >>= λ text. Ok (with_text s text)

@@ -1,18 +1,15 @@
 use Rattle.std.specs.Prelude.{option_map}
 use Rattle.xr_values.specs.Meaning.{given, meaning}
-use Rattle.xr_group_sets.proofs.Told.{answer_told, frame_here, frame_told, served_of}
+use Rattle.xr_group_sets.proofs.Told.{answer_told, frame_here, frame_told}
 use Rattle.xr_group_sets.proofs.sets.frame_grouped.Goals as goal
 
-pub grouped_changes-requires-clause-served : goal.grouped_changes-requires-clause-served
-grouped_changes-requires-clause-served c = served_of c.args.grouping.now c.requires.listed
-
-pub grouped_changes-requires-clause-frame : goal.grouped_changes-requires-clause-frame
-grouped_changes-requires-clause-frame c = frame_here c.args.plan.now c.args.on.now c.args.frame.now c.as_slice-own.result.now c.as_slice-coords.result.now c.requires.frame c.as_slice-own.ensures c.as_slice-coords.ensures
+pub grouped_changes-requires : goal.grouped_changes-requires
+grouped_changes-requires c = frame_here c.args.plan.now c.args.on.now c.args.frame.now c.as_slice-own.result.now c.as_slice-coords.result.now c.requires.frame c.as_slice-own.ensures c.as_slice-coords.ensures
 
 pub filled-requires : goal.filled-requires
 filled-requires c =
     frame_told c.args.plan.now c.args.fold c.args.grouping.now c.args.on.now c.args.frame.now c.as_slice-own.result.now c.as_slice-coords.result.now c.as_slice-vars.result.now c.in_ok-names.names c.as_slice-others.result.now c.in_ok-changes.changes c.as_slice-changes.result.now
-    c.as_slice-own.ensures c.as_slice-coords.ensures c.as_slice-vars.ensures c.in_ok-names.ensures c.as_slice-others.ensures c.as_slice-changes.ensures c.in_ok-check_method.ensures c.in_ok-changes.ensures.answers c.requires.frame c.in_ok-changes.ensures.changes c.requires.listed
+    c.as_slice-own.ensures c.as_slice-coords.ensures c.as_slice-vars.ensures c.in_ok-names.ensures c.as_slice-others.ensures c.as_slice-changes.ensures c.in_ok-check_method.ensures c.in_ok-changes.ensures.answers c.requires.frame c.in_ok-changes.ensures.changes
 
 pub returns-clause-answers : goal.returns-clause-answers
 returns-clause-answers c = λ nodes.

@@ -5,8 +5,8 @@ use Rattle.xr_reducing.proofs.AllVariables.{begun_in}
 use Rattle.xr_group_sets.proofs.Told.{set_begins}
 use Rattle.xr_group_sets.proofs.sets.grouped_set.Goals as goal
 
-pub frame_grouped-requires-clause-frame : goal.frame_grouped-requires-clause-frame
-frame_grouped-requires-clause-frame c = begun_in c.args.plan.now c.args.on.now c.in_ok-frame.frame c.requires.is c.in_ok-frame.ensures
+pub frame_grouped-requires : goal.frame_grouped-requires
+frame_grouped-requires c = record { frame = begun_in c.args.plan.now c.args.on.now c.in_ok-frame.frame c.requires.is c.in_ok-frame.ensures }
 
 pub returns-clause-answers : goal.returns-clause-answers
 returns-clause-answers c = λ nodes.
