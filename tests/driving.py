@@ -121,7 +121,7 @@ class Driver:
             return
         if not run.out.startswith(text) or fault and run.out != text:
             self.fail(label, f"not the dataset of the file, whose text is {text[:400]!r}", run)
-        elif not fault and writing.is_read_again(set_) and again(run.out[len(text):]) != again(text):
+        elif not fault and again(run.out[len(text):]) != again(text):
             self.fail(label, "written and read again it is another", run)
         else:
             self.counts[f"printed; writing refused by {fault.split()[0]}" if fault else "printed, written and read again"] += 1

@@ -124,6 +124,8 @@ def check_names(set_, vars_):
     widths = [width_of(index.labels) for index in set_.indexes.values() if index.kind == "text"]
     widths += [width_of(c.cells) for c in set_.coords.values() if c.kind == "text"]
     unless(all(set_.sizes.get(f"string{width}", width) == width for width in widths), DUPLICATE_NAME)
+    own_widths = {d: width_of(index.labels) for d, index in set_.indexes.items() if index.kind == "text"}
+    unless(all(d != f"string{width}" for d, width in own_widths.items()), DUPLICATE_NAME)
     for own, added in [(var.own, var.added) for var in vars_] + [(set_.attrs, attrs_of_file(set_))]:
         unless(not {a.name for a in own} & {a.name for a in added}, DUPLICATE_NAME)
 
@@ -239,8 +241,3 @@ def file_of(set_, version=5, unlimited=None):
     check_cells(vars_)
     sizes = set_.sizes | {d: int(d.removeprefix("string")) for var in vars_ for d in var.dims if d not in set_.sizes}
     return spelled(version, sizes, records, set_.attrs + attrs_of_file(set_), vars_)
-
-
-def is_read_again(set_):
-    """Whether each variable of the file is read again. One of texts over a dimension that is called as theirs has it twice."""
-    return not any(index.kind == "text" and d == f"string{width_of(index.labels)}" for d, index in set_.indexes.items())

@@ -372,9 +372,14 @@ encoded set options =
 unfoldable pub check_unlimited : Dataset → WriteOptions → Result (Unit {0}) Fault
 check_unlimited set options = elim options.unlimited [ None ↦ Ok tt | Some d ↦ unless (is_some (axis_named d set.axes)) (NoDimension d) ]
 
--- an axis that is a dimension of texts has their width, and no attribute that is added is there already
+-- the labels of an axis are texts of that width
+abbrev pub has_texts_of : ℕ → Axis → Bool
+has_texts_of n x = elim (index_width x) [ None ↦ false | Some w ↦ w == n ]
+
+-- an axis that is a dimension of texts has their width, and its own labels aren't texts of it, whose variable would have that
+-- dimension twice; and no attribute that is added is there already
 abbrev pub has_width : Dataset → ℕ → Bool
-has_width set n = elim (axis_named (string_name n) set.axes) [ None ↦ true | Some x ↦ x.size == n ]
+has_width set n = elim (axis_named (string_name n) set.axes) [ None ↦ true | Some x ↦ x.size == n && not (has_texts_of n x) ]
 
 abbrev pub are_new : List Attr → List Attr → Bool
 are_new own more = not (list_any (λ (a : Attr). list_any (is_attr a.name) own) more)

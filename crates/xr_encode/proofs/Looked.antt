@@ -1,6 +1,6 @@
 -- Dimensions by their names: each has as many positions as its axis, or as its texts are wide.
 use Rattle.std.proofs.Common.{◌≡◌, ◌<◌, ◌≤◌, ◌+◌, ◌^◌, ℕ, zero, suc, Bool, true, false, cond, List, [], ◌∷◌, ◌++◌, length, map, drop, get_or, Option, Some, None, refl, sym, ap, subst, ◌∙◌, arith, length-append}
-use Rattle.std.specs.Prelude.{not, ◌||◌, ◌==◌, if◌then◌else◌, filter, is_none, option_map, ⊤, codes}
+use Rattle.std.specs.Prelude.{not, ◌&&◌, ◌||◌, ◌==◌, if◌then◌else◌, filter, is_none, option_map, ⊤, codes}
 use Rattle.std.specs.List.{AllByRecursion, list_any, list_all}
 use Rattle.std.specs.Str.{bytes_eq}
 use Rattle.std.specs.Fmt.{decimal}
@@ -21,7 +21,7 @@ use Rattle.xr_types.specs.Names.{axis_names}
 use Rattle.xr_defs.specs.Values.{Dataset, axis_position, no_axis}
 use Rattle.xr_defs.specs.Selecting.{axis_called}
 use Rattle.xr_defs.specs.Decoding.{string_name}
-use Rattle.xr_defs.specs.Encoding.{axis_named, is_that, dim_of_axis, string_dim, number_of_dim, dims_of, record_dim, records_of, empty_axes, text_widths, has_width}
+use Rattle.xr_defs.specs.Encoding.{axis_named, is_that, dim_of_axis, string_dim, number_of_dim, dims_of, record_dim, records_of, empty_axes, text_widths, has_texts_of, has_width}
 use Rattle.xr_encode.specs.Dimensions.{is_axisless}
 use Rattle.xr_encode.proofs.Distinct.{eq_swap, eq_itself, eq_same, neither, weaken, all_filtered, all_unfiltered, not_true, true_not, both_true}
 
@@ -185,9 +185,9 @@ axis_sized set options name x full found =
     ap (positions (records_of set options)) (axis_looked r set.axes rest name x found)
     ∙ sized_by set options x (is_that r x.name) (x.size == 0) refl refl (λ e. empties (is_that r) set.axes name x full found e) (λ is. records_by set x r is mine)
 
-string_by : (set : Dataset) (options : WriteOptions) (n : ℕ) (o : Option Axis) → list_all (is_that (record_dim set options)) (empty_axes set) ≡ true → 1 ≤ n → axis_named (string_name n) set.axes ≡ o → elim o [ None ↦ true | Some x ↦ x.size == n ] ≡ true
+string_by : (set : Dataset) (options : WriteOptions) (n : ℕ) (o : Option Axis) → list_all (is_that (record_dim set options)) (empty_axes set) ≡ true → 1 ≤ n → axis_named (string_name n) set.axes ≡ o → elim o [ None ↦ true | Some x ↦ x.size == n && not (has_texts_of n x) ] ≡ true
     → (is_axisless set.axes n ≡ true → looked (dims_of set options) (string_name n) ≡ string_dim n) → positions (records_of set options) (looked (dims_of set options) (string_name n)) ≡ n
-string_by set options n (Some x) full some is width goes = axis_sized set options (string_name n) x full is ∙ eqb-true x.size n width
+string_by set options n (Some x) full some is width goes = axis_sized set options (string_name n) x full is ∙ eqb-true x.size n (and_parts (x.size == n) (not (has_texts_of n x)) width).0
 string_by set options (suc n) None full some is width goes = ap (positions (records_of set options)) (goes (ap is_none is)) ∙ ap (λ c. if c then records_of set options else suc n) (eqb-suc-zero n)
 string_by set options zero None full some is width goes = absurd (omega arith)
 

@@ -3,7 +3,7 @@ ghost use Rattle.std.specs.Prelude.{◌≡◌, ◌&&◌, ◌++◌, map, option_c
 ghost use Rattle.std.specs.List.{list_any, list_all};
 ghost use Rattle.xr_types.specs.Results.{Answers, unless, all_of};
 ghost use Rattle.xr_defs.specs.Decoding.{is_attr};
-ghost use Rattle.xr_defs.specs.Encoding.{has_width, are_new, coord_names, dtype_added, fill_added, coordinates_added, is_that, empty_axes, stands_first, check_unlimited, check_fill, check_fit};
+ghost use Rattle.xr_defs.specs.Encoding.{has_texts_of, has_width, are_new, coord_names, dtype_added, fill_added, coordinates_added, is_that, empty_axes, stands_first, check_unlimited, check_fill, check_fit};
 ghost use Rattle.xr_files.specs.Canonical.{has_types};
 ghost use Rattle.xr_encode.specs.Outlines.{without_cells};
 ghost use Rattle.xr_encode.specs.Checks.{over, is_fill_new, list_none, has_new, names_checked, is_first, has_blank, are_typed, places_checked, records_checked};
@@ -14,6 +14,7 @@ use crate::fill::{fill_for, fill_numbers, is_attr, uses_option};
 use crate::name::string_name;
 use crate::number::{holds, may_fill, type_of};
 use crate::outline::Outline;
+use crate::widths::index_width;
 use std::alloc::{AllocError, Global};
 use xr_defs::{Coord, WriteOptions};
 use xr_types::{Attr, Axis, CallFault, DType, DeepCopy, Fault, Name};
@@ -48,13 +49,22 @@ pub fn check_unlimited(
     }
 }
 
-// An axis that is the dimension of texts of a width has it as its size.
+fn has_texts_of(width: u64, axis: &Axis) -> bool
+    ensures { result ≡ has_texts_of width axis.now }
+{
+    match index_width(axis) {
+        Some(own) => own == width,
+        None => false,
+    }
+}
+
+// An axis that is the dimension of texts of a width has it as its size, and no texts of that width as its labels.
 fn has_width(alloc: Global, axes: &[Axis], width: u64) -> Result<bool, AllocError>
     ensures { IfOk result (λ b. b ≡ has_width (over axes.now) width) }
 {
     let name = string_name(alloc, width)?;
     match axis_named(axes, &name) {
-        Some(axis) => Ok(axis.size == width),
+        Some(axis) => Ok(axis.size == width && !has_texts_of(width, axis)),
         None => Ok(true),
     }
 }

@@ -40,7 +40,7 @@ fn labels_width(list: &LabelList) -> Option<u64>
     }
 }
 
-fn index_width(axis: &Axis) -> Option<u64>
+pub fn index_width(axis: &Axis) -> Option<u64>
     ensures { result ≡ index_width axis.now }
 {
     match &axis.labels {

@@ -1,0 +1,5 @@
+use Rattle.std.proofs.Common.{◌≡◌, ◌++◌, map, pos, take}
+use Rattle.xr_chaining.proofs.labels.push_positive.Given as goal
+
+abbrev pub invariant-loop-number : goal.invariant-loop-number
+invariant-loop-number l = map pos l.out ≡ map pos l.fn.out ++ take l.number-index l.numbers
