@@ -14,10 +14,9 @@ numpy, cftime and xarray all is skipped, and the output says so. The last line i
 import sys
 
 import labelled
-from labelled import Refused, joined_axis, random_cells, random_index
+from labelled import Refused, check_fill, joined_axis, random_cells, random_index
 
-# After the module before it, which ends the test where they are missing.
-import numpy
+# After the module before it, which ends the test where it is missing.
 import xarray
 
 JOINS = ["inner", "outer", "left", "right", "exact"]
@@ -78,15 +77,6 @@ class Value:
         for v in self.vars:
             lines += self.printed(taken, index, sizes, masked, v.name)
         return lines
-
-
-def check_fill(fill, kind):
-    if fill is None:
-        return
-    if isinstance(fill, bool) != (kind == "bool"):
-        raise Refused(4)
-    if kind != "bool" and not numpy.iinfo(kind).min <= fill <= numpy.iinfo(kind).max:
-        raise Refused(12)
 
 
 def has_hole(part, value, index):

@@ -21,13 +21,14 @@ except ImportError:
     has_peer = os.path.exists(PYTHON) and os.path.realpath(sys.executable) != os.path.realpath(PYTHON)
     if has_peer and subprocess.run([PYTHON, "-c", "import cftime, xarray"], capture_output=True).returncode == 0:
         os.execv(PYTHON, [PYTHON, "-B", *sys.argv])
-    print("skipped: joins and operators beside xarray need numpy, cftime and xarray")
+    print("skipped: arrays and datasets beside xarray need numpy, cftime and xarray")
     sys.exit(0)
 
 KINDS = ["int8", "int16", "int32", "int64", "uint8", "uint16", "uint32", "uint64", "bool"]
 CIVIL = ["standard", "gregorian", "proleptic_gregorian"]
-WORDS = {4: "wrong kind of value", 5: "bad argument", 8: "label not unique", 10: "label of another kind", 11: "would promote",
-         12: "number does not fit", 13: "sizes differ", 14: "not aligned", 25: "duplicate name"}
+WORDS = {1: "unknown name", 2: "no variable", 3: "no dimension", 4: "wrong kind of value", 5: "bad argument", 8: "label not unique", 9: "index not monotonic",
+         10: "label of another kind", 11: "would promote", 12: "number does not fit", 13: "sizes differ", 14: "not aligned",
+         15: "conflicting values", 25: "duplicate name"}
 
 
 def text_of(d):
@@ -41,7 +42,7 @@ def spelled(it):
 
 
 class Refused(Exception):
-    """A statement is refused, with the number of its fault."""
+    """A statement is refused, with the number of its fault, and the name that this speaks of, if it does."""
 
 
 class Index:
@@ -116,8 +117,11 @@ class Cells:
             return f'"{it}"' if self.kind == "text" else it
         return "NA" if it is None else str(bool(it)) if self.kind == "bool" else str(int(it))
 
+    def value(self):
+        return f'DataArray({self.written()}, {list(self.dims)}, dtype="{self.kind}")'
+
     def coordinate(self):
-        return f'"{self.name}": DataArray({self.written()}, {list(self.dims)}, dtype="{self.kind}")'
+        return f'"{self.name}": {self.value()}'
 
     def rows(self, cells):
         """Lines of cells, as they are printed."""
@@ -212,6 +216,17 @@ def joined_axis(d, values, join, fills):
     return Index(first.sort, kind, joined), len(joined)
 
 
+def check_fill(fill, kind):
+    """Whether a fill is one for cells of a kind: None is a missing cell, and is one for all."""
+    if fill is None:
+        return
+    if isinstance(fill, bool) != (kind == "bool"):
+        raise Refused(4)
+    least, most = (0, 255) if kind == "char" else (0, 1) if kind == "bool" else (numpy.iinfo(kind).min, numpy.iinfo(kind).max)
+    if not least <= fill <= most:
+        raise Refused(12)
+
+
 def index_lines(dims, index):
     lines = []
     for d in dims:
@@ -221,13 +236,16 @@ def index_lines(dims, index):
     return lines
 
 
-def run_beside(program, folder, lines, wanted, place, fault):
-    """Runs a script, whose statement at the place meets the fault, if there is one; what is wrong."""
+def run_beside(program, folder, lines, wanted, place, fault, name=None):
+    """Runs a script, whose statement at the place meets the fault, if there is one, which may speak of a name; what is wrong. Without a
+    program nothing is."""
+    if program is None:
+        return []
     with open(os.path.join(folder, "s.xrs"), "w") as f:
         f.write("\n".join(lines) + "\n")
     ran = subprocess.run([program, "s.xrs"], cwd=folder, capture_output=True, text=True, timeout=60)
     wrong = [] if ran.stdout == wanted else [f"printed\n{ran.stdout}not\n{wanted}"]
-    error, status = (f"xrs: statement {place}: F{fault} {WORDS[fault]}\n", 1) if fault else ("", 0)
+    error, status = (f"xrs: statement {place}: F{fault} {WORDS[fault]}{' ' + name if name else ''}\n", 1) if fault else ("", 0)
     if (ran.stderr, ran.returncode) != (error, status):
         wrong.append(f"ended with {ran.returncode} {ran.stderr!r}, not {status} {error!r}")
     return wrong
@@ -235,12 +253,15 @@ def run_beside(program, folder, lines, wanted, place, fault):
 
 def rounds(round_of):
     """Runs a round for each seed, which gives what is wrong, and its script; the status of the test."""
-    options = argparse.ArgumentParser()
-    options.add_argument("program")
-    options.add_argument("--count", type=int, default=100)
-    options.add_argument("--seed", type=int, default=1)
-    options = options.parse_args()
-    program, same, differ = os.path.abspath(options.program), 0, 0
+    parser = argparse.ArgumentParser()
+    parser.add_argument("program", nargs="?")
+    parser.add_argument("--model", action="store_true", help="compares what has to be printed with xarray alone")
+    parser.add_argument("--count", type=int, default=100)
+    parser.add_argument("--seed", type=int, default=1)
+    options = parser.parse_args()
+    if (options.program is None) != options.model:
+        parser.error("either a program or --model")
+    program, same, differ = options.program and os.path.abspath(options.program), 0, 0
     warnings.simplefilter("ignore")
     with tempfile.TemporaryDirectory() as folder:
         for seed in range(options.seed, options.seed + options.count):

@@ -23,11 +23,11 @@ import operator
 import sys
 
 import labelled
-from labelled import KINDS, Cells, Refused, joined_axis, promoted, random_cells, random_index
+from labelled import KINDS, Refused, promoted
+from valued import Array, Part, Set, joined_index, joined_notes, labels_differ, objects, odd_index, random_array, shared_attrs, without_fills
 
-# After the module before it, which ends the test where they are missing.
+# After the modules before it, which end the test where they are missing.
 import numpy
-import pandas
 import xarray
 
 ARITHMETIC = {"+": numpy.add, "-": numpy.subtract, "*": numpy.multiply, "//": numpy.floor_divide, "%": numpy.remainder}
@@ -35,8 +35,6 @@ BITS = {"&": numpy.bitwise_and, "|": numpy.bitwise_or, "^": numpy.bitwise_xor}
 COMPARISONS = {"==": operator.eq, "!=": operator.ne, "<": operator.lt, "<=": operator.le, ">": operator.gt, ">=": operator.ge}
 OPERATORS = {"+": operator.add, "-": operator.sub, "*": operator.mul, "//": operator.floordiv, "%": operator.mod, "&": operator.and_,
              "|": operator.or_, "^": operator.xor, **COMPARISONS}
-ATTRS = {"units": ["m", "m", "K", 1], "level": [1, 1, 2], "note": ["a b"], "_FillValue": [-9], "missing_value": [-9, -8]}
-FILLS = ["_FillValue", "missing_value"]
 FAULTS = [4, 5, 8, 10, 11, 12, 13, 14, 25]
 
 
@@ -47,161 +45,6 @@ def is_in(kind, n):
 
 def word_of(literal):
     return "NA" if literal is None else f"({literal})" if literal < 0 else str(literal)
-
-
-def shared_attrs(lists):
-    """Those of which no list has another of their name, in the order of first appearance."""
-    return {n: it for attrs in lists for n, it in attrs.items() if all(other.get(n, it) == it for other in lists)}
-
-
-def without_fills(attrs):
-    return {n: it for n, it in attrs.items() if n not in FILLS}
-
-
-class Part(Cells):
-    """Cells with attributes: of an array, a variable or a coordinate, which may be one text, or a time of a calendar."""
-
-    def __init__(self, name, dims, kind, cells, masked=None, attrs=None, sort=None):
-        super().__init__(name, dims, kind, cells, masked)
-        self.attrs, self.sort = attrs or {}, sort
-
-    def objects(self):
-        """The cells as xarray compares them: texts and times are equal to nothing else."""
-        if self.kind in ("text", "time"):
-            return numpy.array(f"{self.sort or 'text'} {self.cells.item()}", dtype=object)
-        return self.cells
-
-    def real(self, kind=None):
-        """As numpy has them, with 0 for missing ones."""
-        return numpy.array([it or 0 for it in self.cells.ravel()], dtype=kind or self.kind).reshape(self.cells.shape)
-
-    def line(self):
-        return " ".join([f"coord {self.name} {self.kind}{' masked' if self.masked else ''} ({', '.join(self.dims)}):", *map(self.word, self.cells.ravel())])
-
-    def coordinate(self):
-        if self.kind == "text":
-            return f'"{self.name}": "{self.cells.item()}"'
-        if not self.dims and self.kind == "int64" and not self.masked and not self.attrs:
-            return f'"{self.name}": {self.cells.item()}'
-        return super().coordinate() + assigned(self.attrs)
-
-    def attr_lines(self):
-        return [f'attr {n} char: "{it}"' if isinstance(it, str) else f"attr {n} int: {it}" for n, it in self.attrs.items()]
-
-
-def assigned(attrs):
-    spelled = [f'{n}="{it}"' if isinstance(it, str) else f"{n}={it}" for n, it in attrs.items()]
-    return f".assign_attrs({', '.join(spelled)})" if spelled else ""
-
-
-def peer_coords(index, coords):
-    return {d: i.peer() for d, i in index.items() if i} | {c.name: (c.dims, c.objects()) for c in coords.values()}
-
-
-class Array:
-    """An array: its cells, and by their names the indexes of its dimensions, its coordinates and the attributes of its labels."""
-
-    def __init__(self, part, index, coords, notes):
-        self.part, self.index, self.coords, self.notes = part, index, coords, notes
-        self.name, self.dims, self.kind, self.masked, self.attrs = part.name, list(index), part.kind, part.masked, part.attrs
-        self.sizes = dict(zip(self.dims, part.cells.shape))
-
-    def peer(self, numbers=None):
-        """The positions of its cells, or other numbers, in xarray."""
-        numbers = self.part.numbers()[1] if numbers is None else numbers
-        return xarray.DataArray(numbers, peer_coords(self.index, self.coords), self.dims, self.name, self.attrs)
-
-    def real(self):
-        return self.peer(self.part.real())
-
-    def missing(self):
-        return numpy.array([it is None for it in self.part.cells.ravel()], dtype=bool).reshape(self.part.cells.shape)
-
-    def script(self, r):
-        coords = []
-        for d, i in self.index.items():
-            if i:
-                spelled = i.script(r, d)
-                if d in self.notes and self.notes[d]:
-                    spelled = f'DataArray({i.labels or [0]}, ["{d}"], dtype="{i.kind}")' + assigned(self.notes[d])
-                coords.append(f'"{d}": {spelled}')
-        return self.part.script(coords + [c.coordinate() for c in self.coords.values()]) + assigned(self.attrs)
-
-    def at(self, d, k):
-        """The array at a position of a dimension with labels, of which one is left as a coordinate."""
-        i = self.index[d]
-        sort = None if i.sort in ("numbers", "texts") else i.sort
-        kind, shown = i.shown()
-        label = i.labels[k] if sort is None else shown[k]
-        made = {c.name: Part(c.name, [], c.kind, numpy.array(c.cells[k], dtype=object), c.masked, c.attrs) if d in c.dims else c for c in self.coords.values()}
-        made[d] = Part(d, [], kind, numpy.array(label, dtype=object), False, self.notes.get(d), sort)
-        cells = numpy.array(numpy.take(self.part.cells, k, self.dims.index(d)), dtype=object)
-        part = Part(self.name, [it for it in self.dims if it != d], self.kind, cells, self.masked, self.attrs)
-        return Array(part, {it: self.index[it] for it in part.dims}, made, {n: it for n, it in self.notes.items() if n != d})
-
-    def over(self, part):
-        """A part of it as an array, with the coordinates that lie along its dimensions."""
-        coords = {c.name: c for c in self.coords.values() if set(c.dims) <= set(part.dims)}
-        return Array(part, {d: self.index[d] for d in part.dims}, coords, self.notes)
-
-    def picks(self):
-        """Its labels and coordinates of whole numbers and truth values, as arrays."""
-        for d, i in self.index.items():
-            if i and i.sort == "numbers":
-                yield self.over(Part(d, [d], i.kind, numpy.array(i.labels, dtype=object), False, self.notes.get(d)))
-        for c in self.coords.values():
-            if c.kind not in ("text", "time"):
-                yield self.over(c)
-
-    def lines(self):
-        sizes = ", ".join(f"{d}: {n}" for d, n in self.sizes.items())
-        return [f"DataArray {self.name or '-'} ({sizes}) {self.kind}{' masked' if self.masked else ''}", *self.part.rows(self.part.cells),
-                *coordinate_lines(self), *self.part.attr_lines()]
-
-
-def coordinate_lines(x):
-    return labelled.index_lines(x.dims, x.index) + [c.line() for c in sorted(x.coords.values(), key=lambda it: it.name)]
-
-
-class Set:
-    """A dataset: its variables, and the rest as an array has it."""
-
-    def __init__(self, parts, index, sizes, coords, notes):
-        used = {d for p in [*parts.values(), *coords.values()] for d in p.dims}
-        self.parts, self.coords = parts, coords
-        # A dimension without labels that nothing has is gone.
-        self.index = {d: i for d, i in index.items() if i or d in used}
-        self.sizes, self.dims, self.notes = {d: sizes[d] for d in self.index}, list(self.index), notes
-
-    def array(self, name):
-        return Array.over(self, self.parts[name])
-
-    def without(self, name):
-        return Set({n: p for n, p in self.parts.items() if n != name}, self.index, self.sizes, self.coords, self.notes)
-
-    def peer(self):
-        return xarray.Dataset({n: p.numbers() for n, p in self.parts.items()}, peer_coords(self.index, self.coords))
-
-    def lines(self):
-        return ["Dataset", *(f"dim {d}: {n}" for d, n in self.sizes.items()), *coordinate_lines(self),
-                *(f"var {n} {p.kind} ({', '.join(p.dims)}){' masked' if p.masked else ''}" for n, p in self.parts.items())]
-
-
-def joined_index(values, join):
-    """The indexes of the joined dimensions and their sizes."""
-    axes = {d: joined_axis(d, values, join, False) for d in dict.fromkeys(d for v in values for d in v.dims)}
-    return {d: it[0] for d, it in axes.items()}, {d: it[1] for d, it in axes.items()}
-
-
-def joined_notes(values):
-    """The attributes of labels are those of the first value that has labels."""
-    return {d: v.notes.get(d) for v in reversed(values) for d in v.dims if v.index[d]}
-
-
-def labels_differ(there, index):
-    """What xarray has for other labels."""
-    return [f"xarray has the labels {list(there.indexes[d])} of {d}, not {i.labels}" for d, i in index.items()
-            if i and list(there.indexes[d]) != list(pandas.Index(i.peer()))]
 
 
 def coordinates(there, operands):
@@ -289,12 +132,6 @@ def computed(op, kind, xs, ys):
     with numpy.errstate(all="ignore"):
         cells = (ARITHMETIC | BITS)[op](numpy.array([it or 0 for it in xs], dtype=kind), numpy.array([it or 0 for it in ys], dtype=kind)).tolist()
     return [None if x is None or y is None else n for n, x, y in zip(cells, xs, ys)]
-
-
-def objects(cells, shape):
-    made = numpy.empty(len(cells), dtype=object)
-    made[:] = cells
-    return made.reshape(shape)
 
 
 def cells_differ(there, kind, cells, arrays):
@@ -527,58 +364,6 @@ class Put:
 
 
 # ---- scripts
-
-
-def random_attrs(r, odds):
-    return {n: r.choice(ATTRS[n]) for n in r.sample(list(ATTRS), len(ATTRS)) if r.random() < odds}
-
-
-def random_coordinate(r, name, d, pool, size, index):
-    """One along a dimension: a label or a position has the same cell in most of them."""
-    usual, shades = pool["usual"], pool.setdefault("shades", {})
-    keys = index.labels if index else [usual[i] if i < len(usual) else ("bare", i) for i in range(size)]
-    cells, kind = [], r.choice(KINDS)
-    for key in keys:
-        cells.append(shades.setdefault(key, r.choice([0, 1, 1, 2, None] if pool["holes"] else [0, 1, 1, 2])))
-    if cells and r.random() < 0.25:
-        cells[r.randrange(size)] = r.choice([0, 1, 3, None])
-    cells = [bool(it) if kind == "bool" and it is not None else it for it in cells]
-    return Part(name, [d], kind, objects(cells, [size]), attrs=random_attrs(r, 0.15))
-
-
-def random_scalars(r):
-    if r.random() < 0.35:
-        kind = r.choice(["int64", "int64", *KINDS[:8]])
-        cell = r.choice([5, 5, 5, 6]) if r.random() < 0.9 else None
-        yield Part("n", [], kind, numpy.array(cell, dtype=object), attrs=random_attrs(r, 0.1))
-    if r.random() < 0.2:
-        yield Part("k", [], "text", numpy.array(r.choice(["p", "p", "q"]), dtype=object))
-
-
-def odd_index(r, pool):
-    """Labels that may be of another sort, repeat, or have another order, or none."""
-    known = pool["labels"]
-    usual = pool["usual"] or known[:2]
-    # Numbers alone have a kind.
-    kind = "uint64" if pool["sort"] == "numbers" and all(n >= 0 for n in known[-2:]) else "int64"
-    return r.choice([None, labelled.Index(pool["sort"], "int64", [*usual, usual[0]]), labelled.Index(pool["sort"], kind, known[-2:]),
-                     labelled.Index(*r.choice([("texts", "int64", ["a", "b"]), ("numbers", "int64", [0, 1]), ("noleap", "int64", [0, 24])]))])
-
-
-def random_array(r, pools, index_of=random_index):
-    dims = r.sample(list(pools), r.choice([0, 1, 1, 2, 2, 2, 3]))
-    index = {d: index_of(r, pools[d]) for d in dims}
-    bare = {d: len(pools[d]["usual"]) if pools[d]["usual"] and r.random() < 0.7 else r.choice([1, 2, 3]) for d in dims}
-    sizes = {d: len(i.labels) if i else bare[d] for d, i in index.items()}
-    cells = random_cells(r, r.choice(["v", "v", "v", "w", None]), dims, sizes, r.random() < 0.4)
-    part = Part(cells.name, dims, cells.kind, cells.cells, attrs=random_attrs(r, 0.25))
-    coords = {c.name: c for c in random_scalars(r)}
-    for d in dims:
-        if r.random() < 0.35:
-            name = r.choice([f"c{d}", f"c{d}", "c", "n"])
-            coords[name] = random_coordinate(r, name, d, pools[d], sizes[d], index[d])
-    notes = {d: random_attrs(r, 0.1) for d, i in index.items() if i and i.sort == "numbers"}
-    return Array(part, index, coords, notes)
 
 
 def random_number(r, kind):

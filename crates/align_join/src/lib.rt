@@ -13,5 +13,8 @@ mod source;
 mod values;
 
 pub use alignment::{Joined, join, joined_axis};
+pub use key::Key;
+pub use kind::all_kin;
+pub use label::{count, label_at, same_labels};
 pub use source::{sources, stays};
 pub use values::aligned;

@@ -13,3 +13,4 @@ mod scan;
 mod search;
 
 pub use index::Index;
+pub use scan::is_chain;

@@ -29,7 +29,7 @@ fn steps(list: &LabelList, at: usize, falling: bool) -> bool
 }
 
 /// Whether each label is at most the next; where they are to fall, at least the next.
-fn is_chain(list: &LabelList, falling: bool) -> bool
+pub fn is_chain(list: &LabelList, falling: bool) -> bool
     ensures { result ≡ each_next (next_way falling) (labels_of list.now) }
 {
     for at in 1..label::count(list) {

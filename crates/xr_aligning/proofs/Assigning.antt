@@ -103,7 +103,7 @@ relabelled_names : (axes : List Axis) (cs : List Coord) → names_of (map (relab
 relabelled_names axes [] = refl
 relabelled_names axes (c ∷ cs) = ap (λ ns. c.name ∷ ns) (relabelled_names axes cs)
 
-coord_among : (cs : List Coord) (n : List ℕ) → has_coord cs n ≡ among (names_of cs) n
+pub coord_among : (cs : List Coord) (n : List ℕ) → has_coord cs n ≡ among (names_of cs) n
 coord_among [] n = refl
 coord_among (c ∷ cs) n = (λ i. bytes_eq_swap c.name n i || coord_among cs n i)
 
@@ -247,7 +247,7 @@ dims_in : (nodes : List Node) (n : List ℕ) (vs : List Variable) → list_any (
 dims_in nodes n [] = refl
 dims_in nodes n (v ∷ vs) = ap (λ t. among v.dims n || t) (dims_in nodes n vs)
 
-busy_same : (nodes : List Node) (coords : List Coord) (vs : List Variable) (x : Axis) → is_kept coords (map (variable_in nodes) vs) x ≡ is_busy coords vs x
+pub busy_same : (nodes : List Node) (coords : List Coord) (vs : List Variable) (x : Axis) → is_kept coords (map (variable_in nodes) vs) x ≡ is_busy coords vs x
 busy_same nodes coords vs x = ap (λ t. (is_some x.labels || list_any (λ (c : Coord). among (axis_names c.axes) x.name) coords) || t) (dims_in nodes x.name vs)
 
 same_filter : {X : Type 0} (p q : X → Bool) → ((x : X) → p x ≡ q x) → (xs : List X) → filter p xs ≡ filter q xs
@@ -290,7 +290,7 @@ rest_is nodes name s =
 
 -- ---- the dataset
 
-labelled_among : (axes : List Axis) (n : List ℕ) → among (axis_names (labelled axes)) n ≡ has_index axes n
+pub labelled_among : (axes : List Axis) (n : List ℕ) → among (axis_names (labelled axes)) n ≡ has_index axes n
 labelled_among [] n = refl
 labelled_among (x ∷ xs) n = by (is_some x.labels) (labelled_among xs n) ∙ ap (λ b. (b && is_some x.labels) || has_index xs n) (bytes_eq_swap n x.name)
   where
@@ -306,11 +306,11 @@ labelled_among (x ∷ xs) n = by (is_some x.labels) (labelled_among xs n) ∙ ap
     by true rest = (λ i. and_true (bytes_eq n x.name) i || rest i)
     by false rest = rest ∙ ap (λ b. b || has_index xs n) (sym (and_false (bytes_eq n x.name)))
 
-index_apart : (axes : List Axis) (coords : List Coord) (vs : List Variable) → AllByRecursion (IsApart axes coords) vs → AreAbsent (axis_names (labelled axes)) (variables.names_of vs)
+pub index_apart : (axes : List Axis) (coords : List Coord) (vs : List Variable) → AllByRecursion (IsApart axes coords) vs → AreAbsent (axis_names (labelled axes)) (variables.names_of vs)
 index_apart axes coords [] all = tt
 index_apart axes coords (v ∷ vs) all = (labelled_among axes v.name ∙ all.0.0, index_apart axes coords vs all.1)
 
-coords_apart : (axes : List Axis) (coords : List Coord) (vs : List Variable) → AllByRecursion (IsApart axes coords) vs → AreAbsent (names_of coords) (variables.names_of vs)
+pub coords_apart : (axes : List Axis) (coords : List Coord) (vs : List Variable) → AllByRecursion (IsApart axes coords) vs → AreAbsent (names_of coords) (variables.names_of vs)
 coords_apart axes coords [] all = tt
 coords_apart axes coords (v ∷ vs) all = (sym (coord_among coords v.name) ∙ all.0.1, coords_apart axes coords vs all.1)
 

@@ -68,6 +68,9 @@ is_change m fill c is comes = record {
   arrive = subst (Arrive c.joined.now) (sym is.own) (subst (λ js. Arrive js (own_axes m.on)) (sym is.joined) comes.arrive);
 }
 
+pub change_is : (c : Change) → c.fits.now ≡ map (fit_of c.joined.now) c.own.now → Arrive c.joined.now c.own.now → IsChange c
+change_is c fits arrive = record { fits = fits; arrive = arrive }
+
 -- the joined axes whose labels one takes are as they have to be, but for their sizes
 labels_loose : (own joined js : List Axis) → js ≡ with_labels own joined → AreLoose joined → AreLoose js
 labels_loose own joined js is loose = subst AreLoose (sym is) (record {

@@ -63,6 +63,28 @@ set_size nodes inside joined fill s all is =
     ap (λ b. unless (short && (coords && b)) TooLarge)
     ((λ i. vars_within nodes joined s.axes fill all s.vars inside (vars_of inside s is) i && few i) ∙ and_true (are_vars_within joined s.axes s.vars))
 
+-- ---- the same, of a dataset whatever its names
+
+joined_tests : (a b c d : Bool) → ((a && (b && c)) && d) ≡ (a && (b && (c && d)))
+joined_tests true true c d = refl
+joined_tests true false c d = refl
+joined_tests false b c d = refl
+
+pub set_over : (nodes : List Node) (joined : List Axis) (fill : Option ℤ) (s : Dataset) (own : List Axis) (within few : Bool) → own ≡ s.axes → Arrive joined own → AllByRecursion (IsVarHere nodes s.axes) s.vars
+    → within ≡ (list_all (λ (x : Axis). nat_le x.size most_cells) (map (joined_in joined) s.axes) && (are_within (map (fitted_coord joined fill) s.coords) && are_vars_within joined s.axes s.vars))
+    → few ≡ nat_le (length s.coords + length s.vars) most_variables
+    → Rattle.xr_defs.specs.Selecting.check_set (fitted_set joined fill (dataset_in nodes s)) ≡ unless (within && few) TooLarge
+unfolding Rattle.xr_defs.specs.Selecting.check_set fitted_set
+set_over nodes joined fill s own within few own_is arrive here within_is few_is =
+    let short = list_all (λ (x : Axis). nat_le x.size most_cells) (map (joined_in joined) s.axes) in
+    let coords = are_within (map (fitted_coord joined fill) s.coords) in
+    let all : Arrive joined s.axes = subst (Arrive joined) own_is arrive in
+    let counted : length (map (fitted_coord joined fill) s.coords) + length (map (fitted_variable joined s.axes fill) (map (variable_in nodes) s.vars)) ≡ length s.coords + length s.vars =
+    (λ i. length-map s.coords (fitted_coord joined fill) i + (length-map (map (variable_in nodes) s.vars) (fitted_variable joined s.axes fill) ∙ length-map s.vars (variable_in nodes)) i) in
+    ap (λ b. unless b TooLarge)
+    ((λ i. short && (coords && (vars_within nodes joined s.axes fill all s.vars nodes here i && (ap (λ n. nat_le n most_variables) counted ∙ sym few_is) i)))
+    ∙ sym (joined_tests short coords (are_vars_within joined s.axes s.vars) few) ∙ ap (λ b. b && few) (sym within_is))
+
 -- ---- the same, of a value that comes to joined axes
 
 pub array_limits : (nodes : List Node) (fill : Option ℤ) (m : Coming) (a : Bor DataArray) (js : List Axis) (b : Bool) → m.on ≡ labelled.Array a → js ≡ m.joined → b ≡ (is_within (shape_over (map (joined_in js) a.now.axes)) && are_within (map (fitted_coord js fill) a.now.coords))

@@ -248,7 +248,8 @@ fn all_stay(axes: &[Axis], set: &Dataset, name: &TextBytes, array: &DataArray) -
         && are_named(axes, array.axes.as_slice())
 }
 
-fn are_apart(axes: &[Axis], coords: &[Coord], vars: &[Variable]) -> bool
+/// Whether no coordinate and no index has the name of a variable.
+pub fn are_apart(axes: &[Axis], coords: &[Coord], vars: &[Variable]) -> bool
     ensures { result ≡ true → AllByRecursion (IsApart axes.now coords.now) vars.now }
 {
     match vars {
@@ -361,7 +362,8 @@ fn vars_with(
     Ok(all)
 }
 
-fn is_held(coords: &[Coord], vars: &[Variable], axis: &Axis) -> bool
+/// Whether an axis has labels, or is one of a coordinate or a variable.
+pub fn is_held(coords: &[Coord], vars: &[Variable], axis: &Axis) -> bool
     ensures { result ≡ is_busy coords.now vars.now axis.now }
 {
     axis.labels.is_some() || coords_have(coords, &axis.name) || vars_have(vars, &axis.name)

@@ -164,8 +164,12 @@ fn check_array(
     check_coords(alloc, change, fill, array.coords.as_slice())
 }
 
-// Of the variables' cells, then of the coordinates'.
-fn check_set(
+/// Refuses a fill that isn't one for the cells of a dataset that have a position without a source: those of the variables, then those
+/// of the coordinates.
+///
+/// # Errors
+/// `WrongKind`, then `DoesNotFit`.
+pub fn check_set(
     alloc: Global,
     change: &Change<'_>,
     fill: Option<&Value>,

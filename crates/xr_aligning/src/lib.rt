@@ -15,5 +15,12 @@ mod options;
 mod sets;
 mod sizes;
 
-pub use assigned::variable_assigned;
+pub use assigned::{are_apart, is_held, variable_assigned};
 pub use call::align;
+pub use coords::{axes_after, coords_after};
+pub use filling::check_set;
+pub use fits::{Change, Fit, fits_of};
+pub use limits::{is_set_within, is_variable_within};
+pub use options::{check_given, fill_cell};
+pub use sets::put_vars;
+pub use sizes::check_fitted_sizes;

@@ -60,8 +60,9 @@ fn cells_named(axes: &[Axis], dims: &[Name]) -> u64
     }
 }
 
+/// Whether a variable over these axes has no more dimensions, positions along one and cells than it may have.
 #[tactic(auto, using(crate::proofs::Limited::sizes_rank))]
-fn is_variable_within(axes: &[Axis], var: &Variable) -> bool
+pub fn is_variable_within(axes: &[Axis], var: &Variable) -> bool
     ensures { result ≡ of.is_within (sizes_called axes.now var.now.dims) }
 {
     let dims = var.dims.as_slice();

@@ -43,8 +43,9 @@ fn var_after(
     })
 }
 
+/// Puts variables over joined axes among others. Limits that they pass want memory.
 #[tactic(auto, using(plan_core::proofs::Plans::grows_by_none, plan_core::proofs::Plans::grows_on))]
-fn put_vars(
+pub fn put_vars(
     alloc: Global,
     plan: &mut Plan,
     out: &mut Variables,

@@ -1,12 +1,12 @@
 //! The limits of values over joined axes, from their sizes alone.
-ghost use Rattle.std.specs.Prelude.{◌≡◌, ◌&&◌, ℤ, List, Option, map, nat_le, IfOk};
+ghost use Rattle.std.specs.Prelude.{◌≡◌, ◌+◌, ◌&&◌, ℤ, List, Option, length, map, nat_le, IfOk};
 ghost use Rattle.std.specs.List.{list_all, AllByRecursion};
 ghost use Rattle.xr_types.specs.Names.{shape_over};
 ghost use Rattle.xr_types.specs.Results.{Answers, all_of, unless};
 ghost use Rattle.xr_types.specs.declared.fault.Fault.TheVariants.{TooLarge};
 ghost use Rattle.xr_types.specs.declared.axis.Axis.{Axis as AnAxis};
 ghost use Rattle.xr_arrays.specs.declared.node.Node.{Node};
-ghost use Rattle.xr_defs.specs.Limits.{most_cells};
+ghost use Rattle.xr_defs.specs.Limits.{most_cells, most_variables};
 ghost use Rattle.xr_defs.specs.Selecting as limits;
 ghost use Rattle.xr_defs.specs.WellFormed.{IsCoordinate};
 ghost use Rattle.xr_operations.specs.Alignment.{fitted_coord, joined_in};
@@ -15,14 +15,16 @@ ghost use Rattle.xr_parts.specs.Frames.{IsFrame, IsThere};
 ghost use Rattle.xr_aligning.specs.declared.coming.Coming.{Coming as OneComing};
 ghost use Rattle.xr_aligning.specs.Coming.{come, Comes};
 ghost use Rattle.xr_aligning.specs.Fitted.{IsChange};
-ghost use Rattle.xr_aligning.specs.Sets.{are_vars_within, sizes_after};
+ghost use Rattle.xr_values.specs.Stands.{dataset_in};
+ghost use Rattle.xr_values.specs.declared.dataset.Dataset.{Dataset as ASet};
+ghost use Rattle.xr_aligning.specs.Sets.{are_vars_within, sizes_after, IsVarHere};
 
 use crate::coming::{Coming, change_of};
-use crate::fits::{Change, is_within, joined_in, over_axes, over_names};
+use crate::fits::{Change, fits_of, is_within, joined_in, over_axes, over_names};
 use crate::labelled::Labelled;
 use std::alloc::Global;
 use xr_defs::Coord;
-use xr_types::{Axis, CallFault, Fault, MOST_CELLS, NoMemory};
+use xr_types::{Axis, CallFault, Fault, MOST_CELLS, MOST_VARIABLES, NoMemory};
 use xr_values::{DataArray, Dataset, Variable};
 
 fn axes_within(alloc: Global, change: &Change<'_>, axes: &[Axis]) -> Result<bool, NoMemory>
@@ -139,6 +141,68 @@ pub fn check_sizes(alloc: Global, coming: &[Coming<'_>]) -> Result<(), CallFault
                 return Err(CallFault::Refused(Fault::TooLarge));
             }
             check_sizes(alloc, rest)
+        }
+    }
+}
+
+// ---- datasets over axes whose labels they all take
+
+fn are_few(set: &Dataset) -> bool
+    ensures { result ≡ nat_le (length set.now.coords + length set.now.vars) most_variables }
+{
+    let coords = set.coords.as_slice().len();
+    let vars = set.vars.as_slice().len();
+    coords.saturating_add(vars) <= MOST_VARIABLES
+}
+
+fn both(a: bool, b: bool) -> bool
+    ensures { result ≡ (a && b) }
+{
+    a && b
+}
+
+// Whether a dataset over joined axes has no more of all than it may have.
+#[tactic(auto, using(crate::proofs::Given::change_is))]
+fn is_fitted_within(alloc: Global, joined: &[Axis], set: &Dataset) -> Result<bool, NoMemory>
+    requires { IsFrame set.now.axes set.now.coords }
+    ensures { (nodes : List Node) (fill : Option ℤ) → AllByRecursion (IsVarHere nodes set.now.axes) set.now.vars → IfOk result (λ b. limits.check_set (calls.fitted_set joined.now fill (dataset_in nodes set.now)) ≡ unless b TooLarge) }
+{
+    let own = set.axes.as_slice();
+    let fits = fits_of(alloc, joined, own)?;
+    let change = Change {
+        joined,
+        own,
+        fits: fits.as_slice(),
+        fill: None,
+    };
+    let within = set_within(alloc, &change, set)?;
+    Ok(both(within, are_few(set)))
+}
+
+#[tactic(auto, unfolding(xr_types::specs::Results::unless))]
+fn check_fitted_size(alloc: Global, joined: &[Axis], set: &Dataset) -> Result<(), CallFault>
+    requires { IsFrame set.now.axes set.now.coords }
+    ensures { (nodes : List Node) (fill : Option ℤ) → AllByRecursion (IsVarHere nodes set.now.axes) set.now.vars → Answers (λ u. u) result (limits.check_set (calls.fitted_set joined.now fill (dataset_in nodes set.now))) }
+{
+    if !is_fitted_within(alloc, joined, set)? {
+        return Err(CallFault::Refused(Fault::TooLarge));
+    }
+    Ok(())
+}
+
+/// Refuses datasets of which one would have more of any, over these joined axes, than a dataset may have.
+///
+/// # Errors
+/// `TooLarge`.
+pub fn check_fitted_sizes(alloc: Global, joined: &[Axis], sets: &[Dataset]) -> Result<(), CallFault>
+    requires { AllByRecursion (λ (s : ASet). IsFrame s.axes s.coords) sets.now }
+    ensures { (nodes : List Node) (fill : Option ℤ) → AllByRecursion (λ (s : ASet). AllByRecursion (IsVarHere nodes s.axes) s.vars) sets.now → Answers (λ u. u) result (all_of limits.check_set (map (calls.fitted_set joined.now fill) (map (dataset_in nodes) sets.now))) }
+{
+    match sets {
+        [] => Ok(()),
+        [set, rest @ ..] => {
+            check_fitted_size(alloc, joined, set)?;
+            check_fitted_sizes(alloc, joined, rest)
         }
     }
 }

@@ -9,4 +9,4 @@ mod sets;
 pub use dimension::{check_dimension, check_variables, has_axis};
 pub use joining::{all_called, axis_called, is_new, joining_axis};
 pub use labels::{index_along, index_of_scalars};
-pub use sets::{all_unnamed, unnamed};
+pub use sets::{all_unnamed, names_of, unnamed};

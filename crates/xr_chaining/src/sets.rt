@@ -14,7 +14,8 @@ use std::alloc::{AllocError, Global};
 use xr_types::{Axis, DeepCopy, Items, Name};
 use xr_values::{DataArray, Dataset, Value, Variable, Variables, copy_coords};
 
-fn names_of(alloc: Global, axes: &[Axis]) -> Result<Items<Name>, AllocError>
+/// The names of axes, in order.
+pub fn names_of(alloc: Global, axes: &[Axis]) -> Result<Items<Name>, AllocError>
     ensures { IfOk result (λ names. names ≡ axis_names axes.now) }
 {
     let mut names = Items::new(alloc);

@@ -23,7 +23,7 @@ use Rattle.xr_defs.specs.Carrying.{is_agreed, joined_attrs, joined_coord, shared
 use Rattle.xr_defs.specs.Meanings as of
 use Rattle.xr_defs.specs.Meanings.{Given, Value}
 use Rattle.xr_defs.specs.Parts.{axes_called, new_name, variable_as_array, without_idle}
-use Rattle.xr_defs.specs.Selecting.{axis_called}
+use Rattle.xr_defs.specs.Selecting.{axis_called, check_set}
 use Rattle.xr_defs.specs.Values.{Dataset, Variable, is_scalar}
 use Rattle.xr_defs.specs.WellFormed.{variable_names}
 use Rattle.xr_defs.specs.declared.value.Content.{Content}
@@ -240,16 +240,17 @@ abbrev pub as_given : List Value → Dataset → Value
 as_given vs s =
     if list_all is_array vs then of.Array (record (variable_as_array s (first_variable s.vars)) { name = shared_name (map array_name vs) }) else of.Set s
 
--- data variables, the dimension, the joins of the other axes, the labels along it; then the variables over the joined axes: dimensions
--- and kinds of each, and the cells of those without the dimension; then the fill where it is needed; the limits
+-- data variables, the dimension, the joins of the other axes, the labels along it; then dimensions and kinds of each variable; the fill
+-- where it is needed, and the limits of each value over the joined axes, before a cell is computed; the cells of variables without the
+-- dimension; the limits of the result
 unfoldable pub concat_of : List ℕ → How → Option Value → List Value → Result Value Fault
 concat_of dim j fill vs =
     (let ss = map unnamed vs in
     check_variables ss >>= λ u. check_dimension dim vs ss >>= λ v.
     aligned j (is_some fill) (map (other_axes dim) ss) >>= λ joined. joining_axis dim ss >>= λ x.
     (let ts = map (fitted_set joined (fill_cell fill)) ss in
-    all_of (check_kinds ts) (set_names (first_set ts)) >>= λ w. all_of (check_constant dim ts) (set_names (first_set ts)) >>= λ y.
-    all_of (check_fill joined fill) ss >>= λ z. put_together dim (x ∷ joined) ts >>= λ t.
+    all_of (check_kinds ts) (set_names (first_set ts)) >>= λ w. all_of (check_fill joined fill) ss >>= λ z. all_of check_set ts >>= λ m.
+    all_of (check_constant dim ts) (set_names (first_set ts)) >>= λ y. put_together dim (x ∷ joined) ts >>= λ t.
     (let r = as_given vs t in check_size r >>= λ q. Ok r)))
 
 -- the list has a name that no keyword has: it stands in its place alone

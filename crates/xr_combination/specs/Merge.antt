@@ -135,15 +135,16 @@ coord_merged compat axes ss name =
 
 -- ---- merge
 
--- the joins of all dimensions; names; dimensions; then name by name the variables and the coordinates over the joined axes; the fill where
--- it is needed; the limits
+-- the joins of all dimensions; names; dimensions; the fill where it is needed, and the limits of each value over the joined axes, before
+-- a cell is computed; then name by name the variables and the coordinates; the limits of the result
 unfoldable pub merge_of : Compat → How → Option Value → List Value → Result Dataset Fault
 merge_of compat j fill vs =
     (let ss = map as_dataset vs in
     aligned j (is_some fill) (map (λ (s : Dataset). s.axes) ss) >>= λ axes. unless (not (have_crossing ss)) DuplicateName >>= λ u. check_dims axes ss >>= λ v.
-    (let ts = map (fitted_set axes (fill_cell fill)) ss in
-    each_of (variable_merged compat ts) (all_variables ts) >>= λ vars. each_of (coord_merged compat axes ts) (all_coords axes ts) >>= λ coords.
     all_of (check_fill axes fill) ss >>= λ w.
+    (let ts = map (fitted_set axes (fill_cell fill)) ss in
+    all_of check_set ts >>= λ l. each_of (variable_merged compat ts) (all_variables ts) >>= λ vars.
+    each_of (coord_merged compat axes ts) (all_coords axes ts) >>= λ coords.
     (let r = without_idle (record {
       axes = axes;
       coords = coords;

@@ -240,12 +240,3 @@ pub fn all_same(alloc: Global, arrays: &[ArrayValue]) -> Result<bool, AllocError
     let typed = all_typed(alloc, arrays)?;
     Ok(all_same_typed(typed.as_slice()))
 }
-
-/// Whether two arrays have equal cells, missing ones too, whatever their kinds.
-pub fn same_cells(alloc: Global, a: &ArrayValue, b: &ArrayValue) -> Result<bool, AllocError>
-    ensures { IfOk result (λ same. same ≡ pieces.same_cells a.now b.now) }
-{
-    let one = as_typed(alloc, a)?;
-    let other = as_typed(alloc, b)?;
-    Ok(same_typed(&one, &other))
-}

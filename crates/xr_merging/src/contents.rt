@@ -11,12 +11,11 @@ ghost use Rattle.xr_values.specs.Carrying.{the_attrs};
 ghost use Rattle.xr_values.specs.declared.data_array.DataArray.{DataArray as AnArray};
 ghost use Rattle.xr_merging.specs.Contents.{with_attrs};
 
-use crate::cells::same_cells;
 use std::alloc::{AllocError, Global};
 use xr_combination::Compat;
 use xr_defs::{Content, Coord};
 use xr_types::{Attr, CallFault, DType, DeepCopy, Fault, Items, NoMemory};
-use xr_values::{Carry, DataArray, carry, copy_content, same_calendar};
+use xr_values::{Carry, DataArray, carry, copy_content, same_content};
 
 // ---- attributes that all have alike
 
@@ -78,26 +77,6 @@ fn joined_coord(alloc: Global, coord: &Coord, coords: &[&Coord]) -> Result<Coord
 }
 
 // ---- equal contents
-
-/// Whether two coordinates hold the same: a text, a time and cells are never equal to one another.
-#[tactic(auto, unfolding(xr_defs::specs::Carrying::same_content))]
-fn same_content(alloc: Global, a: &Content, b: &Content) -> Result<bool, AllocError>
-    ensures { IfOk result (λ same. same ≡ same_content a.now b.now) }
-{
-    match (a, b) {
-        (Content::Cells(cells, _), Content::Cells(others, _)) => {
-            if cells.shape() != others.shape() {
-                return Ok(false);
-            }
-            same_cells(alloc, cells, others)
-        }
-        (Content::Text(text), Content::Text(other)) => Ok(text.is(other)),
-        (Content::Time(coding, time), Content::Time(others, other)) => {
-            Ok(same_calendar(coding.units.calendar, others.units.calendar) && time == other)
-        }
-        _ => Ok(false),
-    }
-}
 
 fn all_hold(alloc: Global, content: &Content, coords: &[&Coord]) -> Result<bool, AllocError>
     ensures { IfOk result (λ b. b ≡ list_all (λ (c : ACoord). same_content content.now c.content) (map (λ c. c.now) coords.now)) }

@@ -6,7 +6,6 @@ ghost use Rattle.xr_combination.specs.Concat.{piece_coord};
 ghost use Rattle.xr_combination.specs.Merge as calls;
 ghost use Rattle.xr_combination.specs.Pieces.{each_of};
 ghost use Rattle.xr_defs.specs.Parts.{axes_called};
-ghost use Rattle.xr_defs.specs.Selecting.{axis_called};
 ghost use Rattle.xr_values.specs.Stands.{dataset_in};
 ghost use Rattle.xr_merging.specs.Each.{behind};
 ghost use Rattle.xr_merging.specs.Held.{merged_piece};
@@ -15,27 +14,11 @@ use crate::contents::contents_merged;
 use crate::held::{Merged, merged_or_own, push_held};
 use crate::members::coords_called;
 use std::alloc::Global;
+use xr_chaining::axis_called;
 use xr_combination::Compat;
 use xr_defs::{Content, Coord};
 use xr_types::{Axis, CallFault, DeepCopy, Items, Name, NoMemory};
 use xr_values::Dataset;
-
-// The axis of a name. One that isn't there wants memory.
-#[tactic(auto, using(xr_parts::proofs::Axes::called_here, xr_parts::proofs::Axes::called_on))]
-fn axis_called<'a>(axes: &'a [Axis], name: &Name) -> Result<&'a Axis, NoMemory>
-    ensures { IfOk result (λ x. x.now ≡ axis_called axes.now name.now) }
-{
-    match axes {
-        [] => Err(NoMemory),
-        [axis, rest @ ..] => {
-            if axis.name.is(name) {
-                Ok(axis)
-            } else {
-                axis_called(rest, name)
-            }
-        }
-    }
-}
 
 fn push_called(
     alloc: Global,

@@ -1,7 +1,6 @@
 //! Coordinates of one name that all have cells.
 ghost use Rattle.std.specs.Prelude.{◌≡◌, ◌++◌, ◌∷◌, [], List, flat_map, map, true, IfOk, OnOk};
 ghost use Rattle.std.specs.List.{list_all};
-ghost use Rattle.xr_types.specs.Names.{axis_names};
 ghost use Rattle.xr_types.specs.Results.{Answers};
 ghost use Rattle.xr_types.specs.declared.kind.DType.{DType as Kind};
 ghost use Rattle.xr_combination.specs.Concat.{coord_pieces};
@@ -17,10 +16,11 @@ use crate::order::in_order;
 use crate::shared::shared_array;
 use std::alloc::{AllocError, Global};
 use xr_arrays::ArrayValue;
+use xr_chaining::names_of;
 use xr_combination::Compat;
 use xr_combining::common_kind;
 use xr_defs::{Content, Coord};
-use xr_types::{Attr, Axis, CallFault, DType, DeepCopy, Fault, Items, Name, NoMemory};
+use xr_types::{Attr, CallFault, DType, DeepCopy, Fault, Items, Name, NoMemory};
 use xr_values::DataArray;
 
 /// Cells with the names of their dimensions, as a coordinate has them.
@@ -42,26 +42,6 @@ pub struct Merged {
 }
 
 // ---- coordinates that have cells
-
-fn push_names(alloc: Global, out: &mut Items<Name>, axes: &[Axis]) -> Result<(), AllocError>
-    ensures { OnOk result (out.new ≡ out.old ++ axis_names axes.now) }
-{
-    match axes {
-        [] => Ok(()),
-        [axis, rest @ ..] => {
-            out.push(axis.name.deep_copy(alloc)?)?;
-            push_names(alloc, out, rest)
-        }
-    }
-}
-
-fn names_of(alloc: Global, axes: &[Axis]) -> Result<Items<Name>, AllocError>
-    ensures { IfOk result (λ names. names ≡ axis_names axes.now) }
-{
-    let mut out = Items::new(alloc);
-    push_names(alloc, &mut out, axes)?;
-    Ok(out)
-}
 
 /// Whether they all have cells, which are then added.
 pub(crate) fn push_held<'a>(
@@ -111,7 +91,9 @@ fn push_in_order(
     }
 }
 
-fn in_first_order(alloc: Global, held: &[Held<'_>]) -> Result<Items<ArrayValue>, NoMemory>
+/// The cells of each over the dimensions of the first, in the order in which the first has them. Dimensions that are not those of the
+/// first want memory.
+pub fn in_first_order(alloc: Global, held: &[Held<'_>]) -> Result<Items<ArrayValue>, NoMemory>
     ensures { IfOk result (λ arrays. arrays ≡ pieces.in_first_order (map held_piece held.now)) }
 {
     let mut out = Items::new(alloc);
@@ -161,7 +143,8 @@ fn push_attrs(
     }
 }
 
-fn all_attrs(alloc: Global, held: &[Held<'_>]) -> Result<Items<Attr>, NoMemory>
+/// The attributes that all have in common.
+pub fn all_attrs(alloc: Global, held: &[Held<'_>]) -> Result<Items<Attr>, NoMemory>
     ensures { IfOk result (λ attrs. attrs ≡ pieces.all_attrs (map held_piece held.now)) }
 {
     let mut lists = Items::new(alloc);
@@ -169,7 +152,11 @@ fn all_attrs(alloc: Global, held: &[Held<'_>]) -> Result<Items<Attr>, NoMemory>
     joined_attrs(alloc, lists.as_slice())
 }
 
-fn kind_of_all(alloc: Global, held: &[Held<'_>]) -> Result<DType, CallFault>
+/// The kind to which the cells of all are promoted.
+///
+/// # Errors
+/// `WrongKind` for bytes of text among others; then `WouldPromote` for kinds that aren't promoted to one.
+pub fn kind_of_all(alloc: Global, held: &[Held<'_>]) -> Result<DType, CallFault>
     ensures { Answers (λ (t : Kind). t) result (pieces.common_kind_of (map held_piece held.now)) }
 {
     let mut kinds = Items::new(alloc);

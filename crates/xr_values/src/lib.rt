@@ -24,7 +24,7 @@ pub use dataset::Dataset;
 pub use integers::integers_of;
 pub use joined::without_fills;
 pub use rules::carry;
-pub use same::{same_calendar, same_coord};
+pub use same::{same_calendar, same_content, same_coord};
 pub use value::Value;
 pub use variable::Variable;
 pub use variables::Variables;

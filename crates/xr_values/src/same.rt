@@ -136,8 +136,10 @@ pub fn same_calendar(a: Calendar, b: Calendar) -> bool
     }
 }
 
+/// Whether two coordinates hold the same: numbers are compared whatever their kind; a text, a time and cells are never equal to one
+/// another.
 #[tactic(auto, unfolding(xr_defs::specs::Carrying::same_content))]
-fn same_content(alloc: Global, a: &Content, b: &Content) -> Result<bool, AllocError>
+pub fn same_content(alloc: Global, a: &Content, b: &Content) -> Result<bool, AllocError>
     ensures { IfOk result (λ same. same ≡ same_content a.now b.now) }
 {
     match (a, b) {

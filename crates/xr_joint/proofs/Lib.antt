@@ -1,0 +1,11 @@
+pub mod Firsts
+pub mod Nodes
+pub mod Kept
+pub mod SetsFitted
+pub mod Filled
+pub mod Seen
+pub mod Members
+pub mod Over
+pub mod Placing
+pub mod Limited
+pub mod Failing

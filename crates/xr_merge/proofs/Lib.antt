@@ -1,0 +1,10 @@
+pub mod Opened
+pub mod Others
+pub mod Overriding
+pub mod Attrs
+pub mod Arrays
+pub mod Sound
+pub mod Given
+pub mod Told
+pub mod Steps
+pub mod Called
