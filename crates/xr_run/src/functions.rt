@@ -1,8 +1,12 @@
 //! The functions of scripts: those over values, and the one that takes a file from the store.
-ghost use Rattle.std.specs.Prelude.{◌≡◌, IsTrue, IfOk};
+ghost use Rattle.std.specs.Prelude.{◌≡◌, List, Result, IsTrue, IfOk};
 ghost use denote.Param.Send.{IsSync};
-ghost use Rattle.xr_runs.specs.Calls.{opened_set, function_called, function_over_values};
+ghost use Rattle.xr_runs.specs.Calls.{opened_set, function_called, function_of_several, function_over_values};
 ghost use Rattle.xr_defs.specs.Decoding.{set_in};
+ghost use Rattle.xr_defs.specs.Meanings.{Value as Meant};
+ghost use Rattle.xr_types.specs.declared.fault.Fault.{Fault as AFault};
+ghost use Rattle.xr_arrays.specs.declared.node.Node.{Node};
+ghost use Rattle.xr_joint.specs.Joint.{AnswersOne};
 ghost use Rattle.plan_core.specs.Plans.{Grows};
 ghost use Rattle.xr_values.specs.Meaning.{meaning, given, IsValueIn, AreArgsIn};
 ghost use Rattle.xr_run.specs.Answers.{Gives, GivesOrFails, Tallied};
@@ -18,7 +22,7 @@ use std::rc::Rc;
 use std::thread::Threads;
 use xr_decode::decode_bytes;
 use xr_outside::{Got, Store, StoreFault};
-use xr_types::{CdfKind, DeepCopy, Fault, MOST_FILE_BYTES, TextBytes};
+use xr_types::{CallFault, CdfKind, DeepCopy, Fault, MOST_FILE_BYTES, TextBytes};
 use xr_values::{Args, Cx, Value};
 
 // The dataset of a file's bytes.
@@ -110,6 +114,38 @@ fn value_function<R: Threads + Sync>(
     }
 }
 
+// What a call answers, as the answer of a statement.
+fn told(answer: Result<Value, CallFault>) -> Result<Value, Stopped>
+    ensures value { (nodes : List Node) (means : Result Meant AFault) → AnswersOne nodes answer means → Gives (meaning nodes) result means }
+    ensures inside { (nodes : List Node) (means : Result Meant AFault) → AnswersOne nodes answer means → IfOk result (IsValueIn nodes) }
+{
+    match answer {
+        Ok(value) => Ok(value),
+        Err(fault) => Err(Stopped::from(fault)),
+    }
+}
+
+// A function that makes one value of several, or one of values alone.
+fn function_of_several<R: Threads + Sync>(
+    rt: &R,
+    alloc: Global,
+    cx: &mut Cx<Whole>,
+    name: &TextBytes,
+    args: &Args,
+) -> Result<Value, Stopped>
+    requires sync { IsSync R.row }
+    requires inside { AreArgsIn cx.old.plan args.now }
+    ensures value { Gives (meaning cx.new.plan) result (function_of_several name.now (given cx.old.plan args.now)) }
+    ensures inside { IfOk result (IsValueIn cx.new.plan) }
+    ensures grows { Grows cx.old.plan cx.new.plan }
+{
+    if name.as_str() == "merge" {
+        told(xr_merge::merge(rt, alloc, &mut cx.plan, args))
+    } else {
+        value_function(rt, alloc, cx, name, args)
+    }
+}
+
 /// Calls a function by its name.
 #[tactic(auto, unfolding(xr_runs::specs::Calls::function_called, xr_runs::specs::Calls::open_dataset))]
 pub(crate) fn call_function<R: Threads + Sync, S: Store>(
@@ -132,6 +168,6 @@ pub(crate) fn call_function<R: Threads + Sync, S: Store>(
     if name.as_str() == "open_dataset" {
         open_dataset(alloc, args, store, &mut cx.plan)
     } else {
-        value_function(rt, alloc, cx, name, args)
+        function_of_several(rt, alloc, cx, name, args)
     }
 }

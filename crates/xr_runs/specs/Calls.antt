@@ -29,6 +29,7 @@ use Rattle.xr_groups.specs.declared.maker.Maker.{Maker}
 use Rattle.xr_groups.specs.Calls.{array_grouping, maker_named, set_grouping}
 use Rattle.xr_groups.specs.Methods.{grouped_array, grouped_set}
 use Rattle.xr_relations.specs.Times.{times_given}
+use Rattle.xr_combination.specs.Merge.{merge_called}
 use Rattle.xr_defs.specs.Meanings.{Value, Truth, Number, Text, Array, Set, GroupedArray, GroupedSet, Given}
 use Rattle.xr_defs.specs.Arguments.{wrong, unfit, as_text, slice_given}
 
@@ -64,9 +65,13 @@ uncomputed_function name g =
 unfoldable pub function_over_values : List ℕ → Given → Result Value Fault
 function_over_values name g = if bytes_eq name (codes "DataArray") then (data_array g >>= λ a. Ok (Array a)) else uncomputed_function name g
 
+-- those, and the ones that make one value of several, whose cells may be compared
+unfoldable pub function_of_several : List ℕ → Given → Result Value Fault
+function_of_several name g = if bytes_eq name (codes "merge") then merge_called g else function_over_values name g
+
 unfoldable pub function_called : Files → List ℕ → Given → Result Value Fault
 function_called files name g =
-    if bytes_eq name (codes "open_dataset") then (open_dataset files g >>= λ s. Ok (Set s)) else function_over_values name g
+    if bytes_eq name (codes "open_dataset") then (open_dataset files g >>= λ s. Ok (Set s)) else function_of_several name g
 
 -- ---- x["v"]
 
