@@ -300,11 +300,10 @@ SAID_LIMITS = {"MOST_FILE_BYTES": "{:,} bytes", "MOST_DIMENSIONS": "{} dimension
 def check_facts(wrong):
     """The kit, the limits and the clauses of `run`, where pages name them."""
     readme, count = read("README.md"), 0
-    kits = {it for page in ("README.md", PROVED) for it in re.findall(r"rattle-kit-\S+ logic \w+", read(page))}
-    if shutil.which("rt"):
-        kits.add(subprocess.run(["rt", "version"], capture_output=True, text=True).stdout.strip())
-    if len(kits) != 1:
-        wrong.append(f"the pages and `rt version` name several kits: {sorted(kits)}")
+    kits = [set(re.findall(r"rattle-kit-\S+ logic \w+", read(page))) for page in ("README.md", PROVED)]
+    here = subprocess.run(["rt", "version"], capture_output=True, text=True).stdout.strip() if shutil.which("rt") else min(kits[0])
+    if kits[0] != kits[1] or here not in kits[0] or len({it.rpartition(" ")[2] for it in kits[0]}) != 1:
+        wrong.append(f"the pages name the kits {sorted(kits[0])} and {sorted(kits[1])}, and `rt version` {here}")
     limits = dict(re.findall(r"^pub const (\w+): \w+ = ([\d_]+);", read("crates/xr_types/src/limits.rt"), re.M))
     for name, said in SAID_LIMITS.items():
         if name not in limits or said.format(int(limits[name].replace("_", ""))) not in readme or name == "MOST_CELLS" and int(limits[name].replace("_", "")) != 1 << 25:
