@@ -92,6 +92,19 @@ LINES = [
     ('x, y = align(a, n, join="middle")', 5, ValueError),
     ('x, y = align(a)', 5, ValueError),
     ('x, y = align(a, 5)', 4, AttributeError),
+    ('x = merge([ds, 5])', 4, TypeError),
+    ('x = merge([m])', 5, ValueError),
+    ('x = merge([ds], "equal")', 5, ValueError),
+    ('x = merge([ds], join="middle")', 5, ValueError),
+    ('x = merge([ds, a + 1])', 15, xarray.MergeError),
+    ('x = merge([ds, a * 2], compat="equals")', 15, xarray.MergeError),
+    ('x = merge([a.assign_coords(n=1), a.assign_coords(n=2)])', 15, xarray.MergeError),
+    ('x = merge([a.assign_coords(n=1), a.assign_coords(n="p")])', 15, xarray.MergeError),
+    ('x = merge([ds, n.rename("w")], join="exact")', 14, ValueError),
+    ('x = merge([ds, a.isel(x=[0, 0]).rename("w")], fill_value=0)', 8, ValueError),
+    ('x = merge([ds, m.rename("w")])', 13, ValueError),
+    ('x = merge([a.rename("x")])', 25, ValueError),
+    ('x = merge([ds, DataArray([1, 2], ["v"]).rename("w")])', 25, xarray.MergeError),
 ]
 
 
@@ -108,7 +121,7 @@ def error_of(line, folder):
     here = os.getcwd()
     os.chdir(folder)
     try:
-        names = {"DataArray": data_array, "times": times, "align": xarray.align, "open_dataset": lambda name: xarray.open_dataset(name, mask_and_scale=False).load()}
+        names = {"DataArray": data_array, "times": times, "align": xarray.align, "merge": xarray.merge, "open_dataset": lambda name: xarray.open_dataset(name, mask_and_scale=False).load()}
         exec("\n".join(BEFORE), names)
         try:
             exec(line, names)
