@@ -178,6 +178,9 @@ def both(make):
     return [job for masked in (False, True) for job in make(masked)]
 
 
+# Months of 2.8 million cells, and small files of a thousand: as many as a statement opens, but for some.
+MONTHS = {f"a{k:02}.nc": lambda path, k=k: grid(path, by=31 + k, first=279 * k, times=279) for k in range(12)}
+SMALL_FILES = {f"a{k:03}.nc": lambda path, k=k: grid(path, by=31 + k, first=10 * k, times=10, y=range(10), x=range(10)) for k in range(200)}
 # 20 variables `v`, `v01`, ..
 VARIABLES = {f"m{k:02}.nc": lambda path, k=k: grid(path, by=31 + k, times=160, own=f"v{k:02}" if k else "v") for k in range(20)}
 
@@ -234,6 +237,9 @@ JOBS = [
              tools=[sh("cdo -s -O -b F64 gridboxsum,2,2 a.nc n.nc")]),
         over("cells one time later", A, "a", "a.shift(time=1, fill_value=0).sum()", masked=m),
     ]),
+    *[together(f"{what} end to end, written", files, 'concat(FILES, "time")', 'xarray.concat(FILES, "time", "minimal", "minimal", "equals")',
+               [sh(f"ncrcat -O -h {names} n.nc"), sh(f"cdo -s -O cat {names} n.nc")])
+      for what, files, names in (("12 files of months", MONTHS, "a??.nc"), ("200 small files", SMALL_FILES, "a???.nc"))],
     together("20 variables of as many files merged, written", VARIABLES, "merge(FILES)", 'xarray.merge(FILES, combine_attrs="drop_conflicts")',
              [sh("cdo -s -O merge m??.nc n.nc")]),
 ]

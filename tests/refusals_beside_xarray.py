@@ -92,6 +92,15 @@ LINES = [
     ('x, y = align(a, n, join="middle")', 5, ValueError),
     ('x, y = align(a)', 5, ValueError),
     ('x, y = align(a, 5)', 4, AttributeError),
+    ('x = concat([], "x")', 5, ValueError),
+    ('x = concat([a, ds], "x")', 4, TypeError),
+    ('x = concat([a, a])', 5, TypeError),
+    ('x = concat([a], "x", join="middle")', 5, ValueError),
+    ('x = concat([ds, ds.drop_vars("v")], "x")', 2, ValueError),
+    ('x = concat([a, a.isel(x=[2, 1, 0])], "t", join="exact")', 14, ValueError),
+    ('x = concat([a, a.isel(x=[0, 0])], "t", fill_value=0)', 8, ValueError),
+    ('x = concat([m, m.isel(x=[0])], "t")', 13, ValueError),
+    ('x = concat([a, m], "x")', 10, KeyError),
     ('x = merge([ds, 5])', 4, TypeError),
     ('x = merge([m])', 5, ValueError),
     ('x = merge([ds], "equal")', 5, ValueError),
@@ -121,7 +130,7 @@ def error_of(line, folder):
     here = os.getcwd()
     os.chdir(folder)
     try:
-        names = {"DataArray": data_array, "times": times, "align": xarray.align, "merge": xarray.merge, "open_dataset": lambda name: xarray.open_dataset(name, mask_and_scale=False).load()}
+        names = {"DataArray": data_array, "times": times, "align": xarray.align, "concat": xarray.concat, "merge": xarray.merge, "open_dataset": lambda name: xarray.open_dataset(name, mask_and_scale=False).load()}
         exec("\n".join(BEFORE), names)
         try:
             exec(line, names)
