@@ -181,6 +181,9 @@ def both(make):
 # Months of 2.8 million cells, and small files of a thousand: as many as a statement opens, but for some.
 MONTHS = {f"a{k:02}.nc": lambda path, k=k: grid(path, by=31 + k, first=279 * k, times=279) for k in range(12)}
 SMALL_FILES = {f"a{k:03}.nc": lambda path, k=k: grid(path, by=31 + k, first=10 * k, times=10, y=range(10), x=range(10)) for k in range(200)}
+# 4 by 4 tiles, together of 32 million cells.
+TILES = {f"t{i}{j}.nc": lambda path, i=i, j=j: grid(path, by=31 + 4 * i + j, times=200, y=range(100 * i, 100 * i + 100), x=range(100 * j, 100 * j + 100))
+         for i in range(4) for j in range(4)}
 # 20 variables `v`, `v01`, ..
 VARIABLES = {f"m{k:02}.nc": lambda path, k=k: grid(path, by=31 + k, times=160, own=f"v{k:02}" if k else "v") for k in range(20)}
 
@@ -240,6 +243,8 @@ JOBS = [
     *[together(f"{what} end to end, written", files, 'concat(FILES, "time")', 'xarray.concat(FILES, "time", "minimal", "minimal", "equals")',
                [sh(f"ncrcat -O -h {names} n.nc"), sh(f"cdo -s -O cat {names} n.nc")])
       for what, files, names in (("12 files of months", MONTHS, "a??.nc"), ("200 small files", SMALL_FILES, "a???.nc"))],
+    together("4 by 4 tiles of a grid combined, written", TILES, "combine_by_coords(FILES)", 'xarray.combine_by_coords(FILES, "equals", "minimal", "minimal")',
+             [sh("cdo -s -O collgrid t??.nc n.nc")]),
     together("20 variables of as many files merged, written", VARIABLES, "merge(FILES)", 'xarray.merge(FILES, combine_attrs="drop_conflicts")',
              [sh("cdo -s -O merge m??.nc n.nc")]),
 ]
