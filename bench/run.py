@@ -72,26 +72,25 @@ def flat(path, count):
             left -= min(left, len(block))
 
 
-def grid(path, by=31, records=True, first=0, version=2):
-    """33 million shorts over time, y and x with labels, time being the record dimension or a fixed one; 7 stands for a missing
-    cell. Labels of time are days from `first` on. Versions 1 and 2; another library makes those of version 5."""
-    dims = [text("time") + word(0 if records else TIMES), text("y") + word(ROWS), text("x") + word(COLUMNS)]
+def grid(path, by=31, records=True, first=0, version=2, times=TIMES, y=range(ROWS), x=range(COLUMNS), own="v"):
+    """Shorts over time, y and x with labels, 33 million where nothing else is said, time being the record dimension or a fixed one; 7
+    stands for a missing cell. Labels of time are days from `first` on. Versions 1 and 2; another library makes those of version 5."""
+    dims = [text("time") + word(0 if records else times), text("y") + word(len(y)), text("x") + word(len(x))]
     days = text_attr("units", "days since 2000-01-01")
-    table = 2 * ROWS * COLUMNS
-    cells = shorts(TIMES * ROWS * COLUMNS, by)
-    variables = [("y", [1], [], ints(range(ROWS)), False), ("x", [2], [], ints(range(COLUMNS)), False),
-                 ("time", [0], [days], ints(range(first, first + TIMES)), True),
-                 ("v", [0, 1, 2], [short_attr("_FillValue", 7)], cells, True)]
-    size = {"y": 4 * ROWS, "x": 4 * COLUMNS, "time": 4 if records else 4 * TIMES, "v": table if records else table * TIMES}
+    table = 2 * len(y) * len(x)
+    cells = shorts(times * len(y) * len(x), by)
+    variables = [("y", [1], [], ints(y), False), ("x", [2], [], ints(x), False), ("time", [0], [days], ints(range(first, first + times)), True),
+                 (own, [0, 1, 2], [short_attr("_FillValue", 7)], cells, True)]
+    size = {"y": 4 * len(y), "x": 4 * len(x), "time": 4 if records else 4 * times, own: table if records else table * times}
     wide = 8 if version == 2 else 4
 
     def head(begins):
         entries = []
         for name, ids, attrs, _, _ in variables:
-            kind = 3 if name == "v" else 4
+            kind = 3 if name == own else 4
             entries.append(text(name) + word(len(ids)) + b"".join(map(word, ids)) + tagged(12, attrs) + word(kind) + word(size[name])
                            + begins.get(name, 0).to_bytes(wide, "big"))
-        return b"CDF" + bytes([version]) + word(TIMES if records else 0) + tagged(10, dims) + word(0) * 2 + tagged(11, entries)
+        return b"CDF" + bytes([version]) + word(times if records else 0) + tagged(10, dims) + word(0) * 2 + tagged(11, entries)
 
     at, begins = len(head({})), {}
     for name, _, _, _, _ in variables:
@@ -99,10 +98,10 @@ def grid(path, by=31, records=True, first=0, version=2):
         at += size[name]
     with open(path, "wb") as f:
         f.write(head(begins))
-        labels = ints(range(first, first + TIMES))
+        labels = ints(range(first, first + times))
         f.write(variables[0][3] + variables[1][3])
         if records:
-            for i in range(TIMES):
+            for i in range(times):
                 f.write(labels[4 * i:4 * i + 4] + cells[table * i:table * (i + 1)])
         else:
             f.write(labels + cells)
@@ -130,7 +129,7 @@ class Job:
     python: str = ""
     tools: list = field(default_factory=list)
     needs: str = "xarray"
-    # what is compared: the last line that is printed, the variables of the file that is written, or nothing
+    # what is compared: the last line that is printed, the variables `v` of the file that is written, or nothing
     answer: str = "print"
 
 
@@ -161,12 +160,32 @@ def sh(*commands):
     return ["sh", "-c", " && ".join(commands)]
 
 
+def together(name, files, ours, theirs, tools):
+    """A dataset of all files, written: `ours` and `theirs` are calls with FILES in place of the list of datasets."""
+    names = list(files)
+    opened = ", ".join(f'open_dataset("{n}")' for n in names)
+    code = (f'files = [xarray.open_dataset(n, decode_times=False, mask_and_scale=False, engine="scipy") for n in {names}]\n'
+            f'd = {theirs.replace("FILES", "files")}\nd.to_netcdf("x.nc", format="NETCDF3_64BIT", engine="scipy", unlimited_dims=["time"])\nanswer = "written"')
+    script = f'r = {ours.replace("FILES", f"[{opened}]")}\nr.to_netcdf("w.nc", format="NETCDF3_64BIT", unlimited_dims="time")\n'
+    return Job(name, files, script, inside=code, python="import xarray\n" + code, tools=tools, answer="written")
+
+
 NCO_HALF = f"ncks -O -v v -d time,800,{800 + TIMES // 2 - 1} a.nc n.nc"
 HALF = f"a.isel(time=slice(800, {800 + TIMES // 2}))"
 
 
 def both(make):
     return [job for masked in (False, True) for job in make(masked)]
+
+
+# Months of 2.8 million cells, and small files of a thousand: as many as a statement opens, but for some.
+MONTHS = {f"a{k:02}.nc": lambda path, k=k: grid(path, by=31 + k, first=279 * k, times=279) for k in range(12)}
+SMALL_FILES = {f"a{k:03}.nc": lambda path, k=k: grid(path, by=31 + k, first=10 * k, times=10, y=range(10), x=range(10)) for k in range(200)}
+# 4 by 4 tiles, together of 32 million cells.
+TILES = {f"t{i}{j}.nc": lambda path, i=i, j=j: grid(path, by=31 + 4 * i + j, times=200, y=range(100 * i, 100 * i + 100), x=range(100 * j, 100 * j + 100))
+         for i in range(4) for j in range(4)}
+# 20 variables `v`, `v01`, ..
+VARIABLES = {f"m{k:02}.nc": lambda path, k=k: grid(path, by=31 + k, times=160, own=f"v{k:02}" if k else "v") for k in range(20)}
 
 
 JOBS = [
@@ -221,6 +240,13 @@ JOBS = [
              tools=[sh("cdo -s -O -b F64 gridboxsum,2,2 a.nc n.nc")]),
         over("cells one time later", A, "a", "a.shift(time=1, fill_value=0).sum()", masked=m),
     ]),
+    *[together(f"{what} end to end, written", files, 'concat(FILES, "time")', 'xarray.concat(FILES, "time", "minimal", "minimal", "equals")',
+               [sh(f"ncrcat -O -h {names} n.nc"), sh(f"cdo -s -O cat {names} n.nc")])
+      for what, files, names in (("12 files of months", MONTHS, "a??.nc"), ("200 small files", SMALL_FILES, "a???.nc"))],
+    together("4 by 4 tiles of a grid combined, written", TILES, "combine_by_coords(FILES)", 'xarray.combine_by_coords(FILES, "equals", "minimal", "minimal")',
+             [sh("cdo -s -O collgrid t??.nc n.nc")]),
+    together("20 variables of as many files merged, written", VARIABLES, "merge(FILES)", 'xarray.merge(FILES, combine_attrs="drop_conflicts")',
+             [sh("cdo -s -O merge m??.nc n.nc")]),
 ]
 
 
@@ -256,13 +282,14 @@ SAME = """
 import sys
 import numpy as np
 from scipy.io import netcdf_file
-a, b = (netcdf_file(name, "r", mmap=False).variables["v" if len(sys.argv) < 4 else sys.argv[3]] for name in sys.argv[1:3])
-sys.exit(0 if a.shape == b.shape and np.array_equal(a[:], b[:]) else 1)
+a, b = (netcdf_file(name, "r", mmap=False).variables for name in sys.argv[1:3])
+names = [name for name in a if name[0] == "v"]
+sys.exit(0 if all(name in b and a[name].shape == b[name].shape and np.array_equal(a[name][:], b[name][:]) for name in names) else 1)
 """
 
 
 def same_files(folder, mine, theirs):
-    """Whether two files hold the same cells of v; floats are compared as numbers."""
+    """Whether two files hold the same cells of all variables `v`, `v01`, ..; floats are compared as numbers."""
     ran = subprocess.run([PYTHON, "-W", "ignore", "-c", SAME, mine, theirs], cwd=folder, capture_output=True)
     return ran.returncode == 0
 

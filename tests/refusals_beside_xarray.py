@@ -92,6 +92,36 @@ LINES = [
     ('x, y = align(a, n, join="middle")', 5, ValueError),
     ('x, y = align(a)', 5, ValueError),
     ('x, y = align(a, 5)', 4, AttributeError),
+    ('x = concat([], "x")', 5, ValueError),
+    ('x = concat([a, ds], "x")', 4, TypeError),
+    ('x = concat([a, a])', 5, TypeError),
+    ('x = concat([a], "x", join="middle")', 5, ValueError),
+    ('x = concat([ds, ds.drop_vars("v")], "x")', 2, ValueError),
+    ('x = concat([a, a.isel(x=[2, 1, 0])], "t", join="exact")', 14, ValueError),
+    ('x = concat([a, a.isel(x=[0, 0])], "t", fill_value=0)', 8, ValueError),
+    ('x = concat([m, m.isel(x=[0])], "t")', 13, ValueError),
+    ('x = concat([a, m], "x")', 10, KeyError),
+    ('x = combine_by_coords([ds, 5])', 4, TypeError),
+    ('x = combine_by_coords([ds], compat="equal")', 5, ValueError),
+    ('x = combine_by_coords([ds], join="middle")', 5, ValueError),
+    ('x = combine_by_coords([ds, ds])', 15, ValueError),
+    ('x = combine_by_coords([ds, ds.isel(x=slice(0))])', 15, ValueError),
+    ('x = combine_by_coords([ds.isel(x=[0, 2, 1]), ds.isel(x=[1])])', 9, ValueError),
+    ('x = combine_by_coords([ds.isel(x=[0, 1]), ds.isel(x=[2, 1])])', 9, ValueError),
+    ('x = combine_by_coords([ds.isel(x=[0, 2]), ds.isel(x=[1])])', 9, ValueError),
+    ('x = merge([ds, 5])', 4, TypeError),
+    ('x = merge([m])', 5, ValueError),
+    ('x = merge([ds], "equal")', 5, ValueError),
+    ('x = merge([ds], join="middle")', 5, ValueError),
+    ('x = merge([ds, a + 1])', 15, xarray.MergeError),
+    ('x = merge([ds, a * 2], compat="equals")', 15, xarray.MergeError),
+    ('x = merge([a.assign_coords(n=1), a.assign_coords(n=2)])', 15, xarray.MergeError),
+    ('x = merge([a.assign_coords(n=1), a.assign_coords(n="p")])', 15, xarray.MergeError),
+    ('x = merge([ds, n.rename("w")], join="exact")', 14, ValueError),
+    ('x = merge([ds, a.isel(x=[0, 0]).rename("w")], fill_value=0)', 8, ValueError),
+    ('x = merge([ds, m.rename("w")])', 13, ValueError),
+    ('x = merge([a.rename("x")])', 25, ValueError),
+    ('x = merge([ds, DataArray([1, 2], ["v"]).rename("w")])', 25, xarray.MergeError),
 ]
 
 
@@ -108,7 +138,7 @@ def error_of(line, folder):
     here = os.getcwd()
     os.chdir(folder)
     try:
-        names = {"DataArray": data_array, "times": times, "align": xarray.align, "open_dataset": lambda name: xarray.open_dataset(name, mask_and_scale=False).load()}
+        names = {"DataArray": data_array, "times": times, "align": xarray.align, "concat": xarray.concat, "merge": xarray.merge, "combine_by_coords": xarray.combine_by_coords, "open_dataset": lambda name: xarray.open_dataset(name, mask_and_scale=False).load()}
         exec("\n".join(BEFORE), names)
         try:
             exec(line, names)
