@@ -1,0 +1,7 @@
+pub mod Firsts
+pub mod Joined
+pub mod Turned
+pub mod There
+pub mod Brought
+pub mod Alike
+pub mod Whole
