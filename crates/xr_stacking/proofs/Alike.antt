@@ -1,5 +1,5 @@
 -- The dimensions and kinds of the variables of a name.
-use Rattle.std.proofs.Common.{◌≡◌, ◌∙◌, ℕ, Bool, true, false, List, [], ◌∷◌, map, Option, Some, None, Result, Ok, Err, refl, sym, ap}
+use Rattle.std.proofs.Common.{◌≡◌, ◌∙◌, ℕ, true, false, List, [], ◌∷◌, map, Option, Some, None, Result, Ok, Err, refl, sym, ap}
 use Rattle.std.specs.Prelude.{find, option_map}
 use Rattle.std.specs.Str.{bytes_eq}
 use Rattle.xr_types.specs.Results.{◌>>=◌, unless, Answers}
@@ -10,7 +10,7 @@ use Rattle.xr_types.specs.declared.fault.Fault.TheVariants.{Conflict}
 use Rattle.xr_types.specs.declared.kind.DType.{DType}
 use Rattle.xr_arrays.specs.declared.node.Node.{Node}
 use Rattle.xr_combination.specs.Concat.{check_kinds, pieces_called}
-use Rattle.xr_combination.specs.Pieces.{common_kind_in, have_dims_of_first, kinds_of, variable_piece, variables_called as those_called}
+use Rattle.xr_combination.specs.Pieces.{common_kind_in, kinds_of, variable_piece, variables_called as those_called}
 use Rattle.xr_defs.specs.Values as of
 use Rattle.xr_merging.proofs.Called.{found_in, over_first}
 use Rattle.xr_merging.specs.Dims.{are_over_first, is_variable_over}

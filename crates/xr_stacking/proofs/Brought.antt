@@ -1,11 +1,11 @@
 -- Parts of a plan that are brought one after the other.
-use Rattle.std.proofs.Common.{◌≡◌, ◌∙◌, ◌<◌, ◌≤◌, ℕ, Bool, true, List, [], ◌∷◌, ◌++◌, length, get_or, map, All, refl, sym, ap, subst, arith, append_assoc}
+use Rattle.std.proofs.Common.{◌≡◌, ◌∙◌, ◌<◌, ◌≤◌, ℕ, Bool, List, [], ◌∷◌, ◌++◌, length, get_or, map, refl, sym, ap, subst, arith, append_assoc}
 use Rattle.std.specs.List.{AllByRecursion}
 use Rattle.std.proofs.lemmas.List.{append-nil}
 use Rattle.std.proofs.lemmas.List.Elements.{All-cons, All-nil}
 use Rattle.xr_types.specs.declared.kind.DType.{DType}
 use Rattle.xr_arrays.specs.Arrays.{Array}
-use Rattle.xr_arrays.specs.Nodes.{concatenated, reordered, value, AllFit}
+use Rattle.xr_arrays.specs.Nodes.{concatenated, reordered, AllFit}
 use Rattle.xr_arrays.specs.declared.node.Node.{Node}
 use Rattle.plan_core.specs.Plans.{Grows}
 use Rattle.plan_core.proofs.Plans.{grown_value, grown-length}

@@ -1,14 +1,15 @@
 -- Arrays in line are put one after the other.
-use Rattle.std.proofs.Common.{◌≡◌, ◌∙◌, ◌<◌, ◌≤◌, ℕ, List, [], ◌∷◌, length, map, get_or, set, sum, All, refl, sym, ap, subst, arith}
+use Rattle.std.proofs.Common.{◌≡◌, ◌∙◌, ◌<◌, ◌≤◌, ℕ, List, [], ◌∷◌, length, map, get_or, set, sum, All, Bor, refl, sym, ap, subst, arith}
 use Rattle.std.specs.List.{AllByRecursion}
-use Rattle.std.proofs.lemmas.List.Elements.{All-cons, All-nil}
+use Rattle.std.proofs.lemmas.List.{length-map}
+use Rattle.std.proofs.lemmas.List.Elements.{All-cons, All-head, All-nil, All-tail}
 use Rattle.xr_types.specs.Points.{size}
 use Rattle.xr_types.specs.declared.kind.DType.{DType}
 use Rattle.xr_arrays.specs.Arrays.{Array}
-use Rattle.xr_arrays.specs.Nodes.{concatenated, first_array, most_axes, most_node_cells, Continues}
+use Rattle.xr_arrays.specs.Nodes.{concatenated, first_array, most_node_cells, Continues}
 use Rattle.xr_combination.specs.Pieces.{as_kind}
 use Rattle.xr_combining.specs.Placing.{CanJoin}
-use Rattle.xr_stacking.specs.Lines.{extent, first_shape, joined_shape, InLine, SameBut}
+use Rattle.xr_stacking.specs.Lines.{first_shape, joined_shape, InLine, SameBut}
 
 abbrev pub shapes_of : List Array → List (List ℕ)
 shapes_of bs = map (λ (b : Array). b.shape) bs
@@ -49,3 +50,22 @@ module _ (axis : ℕ) where
 pub kind_joined : (t : DType) (axis : ℕ) (bs : List Array) → AreOfKind t bs → 0 < length bs → (concatenated bs axis).kind ≡ t
 kind_joined t axis [] kinds some = absurd (omega arith)
 kind_joined t axis (b ∷ bs) kinds some = kinds.0
+
+-- ---- arrays at hand
+
+unmapped : {A B : Type 0} (P : B → Type 0) (f : A → B) (xs : List A) → All P (map f xs) → All (λ x. P (f x)) xs
+unmapped P f [] all = All-nil (λ x. P (f x))
+unmapped P f (x ∷ xs) all = All-cons (λ x. P (f x)) x xs (All-head P (f x) (map f xs) all) (unmapped P f xs (All-tail P (f x) (map f xs) all))
+
+abbrev pub seen : List (Bor Array) → List Array
+seen inputs = map (λ (a : Bor Array). a.now) inputs
+
+module _ (axis : ℕ) (kind : DType) (xs cast : List Array) (shapes : List (List ℕ)) (inputs : List (Bor Array)) (is : cast ≡ map (as_kind kind) xs) (are : shapes ≡ shapes_of cast) (line : InLine axis shapes) (same : seen inputs ≡ cast) where
+  pub inputs_join : CanJoin axis (seen inputs)
+  inputs_join = subst (CanJoin axis) (sym (same ∙ is)) (can_join axis kind (map (as_kind kind) xs) (cast_kinds kind xs) (subst (InLine axis) (are ∙ ap shapes_of is) line))
+
+  pub inputs_some : 0 < length inputs
+  inputs_some = let joined = inputs_join in let some = joined.some in let long = length-map inputs (λ (a : Bor Array). a.now) in omega arith
+
+  pub inputs_each : All (λ (a : Bor Array). Continues axis (first_array (seen inputs)) a.now) inputs
+  inputs_each = let joined = inputs_join in unmapped (Continues axis (first_array (seen inputs))) (λ (a : Bor Array). a.now) inputs joined.each

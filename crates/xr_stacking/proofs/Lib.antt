@@ -5,3 +5,4 @@ pub mod There
 pub mod Brought
 pub mod Alike
 pub mod Whole
+pub mod Ended

@@ -1,14 +1,14 @@
 -- Arrays of which no cell is missing.
-use Rattle.std.proofs.Common.{◌≡◌, ◌∙◌, ◌<◌, ◌≤◌, ◌*◌, ◌++◌, ℕ, ℤ, Bool, true, false, List, [], ◌∷◌, length, map, get_or, All, Option, Some, None, is_some, refl, sym, ap, subst, arith}
+use Rattle.std.proofs.Common.{◌≡◌, ℕ, ℤ, Bool, true, false, List, [], ◌∷◌, length, All, Option, Some, None, is_some, refl, sym, subst, arith}
 use Rattle.std.specs.Prelude.{IfSome}
-use Rattle.std.specs.List.{AllByRecursion, flat_map}
+use Rattle.std.specs.List.{AllByRecursion}
 use Rattle.std.proofs.lemmas.List.Elements.{All-append, All-cons, All-head, All-nil, All-tail}
 use Rattle.xr_types.specs.Points.{place, size, IsPoint}
 use Rattle.xr_types.specs.declared.kind.DType.{DType}
 use Rattle.xr_types.specs.declared.operation.OpKind.TheVariants as ops
-use Rattle.xr_arrays.specs.Arrays.{Array, at, IsArray}
+use Rattle.xr_arrays.specs.Arrays.{Array, at}
 use Rattle.xr_arrays.specs.Elements.{elem}
-use Rattle.xr_arrays.specs.Nodes.{concatenated, first_array, reordered, value, widened, AllFit, Continues, IsOrder, most_node_cells}
+use Rattle.xr_arrays.specs.Nodes.{concatenated, first_array, reordered, value, AllFit, Continues, IsOrder}
 use Rattle.xr_arrays.specs.declared.node.Node.{Node}
 use Rattle.plan_core.specs.Arrangements.{cell_from, rearranged, LieInside, ShowsAll}
 use Rattle.plan_core.specs.Concats.{row_of}

@@ -1,20 +1,23 @@
 -- The coordinates of a name.
-use Rattle.std.proofs.Common.{◌≡◌, ◌∙◌, ◌==◌, ◌||◌, ℕ, Bool, true, false, not, List, [], ◌∷◌, ◌++◌, length, map, cond, Option, Some, None, refl, sym, ap, subst}
-use Rattle.std.specs.Prelude.{find, IfSome, if◌then◌else◌}
+use Rattle.std.proofs.Common.{◌≡◌, ◌∙◌, ◌≤◌, ◌||◌, ℕ, Bool, true, false, not, List, [], ◌∷◌, ◌++◌, length, get_or, map, cond, Option, Some, None, sym, ap, subst}
+use Rattle.std.specs.Prelude.{find, flat_map, IfSome, if◌then◌else◌}
 use Rattle.std.specs.Str.{bytes_eq}
 use Rattle.std.specs.List.{AllByRecursion}
 use Rattle.std.proofs.lemmas.List.{append-nil}
-use Rattle.xr_types.specs.Names.{among, axis_names, shape_over}
+use Rattle.xr_types.specs.Names.{shape_over}
 use Rattle.xr_types.specs.Points.{size}
 use Rattle.xr_types.specs.declared.axis.Axis.{Axis}
-use Rattle.xr_arrays.specs.Arrays.{IsArray}
-use Rattle.xr_combination.specs.Concat.{coord_concatenated, coord_kept, coord_of_all, has_all}
-use Rattle.xr_combination.specs.Pieces.{coords_called}
+use Rattle.xr_arrays.specs.declared.node.Node.{Node}
+use Rattle.xr_combination.specs.Concat.{coord_of_all, has_all}
+use Rattle.xr_combination.specs.Pieces.{coords_called, first_set}
 use Rattle.xr_defs.specs.Values as of
 use Rattle.xr_defs.specs.WellFormed.{IsContent, IsCoordinate}
 use Rattle.xr_defs.specs.declared.value.Content.{Content}
 use Rattle.xr_defs.specs.declared.value.Content.TheVariants as contents
 use Rattle.xr_defs.specs.declared.value.Coord.{Coord}
+use Rattle.xr_stacking.proofs.Firsts.{whole}
+use Rattle.xr_values.specs.Stands.{dataset_in}
+use Rattle.xr_values.specs.declared.dataset.Dataset.{Dataset}
 use Rattle.xr_stacking.specs.Coords.{coord_found, AreWhole, HasCoordinates, IsWhole, IsWholeContent}
 
 -- ---- their cells are arrays
@@ -61,3 +64,9 @@ none_of_all dim axes ss c cs out is lacks = sym (ap (λ ds. out ++ ds) (of_all d
 pub one_of_all : (dim : List ℕ) (axes : List Axis) (ss : List of.Dataset) (c : Coord) (cs : List Coord) (out new : List Coord) → cs ≡ coords_called c.name ss → (bytes_eq c.name dim || not (has_all ss cs)) ≡ false → new ≡ out ++ coord_found dim axes c cs
     → new ≡ out ++ coord_of_all dim axes ss c
 one_of_all dim axes ss c cs out new is has made = made ∙ ap (λ ds. out ++ ds) (sym (of_all dim axes ss c cs is ∙ ap (λ b. chosen b (coord_found dim axes c cs)) has))
+
+-- of those of the first
+pub first_found : (nodes : List Node) (found : Coord → List Coord) (ss : List Dataset) (first : Dataset) (cs out new : List Coord) → 1 ≤ length ss → first ≡ get_or ss 0 first → out ≡ [] → cs ≡ first.coords → new ≡ out ++ flat_map found cs
+    → new ≡ flat_map found (first_set (map (dataset_in nodes) ss)).coords
+first_found nodes found ss first cs out new some is empty same made =
+    made ∙ ap (λ os. os ++ flat_map found cs) empty ∙ ap (flat_map found) (same ∙ sym (ap (λ ts. (first_set (map (dataset_in nodes) ts)).coords) (whole ss first some is)))

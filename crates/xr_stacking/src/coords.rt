@@ -1,5 +1,5 @@
 //! The coordinates that stand for those of several datasets.
-ghost use Rattle.std.specs.Prelude.{◌≡◌, ◌++◌, List, filter, flat_map, length, map, true, IfOk, OnOk};
+ghost use Rattle.std.specs.Prelude.{◌≡◌, ◌++◌, List, filter, flat_map, length, map, false, true, IfOk, OnOk};
 ghost use Rattle.std.specs.List.{list_all, AllByRecursion};
 ghost use Rattle.std.specs.Str.{bytes_eq};
 ghost use Rattle.std.specs.Cmp.Lexicographic.{pointwise};

@@ -1,4 +1,4 @@
-use Rattle.std.proofs.Common.{◌≡◌, ◌∙◌, sym, subst}
+use Rattle.std.proofs.Common.{◌∙◌, sym, subst}
 use Rattle.xr_combining.specs.Placing.{CanJoin}
 use Rattle.xr_stacking.proofs.Brought.{brought_nodes, parts_join, parts_kind, parts_shape, parts_there}
 use Rattle.xr_stacking.proofs.stack.end_to_end.Goals as goal

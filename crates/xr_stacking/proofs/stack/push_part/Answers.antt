@@ -1,6 +1,6 @@
-use Rattle.std.proofs.Common.{rules, refl, ap, ◌∙◌}
+use Rattle.std.proofs.Common.{refl, ap, ◌∙◌}
 use Rattle.xr_stacking.specs.Parts.{steps_to}
-use Rattle.xr_stacking.proofs.Turned.{chain_brought, chain_fits}
+use Rattle.xr_stacking.proofs.Turned.{chain_fits}
 use Rattle.xr_stacking.proofs.stack.push_part.Goals as goal
 
 pub push_chain-requires : goal.push_chain-requires
