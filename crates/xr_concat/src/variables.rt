@@ -146,7 +146,16 @@ fn lengthened(
             let dims = first.dims.as_slice();
             let axis = place_in(dims, dim);
             let sizes = sizes_called(alloc, axes, dims)?;
-            let node = end_to_end(alloc, plan, kind, dims, false, axis, sizes.as_slice(), parts)?;
+            let node = end_to_end(
+                alloc,
+                plan,
+                kind,
+                dims,
+                false,
+                axis,
+                sizes.as_slice(),
+                parts,
+            )?;
             variable_with(alloc, name, dims, kind, vars, node)
         }
     }
@@ -237,7 +246,17 @@ fn variable_concatenated(
     let kind = kind_of_all(alloc, vars)?;
     let parts = parts_called(alloc, sets, name)?;
     let new = is_new(dim, sets);
-    let var = put_together(alloc, plan, axes, dim, new, name, kind, vars, parts.as_slice())?;
+    let var = put_together(
+        alloc,
+        plan,
+        axes,
+        dim,
+        new,
+        name,
+        kind,
+        vars,
+        parts.as_slice(),
+    )?;
     Ok(var)
 }
 
@@ -289,7 +308,15 @@ pub(crate) fn variables_concatenated(
     match sets {
         [] => Ok(out),
         [first, ..] => {
-            push_concatenated(alloc, plan, &mut out, axes, dim, sets, first.vars.as_slice())?;
+            push_concatenated(
+                alloc,
+                plan,
+                &mut out,
+                axes,
+                dim,
+                sets,
+                first.vars.as_slice(),
+            )?;
             Ok(out)
         }
     }
