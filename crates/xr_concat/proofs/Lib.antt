@@ -1,0 +1,9 @@
+pub mod Listed
+pub mod Alike
+pub mod Fitted
+pub mod Sound
+pub mod Large
+pub mod Answered
+pub mod Putting
+pub mod Told
+pub mod Called
