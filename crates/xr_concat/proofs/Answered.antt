@@ -1,5 +1,5 @@
 -- What is put together as an array or a dataset.
-use Rattle.std.proofs.Common.{◌≡◌, ◌∙◌, ◌&&◌, ◌||◌, ℕ, Bool, true, false, cond, List, [], ◌∷◌, filter, map, Option, Result, Ok, Err, refl, sym, ap, subst}
+use Rattle.std.proofs.Common.{◌≡◌, ◌∙◌, ◌&&◌, ◌||◌, ℕ, Bool, true, false, cond, List, [], ◌∷◌, filter, get_or, length, map, Option, Result, Ok, Err, arith, refl, sym, ap, subst}
 use Rattle.std.specs.Prelude.{if◌then◌else◌}
 use Rattle.std.specs.List.{list_all, AllByRecursion}
 use Rattle.std.specs.declared.alloc.Global.{Global}
@@ -46,6 +46,11 @@ module _ (nodes : List Node) (a : DataArray) where
   array_refused e = ap (λ b. unless b TooLarge >>= λ u. Ok (array_in nodes a)) e
 
 -- ---- the one variable of a dataset as an array
+
+pub alone : {X : Type 0} (xs : List X) (x : X) → length xs ≡ 1 → x ≡ get_or xs 0 x → xs ≡ x ∷ []
+alone [] x one is = absurd (omega arith)
+alone (y ∷ []) x one is = (λ i. sym is i ∷ [])
+alone (y ∷ z ∷ ys) x one is = absurd (omega arith)
 
 shape_same : (axes : List Axis) (ds : List (List ℕ)) → shape_over (axes_called axes ds) ≡ map (λ d. (axis_called axes d).size) ds
 shape_same axes [] = refl

@@ -1,5 +1,5 @@
 -- The call by its arguments, one after the other.
-use Rattle.std.proofs.Common.{◌≡◌, ◌∙◌, ℕ, codes, List, [], ◌∷◌, Option, Some, Result, Ok, Err, sym, ap}
+use Rattle.std.proofs.Common.{◌≡◌, ◌∙◌, ℕ, codes, List, [], ◌∷◌, Option, Result, Ok, Err, sym, ap}
 use Rattle.xr_types.specs.Results.{◌>>=◌, Answers}
 use Rattle.xr_types.specs.declared.fault.CallFault.{CallFault}
 use Rattle.xr_types.specs.declared.fault.Fault.{Fault}
@@ -48,9 +48,9 @@ module _ (g : Given) (names : List (List ℕ)) (named : names ≡ parameters) (a
   pub at_list : concat_called g ≡ by_list args (required (argument args 0))
   at_list = at_names g names named ∙ ap by_names told
 
-  module _ (l : Value) (there : argument args 0 ≡ Some l) where
+  module _ (l : Value) (there : required (argument args 0) ≡ Ok l) where
     pub at_second : concat_called g ≡ by_second args l (required (argument args 1))
-    at_second = at_list ∙ ap (λ o. by_list args (required o)) there
+    at_second = at_list ∙ ap (by_list args) there
 
     module _ (d : Value) (second : required (argument args 1) ≡ Ok d) where
       pub at_values : concat_called g ≡ by_values args d (alike_given l)
@@ -82,7 +82,7 @@ module _ (nodes : List Node) (r : Result Held CallFault) (e : CallFault) (here :
     list_fails view o is told =
         one_fails nodes view r e (required o) (λ l. by_second args l (required (argument args 1))) (concat_called g) here (at_list g names named args bound_is ∙ ap (λ p. by_list args (required p)) (sym is)) told
 
-    module _ (l : Value) (there : argument args 0 ≡ Some l) where
+    module _ (l : Value) (there : required (argument args 0) ≡ Ok l) where
       pub second_fails : {A : Type 0} (view : A → Value) (o : Option Value) → o ≡ argument args 1 → Answers view (Err e) (required o) → AnswersOne nodes r (concat_called g)
       second_fails view o is told =
           one_fails nodes view r e (required o) (λ d. by_values args d (alike_given l)) (concat_called g) here (at_second g names named args bound_is l there ∙ ap (λ p. by_second args l (required p)) (sym is)) told

@@ -12,18 +12,16 @@ use Rattle.xr_combination.specs.Concat.{check_kinds, pieces_called, set_names}
 use Rattle.xr_combination.specs.Pieces.{Piece, common_kind_in, first_piece, first_set, have_dims_of_first, have_same_dims, kinds_of, variable_piece, variables_called}
 use Rattle.xr_defs.specs.Values.{Dataset, Variable}
 use Rattle.xr_defs.specs.WellFormed.{variable_names}
+use Rattle.xr_merging.proofs.Called.{dims_of}
 use Rattle.xr_relations.specs.Aligning.{fitted_set, fitted_variable}
 
 -- ---- the dimensions of pieces
 
-abbrev dims_of : List Piece → List (List (List ℕ))
-dims_of ps = map (λ (p : Piece). p.dims) ps
-
-abbrev first_of : List (List (List ℕ)) → List (List ℕ)
+abbrev pub first_of : List (List (List ℕ)) → List (List ℕ)
 first_of [] = []
 first_of (ds ∷ rest) = ds
 
-first_dims : (ps : List Piece) → (first_piece ps).dims ≡ first_of (dims_of ps)
+pub first_dims : (ps : List Piece) → (first_piece ps).dims ≡ first_of (dims_of ps)
 first_dims [] = refl
 first_dims (p ∷ ps) = refl
 

@@ -1,6 +1,7 @@
 pub mod Listed
 pub mod Alike
 pub mod Fitted
+pub mod Sized
 pub mod Sound
 pub mod Large
 pub mod Answered

@@ -1,5 +1,5 @@
 -- The definition of the call, step by step as the program takes it.
-use Rattle.std.proofs.Common.{◌≡◌, ◌∙◌, ◌≤◌, ◌-◌, ℕ, Bool, List, [], ◌∷◌, drop, length, map, take, Option, is_some, Result, Ok, Err, arith, refl, sym, ap}
+use Rattle.std.proofs.Common.{◌≡◌, ◌∙◌, ◌≤◌, ◌-◌, ℕ, Bool, List, [], ◌∷◌, drop, length, map, take, Option, Some, None, is_some, option_map, Result, Ok, Err, arith, refl, sym, ap}
 use Rattle.std.proofs.lemmas.List.{take_all}
 use Rattle.xr_types.specs.Results.{◌>>=◌, all_of}
 use Rattle.xr_types.specs.declared.axis.Axis.{Axis}
@@ -54,9 +54,6 @@ module _ (dim : List ℕ) (axes : List Axis) (vs : List meant.Value) (ss : List 
 -- ---- over joined axes
 
 module _ (dim : List ℕ) (joined axes : List Axis) (fill : Option meant.Value) (vs : List meant.Value) where
-  abbrev own : List of.Dataset
-  own = map unnamed vs
-
   abbrev pub all_over : List of.Dataset
   all_over = over joined (fill_cell fill) (map unnamed vs)
 
@@ -75,6 +72,10 @@ module _ (dim : List ℕ) (joined axes : List Axis) (fill : Option meant.Value) 
 
 others_are : {X : Type 0} (x : X) (xs : List X) → others (x ∷ xs) ≡ xs
 others_are x xs = let n : length (x ∷ xs) - 1 ≡ length xs = omega arith in ap (λ k. take k xs) n ∙ take_all (length xs) xs (omega arith)
+
+pub some_kept : {X Y : Type 0} (f : X → Y) (o : Option X) → is_some (option_map f o) ≡ is_some o
+some_kept f None = refl
+some_kept f (Some x) = refl
 
 module _ (dim : List ℕ) (how : How) (fill : Option meant.Value) (vs : List meant.Value) where
   abbrev sets : List of.Dataset
