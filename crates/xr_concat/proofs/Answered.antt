@@ -31,6 +31,7 @@ use Rattle.xr_values.specs.declared.dataset.Dataset.{Dataset}
 use Rattle.xr_values.specs.declared.value.Value.{Value}
 use Rattle.xr_values.specs.declared.value.Value.TheVariants as variants
 use Rattle.xr_values.specs.declared.variable.Variable.{Variable}
+use Rattle.xr_concat.proofs.Sized.{shape_same}
 use Rattle.xr_concat.specs.Answered.{array_answered, array_with, single}
 use Rattle.xr_concat.specs.Steps.{answered}
 
@@ -51,10 +52,6 @@ pub alone : {X : Type 0} (xs : List X) (x : X) → length xs ≡ 1 → x ≡ get
 alone [] x one is = absurd (omega arith)
 alone (y ∷ []) x one is = (λ i. sym is i ∷ [])
 alone (y ∷ z ∷ ys) x one is = absurd (omega arith)
-
-shape_same : (axes : List Axis) (ds : List (List ℕ)) → shape_over (axes_called axes ds) ≡ map (λ d. (axis_called axes d).size) ds
-shape_same axes [] = refl
-shape_same axes (d ∷ ds) = (λ i. (axis_called axes d).size ∷ shape_same axes ds i)
 
 all_filtered : (p : Coord → Bool) (cs : List Coord) → AllByRecursion HoldsContent cs → AllByRecursion HoldsContent (filter p cs)
 all_filtered p [] all = tt

@@ -27,14 +27,11 @@ use Rattle.xr_parts.proofs.Axes.{called_cons}
 use Rattle.xr_reducing.proofs.Idle.{has_axis, has_dim, vars_have}
 use Rattle.xr_relations.specs.Aligning.{check_size}
 use Rattle.xr_stacking.specs.Members.{dims_after, dims_called}
+use Rattle.xr_concat.proofs.Sized.{shape_same}
 use Rattle.xr_concat.specs.Limits.{are_within_called, is_within_called}
 use Rattle.xr_concat.specs.Steps.{answered, made_of}
 
 -- ---- sizes over the axes that something has
-
-shape_same : (axes : List Axis) (ds : List (List ℕ)) → shape_over (axes_called axes ds) ≡ map (λ d. (axis_called axes d).size) ds
-shape_same axes [] = refl
-shape_same axes (d ∷ ds) = (λ i. (axis_called axes d).size ∷ shape_same axes ds i)
 
 or-yes : (b : Bool) → (b || true) ≡ true
 or-yes true = refl
@@ -200,13 +197,16 @@ module _ (dim : List ℕ) (ss : List Dataset) where
     put_made vars are = ap (λ r. r >>= λ us. Ok (set_of us)) are
 
     pub too_large : all_of (check_kinds ss) (set_names (first_set ss)) ≡ Ok tt → all_of (check_constant dim ss) (set_names (first_set ss)) ≡ Ok tt → (list_all is_array vs ≡ true → length (first_set ss).vars ≤ 1)
-        → are_within_called all dim ss ≡ false → made_of dim axes vs ss ≡ Err TooLarge
+        → (own : List Axis) → own ≡ all → (b : Bool) → b ≡ are_within_called own dim ss → b ≡ false → made_of dim axes vs ss ≡ Err TooLarge
     unfolding made_of
-    too_large checked constant one wide =
+    too_large checked constant one own own_is b b_is fails =
         ap (λ r. r >>= λ u. put_together dim axes ss >>= λ t. answered vs t) constant
         ∙ ap (λ r. r >>= λ t. answered vs t) (put_made made.vars made.are)
         ∙ answer_refused vs (set_of made.vars) (all_left (set_of made.vars).coords made.vars all made.vars (vars_have made.vars) ∙ made.narrow ∙ wide) (λ arrays. let few = one arrays in let same = made.count in let named = names_long (first_set ss).vars in omega arith)
       where
+        wide : are_within_called all dim ss ≡ false
+        wide = ap (λ xs. are_within_called xs dim ss) (sym own_is) ∙ sym b_is ∙ fails
+
         made : AreMade all (set_names (first_set ss))
         made = all_made all (set_names (first_set ss)) checked
 

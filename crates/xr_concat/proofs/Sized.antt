@@ -1,10 +1,13 @@
 -- The sizes of what a name gives.
-use Rattle.std.proofs.Common.{◌≡◌, ◌∙◌, ◌≤◌, ◌&&◌, ℕ, Bool, true, false, Bor, List, get_or, length, map, refl, sym, ap}
+use Rattle.std.proofs.Common.{◌≡◌, ◌∙◌, ◌≤◌, ◌&&◌, ℕ, Bool, true, false, Bor, List, [], ◌∷◌, get_or, length, map, refl, sym, ap}
 use Rattle.std.specs.List.{list_all}
+use Rattle.xr_types.specs.Names.{shape_over}
 use Rattle.xr_types.specs.declared.axis.Axis.{Axis}
 use Rattle.xr_arrays.specs.declared.node.Node.{Node}
 use Rattle.xr_combination.specs.Concat.{is_new, pieces_called, set_names}
 use Rattle.xr_combination.specs.Pieces.{first_piece, first_set}
+use Rattle.xr_defs.specs.Parts.{axes_called}
+use Rattle.xr_defs.specs.Selecting.{axis_called}
 use Rattle.xr_defs.specs.Values as of
 use Rattle.xr_joint.proofs.Firsts.{others, whole}
 use Rattle.xr_merging.proofs.Called.{dims_called as dims_there}
@@ -16,6 +19,11 @@ use Rattle.xr_values.specs.declared.dataset.Dataset.{Dataset}
 use Rattle.xr_values.specs.declared.variable.Variable.{Variable}
 use Rattle.xr_concat.proofs.Fitted.{first_dims, first_of}
 use Rattle.xr_concat.specs.Limits.{is_within_called}
+
+-- the sizes of the axes of these names
+pub shape_same : (axes : List Axis) (ds : List (List ℕ)) → shape_over (axes_called axes ds) ≡ map (λ d. (axis_called axes d).size) ds
+shape_same axes [] = refl
+shape_same axes (d ∷ ds) = (λ i. (axis_called axes d).size ∷ shape_same axes ds i)
 
 abbrev pub those : List (Bor Variable) → List Variable
 those vs = map (λ (v : Bor Variable). v.now) vs

@@ -58,11 +58,7 @@ fn check_over(
 
 // ---- what is made
 
-fn push_attrs(
-    alloc: Global,
-    out: &mut Items<DataArray>,
-    sets: &[Dataset],
-) -> Result<(), AllocError>
+fn push_attrs(alloc: Global, out: &mut Items<DataArray>, sets: &[Dataset]) -> Result<(), AllocError>
     ensures { (nodes : List Node) → OnOk result (the_attrs out.new ≡ the_attrs out.old ++ map (λ (s : of.Dataset). s.attrs) (map (dataset_in nodes) sets.now)) }
 {
     match sets {
@@ -191,7 +187,17 @@ pub fn concat_of<R: Threads + Sync>(
     match axes.as_slice() {
         [] => Err(CallFault::NoMemory),
         [_, joined @ ..] => {
-            made_over(rt, alloc, plan, dim, joined, axes.as_slice(), fill, values, sets)
+            made_over(
+                rt,
+                alloc,
+                plan,
+                dim,
+                joined,
+                axes.as_slice(),
+                fill,
+                values,
+                sets,
+            )
         }
     }
 }

@@ -42,8 +42,8 @@ made_over-requires-clause-are g c = λ κs lives. let old = c.args.plan.now in a
 pub made_over-requires-clause-sets : goal.made_over-requires-clause-sets
 made_over-requires-clause-sets g c = λ κs lives all. let old = c.args.plan.now in subst (AllByRecursion (IsDatasetIn old)) (sym c.as_slice-sets.ensures) (c.in_ok-sets.ensures.sets old c.requires.inside all)
 
-pub returns-in-len1-up-clause-answers : goal.returns-in-len1-up-clause-answers
-returns-in-len1-up-clause-answers g c =
+pub returns-clause-answers : goal.returns-clause-answers
+returns-clause-answers g c =
     let old = c.args.plan.now in
     let fill = option_map (λ v. meaning old v.now) c.args.fill in
     let vs = map (meaning old) c.args.values.now in

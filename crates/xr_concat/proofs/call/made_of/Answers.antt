@@ -7,7 +7,6 @@ use Rattle.xr_values.specs.Meaning.{meaning}
 use Rattle.xr_values.specs.Stands.{dataset_in}
 use Rattle.xr_joint.proofs.Failing.{one_fails, step_fails}
 use Rattle.xr_joint.specs.Joint.{AnswersOne}
-use Rattle.xr_concat.specs.Limits.{are_within_called}
 use Rattle.xr_concat.specs.Steps.{answered, made_of}
 use Rattle.xr_concat.proofs.Large.{too_large}
 use Rattle.xr_concat.proofs.Told.{at_answered, at_constants, at_put}
@@ -28,8 +27,8 @@ returns-then-not-branch-clause-answers g c = λ nodes one.
     let old = c.args.plan.now in
     let ss = map (dataset_in old) c.args.sets.now in
     let dim = c.args.dim.now in
-    too_large dim ss c.args.axes.now (map (meaning nodes) c.args.values.now) c.requires.kinds c.in_ok-check_constants.ensures one
-    (ap (λ xs. are_within_called xs dim ss) (sym (c.as_slice-all.ensures ∙ c.in_ok-all.ensures old)) ∙ sym (c.in_ok-are_variables_within.ensures old) ∙ c.if-not-branch.true)
+    too_large dim ss c.args.axes.now (map (meaning nodes) c.args.values.now) c.requires.kinds c.in_ok-check_constants.ensures one c.as_slice-all.result.now (c.as_slice-all.ensures ∙ c.in_ok-all.ensures old) c.in_ok-are_variables_within.field-0
+    (c.in_ok-are_variables_within.ensures old) c.if-not-branch.true
 
 pub put_together-requires-clause-all : goal.put_together-requires-clause-all
 put_together-requires-clause-all g c = c.as_slice-all.ensures ∙ c.in_ok-all.ensures c.args.plan.now

@@ -1,4 +1,4 @@
-use Rattle.std.proofs.Common.{◌∙◌, ◌≤◌, Err, ap, length, map, subst, sym}
+use Rattle.std.proofs.Common.{◌≡◌, ◌∙◌, ◌≤◌, Err, ap, length, map, subst, sym}
 use Rattle.std.specs.Prelude.{option_map}
 use Rattle.std.proofs.lemmas.Result.{err_from_is_err_and}
 use Rattle.xr_types.specs.Results.{◌>>=◌, all_of, Answers}
@@ -45,7 +45,7 @@ returns-in_err-over-clause-answers g c =
     (subst (λ us. Fails e (all_of check_set us)) (λ i. map (fitted_set joined (c.fill_cell.ensures old i)) (c.requires.are i)) c.in_err-over.ensures.answers)
 
 pub made_of-requires-clause-held : goal.made_of-requires-clause-held
-made_of-requires-clause-held g c = λ κs lives. subst (AreHeldIn c.all_over.new.plan) (sym c.as_slice.ensures) c.in_ok-over.ensures.answers.1.1
+made_of-requires-clause-held g c = λ κs lives. subst (AreHeldIn c.all_over.new.plan) (sym c.as_slice.ensures) c.in_ok-over.ensures.answers.2
 
 pub made_of-requires-clause-kinds : goal.made_of-requires-clause-kinds
 made_of-requires-clause-kinds g c = λ κs lives.
@@ -54,7 +54,7 @@ made_of-requires-clause-kinds g c = λ κs lives.
     let fill = option_map (λ v. meaning old v.now) c.args.fill in
     let joined = c.args.joined.now in
     let vs = map (meaning old) c.args.values.now in
-    ap (λ ts. all_of (check_kinds ts) (set_names (first_set ts))) (ap (map (dataset_in mid)) c.as_slice.ensures ∙ c.in_ok-over.ensures.answers.1.0 ∙ (λ i. map (fitted_set joined (c.fill_cell.ensures old i)) (c.requires.are i)))
+    ap (λ ts. all_of (check_kinds ts) (set_names (first_set ts))) (ap (map (dataset_in mid)) c.as_slice.ensures ∙ c.in_ok-over.ensures.answers.1 ∙ (λ i. map (fitted_set joined (c.fill_cell.ensures old i)) (c.requires.are i)))
     ∙ kinds_checked joined fill (map unnamed vs) (ap (checked_over joined fill) (sym c.requires.are) ∙ c.in_ok-check_over.ensures old)
 
 pub returns-clause-answers : goal.returns-clause-answers
@@ -67,7 +67,7 @@ returns-clause-answers g c =
     let joined = c.args.joined.now in
     let axes = c.args.axes.now in
     let are : map (fitted_set joined c.fill_cell.result) (map (dataset_in old) c.args.sets.now) ≡ all_over dim joined axes fill vs = (λ i. map (fitted_set joined (c.fill_cell.ensures old i)) (c.requires.are i)) in
-    let same : map (dataset_in mid) c.as_slice.result.now ≡ all_over dim joined axes fill vs = ap (map (dataset_in mid)) c.as_slice.ensures ∙ c.in_ok-over.ensures.answers.1.0 ∙ are in
+    let same : map (dataset_in mid) c.as_slice.result.now ≡ all_over dim joined axes fill vs = ap (map (dataset_in mid)) c.as_slice.ensures ∙ c.in_ok-over.ensures.answers.1 ∙ are in
     subst (AnswersOne c.made_of.new.plan c.made_of.result)
     (ap (made_of dim axes vs) same
     ∙ sym (at_made dim joined axes fill vs (ap (checked_over joined fill) (sym c.requires.are) ∙ c.in_ok-check_over.ensures old) (ap (all_of check_set) (sym are) ∙ c.in_ok-over.ensures.answers.0)))

@@ -30,6 +30,8 @@ pub returns-clause-answers : goal.returns-clause-answers
 returns-clause-answers c =
     let old = c.args.plan.now in
     let mid = c.variables_concatenated.new.plan in
-    let ss = map (dataset_in old) c.args.sets.now in
-    (put_told c.args.dim.now c.args.axes.now ss mid c.in_ok-vars.vars c.args.all.now c.in_ok-coords.coords c.in_ok-attrs.attrs c.in_ok-skipped.skipped (dataset_in c.placed.new.plan c.in_ok-set.set) c.in_ok-vars.ensures.answers c.requires.all
-    (c.in_ok-coords.ensures old) (c.in_ok-attrs.ensures old) (c.in_ok-skipped.ensures old) c.in_ok-set.ensures.is, c.in_ok-set.ensures.holds)
+    let ss = map (dataset_in old) c.args.sets.now in (
+      put_told c.args.dim.now c.args.axes.now ss mid c.in_ok-vars.vars c.args.all.now c.in_ok-coords.coords c.in_ok-attrs.attrs c.in_ok-skipped.skipped (dataset_in c.placed.new.plan c.in_ok-set.set) c.in_ok-vars.ensures.answers c.requires.all
+          (c.in_ok-coords.ensures old) (c.in_ok-attrs.ensures old) (c.in_ok-skipped.ensures old) c.in_ok-set.ensures.is,
+      c.in_ok-set.ensures.holds,
+    )
