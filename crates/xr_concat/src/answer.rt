@@ -1,5 +1,5 @@
 //! What is put together, as an array or a dataset.
-ghost use Rattle.std.specs.Prelude.{◌≡◌, ◌++◌, ◌&&◌, List, map, option_map, true, IfOk, OnOk};
+ghost use Rattle.std.specs.Prelude.{◌≡◌, ◌++◌, ◌&&◌, List, map, option_map, true, false, IfOk, OnOk};
 ghost use Rattle.std.specs.List.{list_all, AllByRecursion};
 ghost use Rattle.xr_types.specs.Names.{among, axis_names, shape_over};
 ghost use Rattle.xr_arrays.specs.declared.node.Node.{Node};
@@ -7,6 +7,7 @@ ghost use Rattle.xr_combination.specs.Concat as calls;
 ghost use Rattle.xr_combination.specs.Pieces as pieces;
 ghost use Rattle.xr_defs.specs.Carrying as carrying;
 ghost use Rattle.xr_defs.specs.Encoding.{all_among, coords_over};
+ghost use Rattle.xr_defs.specs.Meanings.{Value as Meant};
 ghost use Rattle.xr_defs.specs.Selecting as selecting;
 ghost use Rattle.xr_forming.specs.Held.{Holds, HoldsArray};
 ghost use Rattle.xr_joint.specs.Joint.{AnswersOne};
@@ -190,6 +191,29 @@ fn as_array(
 
 // ---- either
 
+// What arrays give.
+fn of_arrays(
+    alloc: Global,
+    plan: &Plan,
+    values: &[Value],
+    set: &Dataset,
+) -> Result<Value, CallFault>
+    requires { Holds plan.now set.now }
+    ensures { (others : List Node) → list_all pieces.is_array (map (meaning others) values.now) ≡ true → AnswersOne plan.now result (answered (map (meaning others) values.now) (dataset_in plan.now set.now)) }
+{
+    let array = as_array(alloc, plan, values, set)?;
+    Ok(Value::Array(Rc::new(alloc, array)?))
+}
+
+// What datasets give.
+fn of_sets(alloc: Global, plan: &Plan, set: Dataset) -> Result<Value, CallFault>
+    requires { Holds plan.now set }
+    ensures { (vs : List Meant) → list_all pieces.is_array vs ≡ false → AnswersOne plan.now result (answered vs (dataset_in plan.now set)) }
+{
+    let set = checked(plan, set)?;
+    Ok(Value::Set(Rc::new(alloc, set)?))
+}
+
 /// What arrays or datasets give: an array of the one variable, which has the name that all arrays have, or the dataset.
 ///
 /// # Errors
@@ -204,10 +228,8 @@ pub(crate) fn answered(
     ensures { (others : List Node) → AnswersOne plan.now result (answered (map (meaning others) values.now) (dataset_in plan.now set)) }
 {
     if are_arrays(values) {
-        let array = as_array(alloc, plan, values, &set)?;
-        Ok(Value::Array(Rc::new(alloc, array)?))
+        of_arrays(alloc, plan, values, &set)
     } else {
-        let set = checked(plan, set)?;
-        Ok(Value::Set(Rc::new(alloc, set)?))
+        of_sets(alloc, plan, set)
     }
 }

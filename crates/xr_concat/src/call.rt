@@ -43,7 +43,6 @@ use xr_values::{Args, DataArray, Dataset, Value};
 // ---- what is checked
 
 // The dimensions and kinds of the data variables, and the fill.
-#[tactic(auto, using(crate::proofs::Fitted::kinds_kept), unfolding(crate::specs::Steps::checked_over))]
 fn check_over(
     alloc: Global,
     joined: &[Axis],
@@ -117,8 +116,7 @@ fn made_of<R: Threads + Sync>(
     requires sync { IsSync R.row }
     requires held { AreHeldIn plan.old sets.now }
     requires kinds { all_of (calls.check_kinds (map (dataset_in plan.old) sets.now)) (calls.set_names (pieces.first_set (map (dataset_in plan.old) sets.now))) ≡ Ok tt }
-    requires one { (nodes : List Node) → list_all pieces.is_array (map (meaning nodes) values.now) ≡ true → length (pieces.first_set (map (dataset_in plan.old) sets.now)).vars ≤ 1 }
-    ensures answers { (nodes : List Node) → AnswersOne plan.new result (made_of dim.now axes.now (map (meaning nodes) values.now) (map (dataset_in plan.old) sets.now)) }
+    ensures answers { (nodes : List Node) → (list_all pieces.is_array (map (meaning nodes) values.now) ≡ true → length (pieces.first_set (map (dataset_in plan.old) sets.now)).vars ≤ 1) → AnswersOne plan.new result (made_of dim.now axes.now (map (meaning nodes) values.now) (map (dataset_in plan.old) sets.now)) }
     ensures grows { Grows plan.old plan.new }
 {
     check_constants(rt, alloc, plan, dim, sets)?;
