@@ -1,28 +1,25 @@
 -- What is put together as an array or a dataset.
-use Rattle.std.proofs.Common.{◌≡◌, ◌∙◌, ◌&&◌, ◌||◌, ℕ, Bool, true, false, cond, List, [], ◌∷◌, filter, get_or, length, map, Option, Result, Ok, Err, arith, refl, sym, ap, subst}
+use Rattle.std.proofs.Common.{◌≡◌, ◌∙◌, ◌&&◌, ℕ, Bool, true, false, cond, List, [], ◌∷◌, filter, get_or, length, map, Option, Result, Ok, Err, arith, refl, sym, ap, subst}
 use Rattle.std.specs.Prelude.{if◌then◌else◌}
 use Rattle.std.specs.List.{list_all, AllByRecursion}
 use Rattle.std.specs.declared.alloc.Global.{Global}
 use Rattle.std.specs.declared.rc.Rc.{Rc}
 use Rattle.xr_types.specs.Names.{shape_over}
 use Rattle.xr_types.specs.Results.{◌>>=◌, unless}
-use Rattle.xr_types.specs.declared.axis.Axis.{Axis}
 use Rattle.xr_types.specs.declared.fault.Fault.{Fault}
 use Rattle.xr_types.specs.declared.fault.Fault.TheVariants.{TooLarge}
 use Rattle.xr_arrays.specs.declared.node.Node.{Node}
 use Rattle.xr_arguments.proofs.Inside.{array_inside, set_inside}
 use Rattle.xr_arguments.proofs.Variants.{is_array as array_is, is_set as set_is}
-use Rattle.xr_combination.specs.Concat.{array_name, as_given}
+use Rattle.xr_combination.specs.Concat.{array_name}
 use Rattle.xr_combination.specs.Pieces.{is_array}
 use Rattle.xr_defs.specs.Carrying.{shared_name}
 use Rattle.xr_defs.specs.Meanings as meant
-use Rattle.xr_defs.specs.Parts.{axes_called}
-use Rattle.xr_defs.specs.Encoding.{coords_over}
-use Rattle.xr_defs.specs.Selecting.{are_within, axis_called, check_array, check_set, is_within}
+use Rattle.xr_defs.specs.Selecting.{are_within, check_array, check_set, is_within}
 use Rattle.xr_defs.specs.Values as of
 use Rattle.xr_defs.specs.declared.value.Coord.{Coord}
 use Rattle.xr_forming.specs.Held.{Holds, HoldsArray, HoldsContent, IsHeld}
-use Rattle.xr_joint.specs.Joint.{within_limits, AnswersOne}
+use Rattle.xr_joint.specs.Joint.{within_limits}
 use Rattle.xr_relations.specs.Aligning.{check_size}
 use Rattle.xr_values.specs.Meaning.{meaning, IsValueIn}
 use Rattle.xr_values.specs.Stands.{array_in, dataset_in, variable_in, IsArrayIn, IsDatasetIn}

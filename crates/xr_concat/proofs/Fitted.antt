@@ -1,5 +1,5 @@
 -- Datasets over joined axes have the names, dimensions and kinds that they had.
-use Rattle.std.proofs.Common.{◌≡◌, ◌∙◌, ◌&&◌, ℕ, ℤ, suc, Bool, true, false, cond, List, [], ◌∷◌, length, map, Option, Some, None, Result, Ok, Err, refl, sym, ap}
+use Rattle.std.proofs.Common.{◌≡◌, ◌∙◌, ◌&&◌, ℕ, ℤ, suc, Bool, true, false, cond, List, [], ◌∷◌, length, map, Option, Some, None, Result, Ok, refl, sym, ap}
 use Rattle.std.specs.Prelude.{find, option_map}
 use Rattle.std.specs.Str.{bytes_eq}
 use Rattle.std.specs.List.{list_all}
@@ -7,7 +7,6 @@ use Rattle.xr_types.specs.Results.{◌>>=◌, all_of, unless}
 use Rattle.xr_types.specs.declared.axis.Axis.{Axis}
 use Rattle.xr_types.specs.declared.fault.Fault.{Fault}
 use Rattle.xr_types.specs.declared.fault.Fault.TheVariants.{Conflict}
-use Rattle.xr_types.specs.declared.kind.DType.{DType}
 use Rattle.xr_combination.specs.Concat.{check_kinds, pieces_called, set_names}
 use Rattle.xr_combination.specs.Pieces.{Piece, common_kind_in, first_piece, first_set, have_dims_of_first, have_same_dims, kinds_of, variable_piece, variables_called}
 use Rattle.xr_defs.specs.Values.{Dataset, Variable}

@@ -1,5 +1,5 @@
 -- Variables and coordinates put together as a dataset of the plan, and datasets over joined axes.
-use Rattle.std.proofs.Common.{◌≡◌, ◌∙◌, ◌≤◌, ◌∷◌, ℕ, Bool, true, ℤ, List, [], flat_map, length, map, Option, Result, Ok, Err, arith, refl, sym, ap, subst}
+use Rattle.std.proofs.Common.{◌≡◌, ◌∙◌, ◌≤◌, ◌∷◌, ℕ, true, ℤ, List, [], flat_map, length, map, Option, Result, Ok, Err, arith, refl, sym, ap, subst}
 use Rattle.std.specs.List.{list_all, AllByRecursion}
 use Rattle.std.proofs.lemmas.Bool.{and_parts}
 use Rattle.xr_types.specs.Results.{◌>>=◌, Answers}

@@ -1,7 +1,6 @@
 -- The coordinates that stand for those of all hold what a coordinate may hold.
-use Rattle.std.proofs.Common.{◌≡◌, ◌∙◌, ◌++◌, ◌&&◌, ◌||◌, ◌==◌, ℕ, Bool, true, false, not, List, [], ◌∷◌, length, map, flat_map, All, Option, Some, None, refl, sym, ap}
+use Rattle.std.proofs.Common.{◌≡◌, ◌∙◌, ◌++◌, ℕ, Bool, true, false, List, [], ◌∷◌, map, flat_map, All, Option, Some, None, refl, sym, ap}
 use Rattle.std.specs.Prelude.{if◌then◌else◌}
-use Rattle.std.specs.Str.{bytes_eq}
 use Rattle.std.specs.List.{list_all, AllByRecursion}
 use Rattle.std.proofs.lemmas.List.Elements.{All-nil, All-cons}
 use Rattle.xr_types.specs.Names.{among, axis_names, shape_over}
@@ -12,7 +11,7 @@ use Rattle.xr_arrays.specs.Arrays.{Array, at, IsArray, IsCell}
 use Rattle.xr_arrays.specs.Nodes as nodes
 use Rattle.plan_core.proofs.ElementRanges.{cast_in}
 use Rattle.plan_core.proofs.Valued.{concat_is, made_is}
-use Rattle.xr_combination.specs.Concat.{coord_concatenated, coord_kept, coord_of_all, coord_pieces, first_array, have_dims_in_order, in_kind, piece_concatenated, piece_coord}
+use Rattle.xr_combination.specs.Concat.{coord_concatenated, coord_kept, coord_of_all, coord_pieces, first_array, have_dims_in_order, piece_concatenated, piece_coord}
 use Rattle.xr_combination.specs.Pieces.{Piece, as_kind, coords_called, first_piece, first_set, in_first_order, promoted_all}
 use Rattle.xr_defs.specs.Carrying.{is_agreed, joined_coord}
 use Rattle.xr_defs.specs.Values as of

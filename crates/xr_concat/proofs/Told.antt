@@ -1,5 +1,5 @@
 -- The definition of the call, step by step as the program takes it.
-use Rattle.std.proofs.Common.{◌≡◌, ◌∙◌, ◌≤◌, ◌-◌, ℕ, Bool, List, [], ◌∷◌, drop, length, map, take, Option, Some, None, is_some, option_map, Result, Ok, Err, arith, refl, sym, ap}
+use Rattle.std.proofs.Common.{◌≡◌, ◌∙◌, ◌-◌, ℕ, List, ◌∷◌, length, map, take, Option, Some, None, is_some, option_map, Result, Ok, Err, arith, refl, sym, ap}
 use Rattle.std.proofs.lemmas.List.{take_all}
 use Rattle.xr_types.specs.Results.{◌>>=◌, all_of}
 use Rattle.xr_types.specs.declared.axis.Axis.{Axis}
@@ -11,7 +11,7 @@ use Rattle.xr_defs.specs.Meanings as meant
 use Rattle.xr_defs.specs.Selecting.{check_set}
 use Rattle.xr_defs.specs.Values as of
 use Rattle.xr_operations.specs.Alignment.{aligned}
-use Rattle.xr_relations.specs.Aligning.{check_size, fill_cell, fitted_set}
+use Rattle.xr_relations.specs.Aligning.{check_size, fill_cell}
 use Rattle.xr_joint.proofs.Firsts.{others}
 use Rattle.xr_stacking.specs.Axes.{axes_of}
 use Rattle.xr_concat.proofs.Fitted.{kinds_kept}

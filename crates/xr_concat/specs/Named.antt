@@ -1,8 +1,7 @@
 -- Arrays as datasets of one variable, which has a name while they are brought over joined axes.
-use Rattle.std.specs.Prelude.{◌≡◌, ℕ, ℤ, List, [], codes, map, Option, Result, Ok, Err}
+use Rattle.std.specs.Prelude.{◌≡◌, ℕ, List, [], codes, map, Result, Ok, Err}
 use Rattle.std.specs.List.{AllByRecursion}
 use Rattle.xr_types.specs.Results.{all_of}
-use Rattle.xr_types.specs.declared.axis.Axis.{Axis}
 use Rattle.xr_types.specs.declared.fault.CallFault.{CallFault}
 use Rattle.xr_arrays.specs.declared.node.Node.{Node}
 use Rattle.xr_combination.specs.Pieces.{no_set}

@@ -1,4 +1,4 @@
-use Rattle.std.proofs.Common.{◌∙◌, ◌≡◌, Bor, Err, List, Option, Ok, ap, map, refl, subst, sym}
+use Rattle.std.proofs.Common.{◌∙◌, Bor, Err, List, Option, Ok, ap, map, refl, subst, sym}
 use Rattle.std.specs.Prelude.{option_map}
 use Rattle.std.proofs.lemmas.Result.{err_from_is_err_and}
 use Rattle.xr_types.specs.declared.text.TextBytes.{TextBytes}
