@@ -1,0 +1,9 @@
+pub mod Given
+pub mod Picking
+pub mod Kept
+pub mod Failing
+pub mod Behind
+pub mod Shared
+pub mod Lined
+pub mod Grouped
+pub mod Called

@@ -1,0 +1,16 @@
+pub mod Members
+pub mod Ways
+pub mod Kept
+pub mod Constant
+pub mod Opened
+pub mod Single
+pub mod Listed
+pub mod Alike
+pub mod Fitted
+pub mod Sized
+pub mod Sound
+pub mod Large
+pub mod Answered
+pub mod Putting
+pub mod Told
+pub mod Called

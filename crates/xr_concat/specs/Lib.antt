@@ -1,0 +1,5 @@
+pub mod Named
+pub mod Steps
+pub mod Made
+pub mod Limits
+pub mod Answered
