@@ -1,5 +1,5 @@
 -- The datasets that the call is given in a list, and a fill that means the same in every plan.
-use Rattle.std.proofs.Common.{◌≡◌, ◌∙◌, List, map, Option, Some, None, Result, Ok, Err, Bor, refl, sym, ap, subst}
+use Rattle.std.proofs.Common.{◌≡◌, ◌∙◌, List, map, Option, Some, None, Result, Ok, Err, Bor, refl, sym, ap}
 use Rattle.std.specs.Prelude.{IfOk, option_map}
 use Rattle.xr_types.specs.Results.{◌>>=◌, Answers}
 use Rattle.xr_types.specs.declared.fault.CallFault.{CallFault}
@@ -70,5 +70,5 @@ fill_fixed value (Err e) told = tt
 fill_fixed None (Ok o) told = none_is o (told [])
 fill_fixed (Some v) (Ok o) told =
     let parts : (nodes : List Node) → (check_literal (meaning nodes v.now) ≡ Ok tt) × (option_map (λ (w : Bor Value). meaning nodes w.now) o ≡ Some (meaning nodes v.now)) =
-        λ nodes. passed (check_literal (meaning nodes v.now)) (meaning nodes v.now) (option_map (λ (w : Bor Value). meaning nodes w.now) o) (told nodes) in
+    λ nodes. passed (check_literal (meaning nodes v.now)) (meaning nodes v.now) (option_map (λ (w : Bor Value). meaning nodes w.now) o) (told nodes) in
     some_is o v (parts []).0 (λ nodes. (parts nodes).1)
