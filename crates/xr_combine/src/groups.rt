@@ -88,8 +88,10 @@ fn group_combined<R: Threads + Sync>(
     ensures grows { Grows plan.old plan.new }
 {
     match sets {
+        // (a group has a member)
+        [] => Err(CallFault::NoMemory),
         [set] => Ok(set.clone()?),
-        _ => several_combined(rt, alloc, plan, how, fill, sets),
+        [_, _, ..] => several_combined(rt, alloc, plan, how, fill, sets),
     }
 }
 
