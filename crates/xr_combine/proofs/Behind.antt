@@ -1,5 +1,5 @@
 -- Datasets that are made one behind the other, while the plan grows.
-use Rattle.std.proofs.Common.{◌≡◌, ◌∙◌, ◌<◌, ◌≤◌, ◌-◌, ◌++◌, List, [], ◌∷◌, length, get_or, take, drop, Result, Ok, Err, refl, sym, ap, subst, arith}
+use Rattle.std.proofs.Common.{◌≡◌, ◌∙◌, ◌<◌, ◌≤◌, ◌-◌, ◌++◌, List, [], ◌∷◌, length, get_or, Result, Ok, sym, ap, subst}
 use Rattle.std.specs.declared.alloc.Global.{Global}
 use Rattle.std.specs.declared.rc.Rc.{Rc}
 use Rattle.plan_core.specs.Plans.{Grows}
@@ -13,9 +13,9 @@ use Rattle.xr_joint.proofs.Firsts.{others, whole}
 use Rattle.xr_merging.specs.Each.{behind}
 use Rattle.xr_merging.proofs.Each.{behind_empty, behind_fault, behind_first, from_none}
 use Rattle.xr_values.specs.Answers.{Fails}
-use Rattle.xr_values.specs.Stands.{dataset_in, IsDatasetIn}
+use Rattle.xr_values.specs.Stands.{dataset_in}
 use Rattle.xr_values.specs.declared.dataset.Dataset.{Dataset}
-use Rattle.xr_combine.specs.Sets.{sets_in, AnswersBehind, AnswersSeveral, AreSetsIn}
+use Rattle.xr_combine.specs.Sets.{sets_in, AnswersBehind, AreSetsIn}
 use Rattle.xr_combine.proofs.Kept.{sets_kept, sets_one}
 
 -- f is what makes each in the old plan, and g in the next one

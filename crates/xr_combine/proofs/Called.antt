@@ -1,31 +1,22 @@
 -- The call by its arguments, one after the other.
-use Rattle.std.proofs.Common.{◌≡◌, ◌∙◌, ℕ, codes, List, [], ◌∷◌, Option, Some, Result, Ok, Err, refl, sym, ap, subst}
-use Rattle.std.specs.declared.alloc.Global.{Global}
-use Rattle.std.specs.declared.rc.Rc.{Rc}
+use Rattle.std.proofs.Common.{◌≡◌, ◌∙◌, ℕ, codes, List, [], ◌∷◌, Option, Some, Result, Ok, Err, sym, ap}
 use Rattle.xr_types.specs.Results.{◌>>=◌, Answers}
 use Rattle.xr_types.specs.declared.fault.CallFault.{CallFault}
 use Rattle.xr_types.specs.declared.fault.Fault.{Fault}
 use Rattle.xr_types.specs.declared.operation.How.{How}
 use Rattle.xr_arrays.specs.declared.node.Node.{Node}
-use Rattle.xr_arguments.proofs.Inside.{set_inside}
-use Rattle.xr_arguments.proofs.Variants.{is_set}
 use Rattle.xr_combination.specs.Arguments.{compat_given, how_given, sets_given}
-use Rattle.xr_combination.specs.Merge.{combine_called, combine_of}
+use Rattle.xr_combination.specs.Combine.{combine_called, combine_of}
 use Rattle.xr_combination.specs.declared.compat.Compat.{Compat}
 use Rattle.xr_defs.specs.Building.{argument, bound, option, required}
 use Rattle.xr_defs.specs.Meanings as of
 use Rattle.xr_defs.specs.Meanings.{Given, Value}
-use Rattle.xr_defs.specs.Values.{Dataset as TheSet}
 use Rattle.xr_relations.specs.Aligning.{fill_given}
 use Rattle.xr_joint.specs.Joint.{AnswersOne}
 use Rattle.xr_merge.proofs.Called.{as_value}
 use Rattle.xr_joint.proofs.Failing.{one_fails, step_fails}
 use Rattle.xr_values.specs.Answers.{Fails}
-use Rattle.xr_values.specs.Meaning.{meaning, IsValueIn}
-use Rattle.xr_values.specs.Stands.{dataset_in, IsDatasetIn}
-use Rattle.xr_values.specs.declared.dataset.Dataset.{Dataset}
 use Rattle.xr_values.specs.declared.value.Value.{Value as Held}
-use Rattle.xr_values.specs.declared.value.Value.TheVariants as variants
 
 abbrev pub parameters : List (List ℕ)
 parameters = codes "list of datasets" ∷ codes "compat" ∷ codes "join" ∷ codes "fill_value" ∷ []

@@ -1,5 +1,5 @@
 -- The datasets that the call is given in a list, and a fill that means the same in every plan.
-use Rattle.std.proofs.Common.{◌≡◌, ◌∙◌, List, map, Option, Some, None, Result, Ok, Err, Bor, refl, sym, ap, subst}
+use Rattle.std.proofs.Common.{◌≡◌, ◌∙◌, List, [], map, Option, Some, None, Result, Ok, Err, Bor, refl, sym, ap}
 use Rattle.std.specs.Prelude.{IfOk, option_map}
 use Rattle.xr_types.specs.Results.{◌>>=◌, Answers}
 use Rattle.xr_types.specs.declared.fault.CallFault.{CallFault}
@@ -7,7 +7,6 @@ use Rattle.xr_types.specs.declared.fault.Fault.{Fault}
 use Rattle.xr_arrays.specs.declared.node.Node.{Node}
 use Rattle.xr_combination.specs.Arguments.{check_sets, sets_given}
 use Rattle.xr_combining.proofs.Listed.{list_told}
-use Rattle.xr_defs.specs.Arguments.{wrong}
 use Rattle.xr_defs.specs.Meanings as of
 use Rattle.xr_relations.specs.Aligning.{check_literal, fill_given}
 use Rattle.xr_values.specs.Meaning.{all_values, layer, meaning}
@@ -33,7 +32,7 @@ sets_listed nodes v vs ws is checked =
 
 -- numbers, truth values and missing cells are what they are
 literal_layer : (x : Value-F Value) → check_literal (layer [] x) ≡ Ok tt → (nodes : List Node) → layer nodes x ≡ layer [] x
-unfolding check_literal wrong
+unfolding check_literal
 literal_layer held.Absent is nodes = refl
 literal_layer held.Missing is nodes = refl
 literal_layer (held.Truth b) is nodes = refl
@@ -70,5 +69,5 @@ fill_fixed value (Err e) told = tt
 fill_fixed None (Ok o) told = none_is o (told [])
 fill_fixed (Some v) (Ok o) told =
     let parts : (nodes : List Node) → (check_literal (meaning nodes v.now) ≡ Ok tt) × (option_map (λ (w : Bor Value). meaning nodes w.now) o ≡ Some (meaning nodes v.now)) =
-        λ nodes. passed (check_literal (meaning nodes v.now)) (meaning nodes v.now) (option_map (λ (w : Bor Value). meaning nodes w.now) o) (told nodes) in
+    λ nodes. passed (check_literal (meaning nodes v.now)) (meaning nodes v.now) (option_map (λ (w : Bor Value). meaning nodes w.now) o) (told nodes) in
     some_is o v (parts []).0 (λ nodes. (parts nodes).1)

@@ -1,5 +1,5 @@
 -- Groups, each put together.
-use Rattle.std.proofs.Common.{◌≡◌, ◌∙◌, ◌≢◌, ℕ, List, [], ◌∷◌, length, map, Option, Result, Ok, Err, refl, sym, ap, subst}
+use Rattle.std.proofs.Common.{◌≡◌, ◌∙◌, ◌≢◌, ℕ, List, [], ◌∷◌, length, map, Option, Result, Ok, refl, sym, ap, subst}
 use Rattle.std.specs.Prelude.{zip}
 use Rattle.xr_types.specs.Results.{◌>>=◌, all_of}
 use Rattle.xr_types.specs.declared.fault.CallFault.{CallFault}

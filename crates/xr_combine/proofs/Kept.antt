@@ -6,7 +6,6 @@ use Rattle.std.specs.declared.rc.Rc.{Rc}
 use Rattle.std.proofs.lemmas.List.{length-map, map-append}
 use Rattle.plan_core.specs.Plans.{Grows}
 use Rattle.xr_arrays.specs.declared.node.Node.{Node}
-use Rattle.xr_defs.specs.Values as of
 use Rattle.xr_values.specs.Stands.{dataset_in, IsDatasetIn}
 use Rattle.xr_values.specs.declared.dataset.Dataset.{Dataset}
 use Rattle.xr_values.proofs.Grown.{dataset_kept, stays_dataset}

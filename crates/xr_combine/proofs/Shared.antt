@@ -1,16 +1,14 @@
 -- Datasets as values.
-use Rattle.std.proofs.Common.{◌≡◌, ◌∙◌, ◌&&◌, ◌||◌, Bool, true, false, List, [], ◌∷◌, map, Option, Result, Ok, Err, refl, sym, ap, subst, ℕ}
+use Rattle.std.proofs.Common.{◌≡◌, ◌∙◌, ◌&&◌, Bool, true, List, [], ◌∷◌, map, Option, Ok, refl, sym, ap, subst, ℕ}
 use Rattle.std.specs.List.{list_all}
 use Rattle.xr_types.specs.Results.{◌>>=◌}
 use Rattle.xr_types.specs.declared.fault.CallFault.{CallFault}
-use Rattle.xr_types.specs.declared.fault.Fault.{Fault}
 use Rattle.xr_types.specs.declared.operation.How.{How}
-use Rattle.xr_arrays.specs.declared.node.Node.{Node}
 use Rattle.xr_combination.specs.Combine.{concat_sets}
 use Rattle.xr_combination.specs.Concat.{concat_of}
 use Rattle.xr_combination.specs.Arguments.{is_named}
-use Rattle.xr_combination.specs.Pieces.{as_dataset, is_set}
-use Rattle.xr_combining.specs.Held.{are_alike, holds_array, holds_named, holds_set}
+use Rattle.xr_combination.specs.Pieces.{as_dataset}
+use Rattle.xr_combining.specs.Held.{holds_named}
 use Rattle.xr_defs.specs.Meanings as meant
 use Rattle.xr_defs.specs.Values as of
 use Rattle.xr_joint.proofs.Failing.{fails_on}
@@ -36,15 +34,8 @@ module _ (test : meant.Value → Bool) (holds : (s : of.Dataset) → test (meant
   pub held_test : (vs : List Value) (ss : List of.Dataset) → map (meaning []) vs ≡ map meant.Set ss → list_all (λ v. test (meaning [] v)) vs ≡ true
   held_test vs ss are = sym (all_held vs) ∙ all_test (map (meaning []) vs) ss are
 
-either : (a b : Bool) → b ≡ true → (a || b) ≡ true
-either true b is = refl
-either false b is = is
-
 pub are_named : (vs : List Value) (ss : List of.Dataset) → map (meaning []) vs ≡ map meant.Set ss → list_all holds_named vs ≡ true
 are_named = held_test is_named (λ s. refl)
-
-pub are_sets : (vs : List Value) (ss : List of.Dataset) → map (meaning []) vs ≡ map meant.Set ss → are_alike vs ≡ true
-are_sets vs ss are = either (list_all holds_array vs) (list_all holds_set vs) (held_test is_set (λ s. refl) vs ss are)
 
 -- ---- one after the other
 

@@ -1,14 +1,11 @@
 //! Groups of datasets that have the same variables, each put together.
-ghost use Rattle.std.specs.Prelude.{◌≡◌, List, map, option_map};
+ghost use Rattle.std.specs.Prelude.{option_map};
 ghost use denote.Param.Send.{IsSync};
 ghost use Rattle.plan_core.specs.Plans.{Grows};
-ghost use Rattle.xr_types.specs.Results.{Answers};
-ghost use Rattle.xr_arrays.specs.declared.node.Node.{Node};
 ghost use Rattle.xr_combination.specs.Combine as calls;
 ghost use Rattle.xr_combination.specs.Pieces.{each_of};
 ghost use Rattle.xr_merging.specs.Each.{behind};
 ghost use Rattle.xr_values.specs.Meaning.{meaning};
-ghost use Rattle.xr_values.specs.Stands.{dataset_in};
 ghost use Rattle.xr_combine.specs.Sets.{sets_in, AnswersBehind, AnswersSeveral, AnswersShared, AreSetsIn, IsFixed};
 ghost use Rattle.xr_combine.specs.Steps as steps;
 
@@ -91,8 +88,10 @@ fn group_combined<R: Threads + Sync>(
     ensures grows { Grows plan.old plan.new }
 {
     match sets {
+        // (a group has a member)
+        [] => Err(CallFault::NoMemory),
         [set] => Ok(set.clone()?),
-        _ => several_combined(rt, alloc, plan, how, fill, sets),
+        [_, _, ..] => several_combined(rt, alloc, plan, how, fill, sets),
     }
 }
 

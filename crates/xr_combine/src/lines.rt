@@ -1,5 +1,5 @@
 //! A grid put together, line by line along each dimension.
-ghost use Rattle.std.specs.Prelude.{◌≡◌, List, map, option_map, IfOk};
+ghost use Rattle.std.specs.Prelude.{◌≡◌, List, option_map, IfOk};
 ghost use denote.Param.Send.{IsSync};
 ghost use Rattle.plan_core.specs.Plans.{Grows};
 ghost use Rattle.xr_types.specs.Points.{size};

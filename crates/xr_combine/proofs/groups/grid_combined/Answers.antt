@@ -55,7 +55,9 @@ returns-clause-answers g c =
     let grid = c.args.grid.now in
     let fill = option_map (λ v. meaning old v.now) c.args.fill in
     let ss = sets_in old c.args.sets.now in
-    let checks = λ (s : Dataset). all_of (check_direction (dataset_in new s)) (zip grid.dims grid.rises) in
-    (grid_passes c.args.how fill ss grid c.as_slice-2.result.now c.as_slice-3.result.now (sets_in old c.as_slice-4.result.now) c.as_slice-2.ensures c.as_slice-3.ensures
-    (ap (sets_in old) c.as_slice-4.ensures ∙ those_picked (dataset_in old) no_set (held c.args.sets.now) c.as_slice.result.now (held c.in_ok-tiles.tiles) c.in_ok-tiles.ensures ∙ ap (those_at ss) c.as_slice.ensures)
-    (dataset_in new c.in_ok-set.set.value) c.in_ok-set.ensures.answers.0 tt (ap checks (sym c.deref.ensures) ∙ c.in_ok-check_directions.ensures new), c.in_ok-set.ensures.answers.1)
+    let checks = λ (s : Dataset). all_of (check_direction (dataset_in new s)) (zip grid.dims grid.rises) in (
+      grid_passes c.args.how fill ss grid c.as_slice-2.result.now c.as_slice-3.result.now (sets_in old c.as_slice-4.result.now) c.as_slice-2.ensures c.as_slice-3.ensures
+          (ap (sets_in old) c.as_slice-4.ensures ∙ those_picked (dataset_in old) no_set (held c.args.sets.now) c.as_slice.result.now (held c.in_ok-tiles.tiles) c.in_ok-tiles.ensures ∙ ap (those_at ss) c.as_slice.ensures)
+          (dataset_in new c.in_ok-set.set.value) c.in_ok-set.ensures.answers.0 tt (ap checks (sym c.deref.ensures) ∙ c.in_ok-check_directions.ensures new),
+      c.in_ok-set.ensures.answers.1,
+    )

@@ -1,22 +1,17 @@
-use Rattle.std.proofs.Common.{◌∙◌, ◌≡◌, Err, Ok, [], true, ap, map, subst, sym}
+use Rattle.std.proofs.Common.{◌∙◌, Err, Ok, ap, map, subst, sym}
 use Rattle.std.specs.Prelude.{option_map}
 use Rattle.std.specs.List.{AllByRecursion}
 use Rattle.std.proofs.lemmas.Result.{err_from_is_err_and}
 use Rattle.xr_combination.specs.Combine.{concat_sets}
-use Rattle.xr_combining.specs.Held.{are_alike}
 use Rattle.xr_values.specs.Meaning.{meaning, IsValueIn}
 use Rattle.xr_combine.specs.Sets.{sets_in}
 use Rattle.xr_combine.proofs.Failing.{shared_fails}
-use Rattle.xr_combine.proofs.Shared.{are_sets, concat_fails, concat_told}
+use Rattle.xr_combine.proofs.Shared.{concat_fails, concat_told}
 use Rattle.xr_combine.proofs.lines.concat_sets.Goals as goal
 
 pub concat_of-requires-clause-inside : goal.concat_of-requires-clause-inside
 concat_of-requires-clause-inside g c = λ κs lives.
     let old = c.args.plan.now in subst (AllByRecursion (IsValueIn old)) (sym c.as_slice.ensures) (c.in_ok-values.ensures.inside old c.requires.inside)
-
-pub concat_of-requires-clause-alike : goal.concat_of-requires-clause-alike
-concat_of-requires-clause-alike g c = λ κs lives.
-    subst (λ vs. are_alike vs ≡ true) (sym c.as_slice.ensures) (are_sets c.in_ok-values.values (sets_in [] c.args.sets.now) (c.in_ok-values.ensures.mean []))
 
 pub returns-in_err-value-clause-answers : goal.returns-in_err-value-clause-answers
 returns-in_err-value-clause-answers g c =
@@ -30,7 +25,9 @@ returns-in_err-value-clause-answers g c =
 pub returns-clause-answers : goal.returns-clause-answers
 returns-clause-answers g c =
     let old = c.args.plan.now in
-    let new = c.concat_of.new.plan in
-    (concat_told c.args.how (option_map (λ v. meaning old v.now) c.args.fill) c.args.dim.now (sets_in old c.args.sets.now) (map (meaning old) c.as_slice.result.now)
-    (ap (map (meaning old)) c.as_slice.ensures ∙ c.in_ok-values.ensures.mean old) (meaning new c.in_ok-value.value) c.in_ok-value.ensures.answers.0
-    ∙ ap Ok (sym (c.in_ok-set.ensures.is new)), c.in_ok-set.ensures.inside new c.in_ok-value.ensures.answers.1)
+    let new = c.concat_of.new.plan in (
+      concat_told c.args.how (option_map (λ v. meaning old v.now) c.args.fill) c.args.dim.now (sets_in old c.args.sets.now) (map (meaning old) c.as_slice.result.now)
+          (ap (map (meaning old)) c.as_slice.ensures ∙ c.in_ok-values.ensures.mean old) (meaning new c.in_ok-value.value) c.in_ok-value.ensures.answers.0
+          ∙ ap Ok (sym (c.in_ok-set.ensures.is new)),
+      c.in_ok-set.ensures.inside new c.in_ok-value.ensures.answers.1,
+    )
