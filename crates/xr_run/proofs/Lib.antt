@@ -1,3 +1,4 @@
+mod Broken
 mod Carried
 mod Ended
 mod Forms

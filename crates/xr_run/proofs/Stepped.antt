@@ -12,8 +12,10 @@ use Rattle.xr_runs.specs.Evaluation.{Names}
 use Rattle.xr_runs.specs.Runs.{State, step, run_from, start, Ended, ended, IsPut, put_now, put_later}
 use Rattle.xr_run.specs.declared.stopped.Stopped.{Stopped}
 use Rattle.xr_run.specs.declared.stopped.Stopped.TheVariants.{Refused, Storage, NoMemory}
+use Rattle.xr_run.specs.Broken.{Reached, reached_none, IsPart, StepBroken, Left, nothing_done}
 use Rattle.xr_run.specs.Steps.{at, StepIs, StepKeeps, PutsName, BothTallied}
 use Rattle.xr_run.specs.Ends.{IsEnd, Ends, StatusTallied, StatementsKeep, status_of}
+use Rattle.xr_run.proofs.Broken.{reached_next}
 
 abbrev pub lines : List Statement → List Line
 lines ss = map line_of ss
@@ -24,13 +26,14 @@ pub record Leads (ss : List Statement) (from : Files) (told : Bool) (before : Li
   pub text : List ℕ
   pub text_is : IsTrue told → taken ≡ before ++ text
   pub rest : run_from 1 (lines ss) (start from) ≡ run_from (i + 1) (lines (drop i ss)) (at names files text)
+  pub reached : Reached (lines ss) (start from) (lines (drop i ss)) (at names files text)
   pub puts : (n : List ℕ) → IsPut (lines (drop i ss)) (at names files text) n → IsPut (lines ss) (start from) n
   pub keeps : (n : List ℕ) → (IsPut (lines ss) (start from) n → ⊥) → files n ≡ from n
 
 pub leads_none : (ss : List Statement) (from : Files) (told : Bool) (before : List ℕ) (names : Names) → names ≡ (λ name. None) → Leads ss from told before 0 names from before
 leads_none ss from told before names none =
     subst (λ (m : Names). Leads ss from told before 0 m from before) (sym none)
-    (record { text = []; text_is = λ t. sym (append-nil before); rest = rw zero-add refl; puts = λ n p. p; keeps = λ n p. refl })
+    (record { text = []; text_is = λ t. sym (append-nil before); rest = rw zero-add refl; reached = reached_none (lines ss) (start from); puts = λ n p. p; keeps = λ n p. refl })
 
 here : (ss : List Statement) (i : ℕ) (s : Statement) → i < length ss → s ≡ get_or ss i s → lines (drop i ss) ≡ line_of s ∷ lines (drop (i + 1) ss)
 here ss i s lt e = rw add-one (ap (map line_of) (subst (λ y. drop i ss ≡ y ∷ drop (suc i) ss) (sym e) (drop-cons ss i s lt)))
@@ -76,6 +79,7 @@ leads_more ss from told now_told before i names after files files_after taken no
       text_is = λ t.
           st.1 (subst (λ (b : Bool). IsTrue b) (sym same) t) ∙ ap (λ (w : List ℕ). w ++ st.0) (so_far.text_is t) ∙ append_assoc before so_far.text st.0;
       rest = so_far.rest ∙ ap (λ (xs : List Line). run_from (i + 1) xs old) (here ss i s lt is) ∙ goes_on (i + 1) l rest old new (st.2 so_far.text);
+      reached = reached_next (lines ss) (start from) l rest (lines (drop i ss)) old new so_far.reached (here ss i s lt is) (st.2 so_far.text);
       puts = λ n p. so_far.puts n (subst (λ (xs : List Line). IsPut xs old n) (sym (here ss i s lt is)) (put_later l rest old new n (st.2 so_far.text) p));
       keeps = keeps_more ss from told before i names files files_after taken s so_far lt is step_keeps;
     }
@@ -119,3 +123,27 @@ tallied_stopped a0 a b x0 x y n (Refused f) p q h = (h.0 ∙ p, h.1 ∙ q)
 tallied_stopped a0 a b x0 x y n Storage p q h =
     (rw (sym p, sym q) h.0, rw (sym p) h.1, rw (sym q) h.2)
 tallied_stopped a0 a b x0 x y n NoMemory p q h = (h.0 ∙ p, h.1 ∙ q)
+
+-- nothing of the next statement is done
+pub left_so_far : (ss : List Statement) (from : Files) (told : Bool) (before : List ℕ) (i : ℕ) (names : Names) (files : Files) (taken : List ℕ) → Leads ss from told before i names files taken → Left (lines ss) from files told before taken
+left_so_far ss from told before i names files taken so_far =
+    record { rest = lines (drop i ss); state = at names files so_far.text; text = so_far.text; reached = so_far.reached; broken = nothing_done refl refl; text_is = so_far.text_is }
+
+part_left : (ss : List Statement) (from : Files) (told now_told : Bool) (before : List ℕ) (i : ℕ) (names : Names) (files files_after : Files) (taken now : List ℕ) (s : Statement)
+    → Leads ss from told before i names files taken → i < length ss → s ≡ get_or ss i s → now_told ≡ told
+    → IsPart (line_of s) names files files_after now_told taken now → Left (lines ss) from files_after told before now
+part_left ss from told now_told before i names files files_after taken now s so_far lt is same part =
+    record {
+      rest = line_of s ∷ lines (drop (i + 1) ss);
+      state = at names files so_far.text;
+      text = so_far.text ++ part.0;
+      reached = subst (λ (xs : List Line). Reached (lines ss) (start from) xs (at names files so_far.text)) (here ss i s lt is) so_far.reached;
+      broken = part.2 (lines (drop (i + 1) ss)) so_far.text;
+      text_is = λ t.
+          part.1 (subst (λ (b : Bool). IsTrue b) (sym same) t) ∙ ap (λ (w : List ℕ). w ++ part.0) (so_far.text_is t) ∙ append_assoc before so_far.text part.0;
+    }
+
+pub left_broken : (ss : List Statement) (from : Files) (told now_told : Bool) (before : List ℕ) (i : ℕ) (names : Names) (files files_after : Files) (taken now : List ℕ) (s : Statement) (e : Stopped)
+    → Leads ss from told before i names files taken → i < length ss → s ≡ get_or ss i s → now_told ≡ told
+    → StepBroken (line_of s) names files files_after now_told taken now (Err e) → Left (lines ss) from files_after told before now
+left_broken ss from told now_told before i names files files_after taken now s e so_far lt is same part = part_left ss from told now_told before i names files files_after taken now s so_far lt is same part

@@ -1,5 +1,6 @@
 pub mod Answers
 pub mod Arguments
+pub mod Broken
 pub mod Ends
 pub mod Functions
 pub mod Named

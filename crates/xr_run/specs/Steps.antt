@@ -37,11 +37,12 @@ EffectIs nodes l names files (Err (Refused f)) = (text : List ℕ) → step l (a
 EffectIs nodes l names files (Err Storage) = Unit {0}
 EffectIs nodes l names files (Err NoMemory) = Unit {0}
 
--- only to_netcdf puts a file, and it is the one that the statement names
+-- only print prints; only to_netcdf puts a file, and it is the one that the statement names
 abbrev pub IsOf : Names → Files → Line → Effect → Type 0
 IsOf names files l (Bind name value) = Unit {0}
 IsOf names files l (BindEach targets values) = Unit {0}
-IsOf names files l (Print text) = Unit {0}
+IsOf names files (tree.Printed e) (Print text) = Unit {0}
+IsOf names files l (Print text) = ⊥
 IsOf names files (tree.Written e) (Write name bytes) = written_by names files e ≡ Ok (name, bytes)
 IsOf names files l (Write name bytes) = ⊥
 

@@ -3,6 +3,7 @@ ghost use Rattle.std.specs.Prelude.{◌≡◌, map, IsTrue};
 ghost use denote.Param.Send.{IsSync};
 ghost use Rattle.xr_syntax.specs.Syntax.{line_of};
 ghost use Rattle.xr_runs.specs.Runs.{run_from, start};
+ghost use Rattle.xr_run.specs.Broken.{Left};
 ghost use Rattle.xr_run.specs.Ends.{Ends, IsNamedEnd, StatementsKeep, StatusTallied, Untouched, status_of};
 
 use crate::names::NameMap;
@@ -38,6 +39,7 @@ pub(crate) fn run_statements<R: Threads + Sync, S: Store, O: Sink>(
 ) -> Status
     requires sync { IsSync R.row }
     ensures ends { IsTrue (S.tells store.old) → Ends (run_from 1 (map line_of statements.now) (start (S.held store.old))) (S.held store.new) (O.tells out.old) (O.taken out.old) (O.taken out.new) result }
+    ensures left { IsTrue (S.tells store.old) → Left (map line_of statements.now) (S.held store.old) (S.held store.new) (O.tells out.old) (O.taken out.old) (O.taken out.new) }
     ensures keeps { IsTrue (S.tells store.old) → StatementsKeep (map line_of statements.now) (S.held store.old) (S.held store.new) }
     ensures store_tells { S.tells store.new ≡ S.tells store.old }
     ensures out_tells { O.tells out.new ≡ O.tells out.old }

@@ -7,6 +7,7 @@ ghost use Rattle.plan_core.specs.Plans.{Grows};
 ghost use Rattle.xr_relations.specs.Aligning.{align_called};
 ghost use Rattle.xr_values.specs.Meaning.{meaning, given, IsValueIn, AreArgsIn};
 ghost use Rattle.xr_run.specs.Answers.{Gives, Tallied};
+ghost use Rattle.xr_run.specs.Broken.{PerformBroken, StepBroken};
 ghost use Rattle.xr_run.specs.Named.{names_of, AreNamesIn};
 ghost use Rattle.xr_run.specs.Steps.{EffectIs, EffectFits, IsEffectIn, PerformIs, PerformKeeps, StepIs, StepKeeps, PerformTallied, BothTallied};
 
@@ -245,6 +246,7 @@ fn perform<S: Store, O: Sink>(
 ) -> Result<(), Stopped>
     ensures performs { (nodes : List Node) → IsTrue (S.tells store.old) → PerformIs nodes effect (names_of nodes names.old) (names_of nodes names.new) (S.held store.old) (S.held store.new) (O.tells out.old) (O.taken out.old) (O.taken out.new) result }
     ensures inside { (nodes : List Node) → AreNamesIn nodes names.old → IsEffectIn nodes effect → AreNamesIn nodes names.new }
+    ensures broken { IsTrue (S.tells store.old) → PerformBroken effect (S.held store.old) (S.held store.new) (O.tells out.old) (O.taken out.old) (O.taken out.new) result }
     ensures keeps { IsTrue (S.tells store.old) → PerformKeeps effect (S.held store.old) (S.held store.new) }
     ensures store_tells { S.tells store.new ≡ S.tells store.old }
     ensures out_tells { O.tells out.new ≡ O.tells out.old }
@@ -288,6 +290,7 @@ pub(crate) fn step<R: Threads + Sync, S: Store, O: Sink>(
     ensures step { IsTrue (S.tells store.old) → StepIs (line_of statement.now) (names_of cx.old.plan names.old) (names_of cx.new.plan names.new) (S.held store.old) (S.held store.new) (O.tells out.old) (O.taken out.old) (O.taken out.new) result }
     ensures inside { AreNamesIn cx.new.plan names.new }
     ensures grows { Grows cx.old.plan cx.new.plan }
+    ensures broken { IsTrue (S.tells store.old) → StepBroken (line_of statement.now) (names_of cx.old.plan names.old) (S.held store.old) (S.held store.new) (O.tells out.old) (O.taken out.old) (O.taken out.new) result }
     ensures keeps { IsTrue (S.tells store.old) → StepKeeps (line_of statement.now) (names_of cx.old.plan names.old) (S.held store.old) (S.held store.new) }
     ensures store_tells { S.tells store.new ≡ S.tells store.old }
     ensures out_tells { O.tells out.new ≡ O.tells out.old }

@@ -1,7 +1,9 @@
 //! The top call.
-ghost use Rattle.std.specs.Prelude.{◌≡◌, Some, IsTrue};
+ghost use Rattle.std.specs.Prelude.{◌≡◌, ℕ, List, Option, Some, IsTrue};
 ghost use denote.Param.Send.{IsSync};
+ghost use Rattle.xr_types.specs.declared.status.Status.TheVariants as statuses;
 ghost use Rattle.xr_run.specs.Words.{script_word as named_script};
+ghost use Rattle.xr_run.specs.Broken.{CommandLeft, ScriptLeft, IsLine};
 ghost use Rattle.xr_run.specs.Ends.{ScriptEnds, CommandEnds, IsNamedEnd, ScriptKeeps, CommandKeeps, StatusTallied, Untouched, WordsAsked};
 ghost use Rattle.xr_run.specs.Top.{AsWords, IsSaid, RunEnds, RunCounted, unsaid, exit_of};
 
@@ -24,6 +26,7 @@ fn run_bytes<R: Threads + Sync, S: Store, O: Sink>(
 ) -> Status
     requires sync { IsSync R.row }
     ensures ends { IsTrue (S.tells store.old) → ScriptEnds (S.held store.old) bytes.now (S.held store.new) (O.tells out.old) (O.taken out.old) (O.taken out.new) result }
+    ensures left { IsTrue (S.tells store.old) → ScriptLeft (S.held store.old) bytes.now (S.held store.new) (O.tells out.old) (O.taken out.old) (O.taken out.new) }
     ensures keeps { IsTrue (S.tells store.old) → ScriptKeeps (S.held store.old) bytes.now (S.held store.new) }
     ensures store_tells { S.tells store.new ≡ S.tells store.old }
     ensures out_tells { O.tells out.new ≡ O.tells out.old }
@@ -48,6 +51,7 @@ fn run_named<R: Threads + Sync, S: Store, O: Sink>(
 ) -> Status
     requires sync { IsSync R.row }
     ensures ends { IsTrue (S.tells store.old) → CommandEnds (S.held store.old) (Some name.now) (S.held store.new) (O.tells out.old) (O.taken out.old) (O.taken out.new) result }
+    ensures left { IsTrue (S.tells store.old) → CommandLeft (S.held store.old) (Some name.now) (S.held store.new) (O.tells out.old) (O.taken out.old) (O.taken out.new) }
     ensures keeps { IsTrue (S.tells store.old) → CommandKeeps (S.held store.old) (Some name.now) (S.held store.new) }
     ensures store_tells { S.tells store.new ≡ S.tells store.old }
     ensures out_tells { O.tells out.new ≡ O.tells out.old }
@@ -77,6 +81,7 @@ fn work<R: Threads + Sync, S: Store, O: Sink>(
 ) -> Status
     requires sync { IsSync R.row }
     ensures ends { IsTrue (S.tells store.old) → CommandEnds (S.held store.old) script.now (S.held store.new) (O.tells out.old) (O.taken out.old) (O.taken out.new) result }
+    ensures left { IsTrue (S.tells store.old) → CommandLeft (S.held store.old) script.now (S.held store.new) (O.tells out.old) (O.taken out.old) (O.taken out.new) }
     ensures keeps { IsTrue (S.tells store.old) → CommandKeeps (S.held store.old) script.now (S.held store.new) }
     ensures store_tells { S.tells store.new ≡ S.tells store.old }
     ensures out_tells { O.tells out.new ≡ O.tells out.old }
@@ -118,6 +123,17 @@ fn unsaid(status: Status) -> Status
     }
 }
 
+// Says on the error sink that memory ran out.
+fn say_no_memory<E: Sink>(err: &mut E)
+    ensures line { (script : Option (List ℕ)) → IsTrue (E.tells err.old) → IsLine script (E.taken err.old) (E.taken err.new) (E.faults err.old) (E.faults err.new) statuses.NoMemory }
+    ensures tells { E.tells err.new ≡ E.tells err.old }
+{
+    match write_all(err, b"xrs: out of memory\n") {
+        Ok(()) => {}
+        Err(_) => {}
+    }
+}
+
 /// Does all that the program does, and says how it ended.
 ///
 /// Each answer but `Storage` and `NoMemory` comes exactly where the one end that the run has by the definitions is so:
@@ -143,7 +159,11 @@ pub fn run<R: Threads + Sync, S: Store, O: Sink, E: Sink, G: Gate>(
     // The store or a sink failed only where its count rose, and a count that rose shows in the status.
     ensures causes { RunCounted (S.faults store.old) (S.faults store.new) (O.faults out.old) (O.faults out.new) (E.faults err.old) (E.faults err.new) result }
 
-    // However it ends, the names that no put of the run names hold what they held.
+    // However it ends, one number of statements fits both the files and the text: those before it are carried out, and of the next one
+    // at most a part, a front of the text that it prints or of the file that it puts. The names that no put of the run names hold what
+    // they held. The error sink gained the line of the status, or, where it failed, a front of a line.
+    ensures left { IsTrue (S.tells store.old) → CommandLeft (S.held store.old) (named_script words.now) (S.held store.new) (O.tells out.old) (O.taken out.old) (O.taken out.new) }
+    ensures line { IsTrue (E.tells err.old) → IsLine (named_script words.now) (E.taken err.old) (E.taken err.new) (E.faults err.old) (E.faults err.new) result }
     ensures keeps { IsTrue (S.tells store.old) → CommandKeeps (S.held store.old) (named_script words.now) (S.held store.new) }
     ensures untouched { Untouched (O.taken out.old) (O.taken out.new) result }
     ensures store_tells { S.tells store.new ≡ S.tells store.old }
@@ -151,12 +171,12 @@ pub fn run<R: Threads + Sync, S: Store, O: Sink, E: Sink, G: Gate>(
     ensures err_tells { E.tells err.new ≡ E.tells err.old }
 {
     let Ok(script) = script_word(alloc, words) else {
-        let _ = write_all(err, b"xrs: out of memory\n");
+        say_no_memory(err);
         return Status::NoMemory;
     };
     let status = work(rt, alloc, &script, store, out);
     let Ok(text) = status_line(alloc, &script, &status) else {
-        let _ = write_all(err, b"xrs: out of memory\n");
+        say_no_memory(err);
         return Status::NoMemory;
     };
     match write_all(err, &text) {

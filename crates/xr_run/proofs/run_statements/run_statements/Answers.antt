@@ -1,6 +1,6 @@
 use Rattle.std.proofs.Common.{◌≡◌, ◌+◌, ◌∙◌, subst, sym, refl, Bool, rules, arith}
 use Rattle.std.specs.Prelude.{IsTrue}
-use Rattle.xr_run.proofs.Stepped.{leads_none, leads_more, leads_stopped, leads_all, keeps_more, tallied_stopped}
+use Rattle.xr_run.proofs.Stepped.{left_broken, left_so_far, leads_none, leads_more, leads_stopped, leads_all, keeps_more, tallied_stopped}
 use Rattle.xr_run.proofs.run_statements.run_statements.Goals as goal
 
 pub loop-i-init : goal.loop-i-init
@@ -46,3 +46,11 @@ returns-clause-ends g c = λ s. leads_all c.args.statements.now _ _ _ c.loop-i.i
 
 pub returns-clause-keeps : goal.returns-clause-keeps
 returns-clause-keeps g c = λ s. (c.loop-i.invariant.leads s).keeps
+
+pub returns-in-Err-clause-left : goal.returns-in-Err-clause-left
+returns-in-Err-clause-left g c = λ s.
+    let told = subst (λ (b : Bool). IsTrue b) (sym c.loop-i.invariant.store_tells) s in
+    left_broken c.args.statements.now _ _ _ _ c.loop-i.i _ _ _ _ _ c.index-statements-i.result c.in-Err.stopped (c.loop-i.invariant.leads s) c.loop-i-test.true c.index-statements-i.is c.loop-i.invariant.out_tells (c.step.ensures.broken told)
+
+pub returns-clause-left : goal.returns-clause-left
+returns-clause-left g c = λ s. left_so_far c.args.statements.now _ _ _ c.loop-i.i _ _ _ (c.loop-i.invariant.leads s)

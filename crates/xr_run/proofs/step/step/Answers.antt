@@ -1,7 +1,8 @@
-use Rattle.std.proofs.Common.{Bool, sym, subst}
+use Rattle.std.proofs.Common.{Bool, refl, sym, subst}
 use Rattle.std.specs.Prelude.{IsTrue}
 use Rattle.xr_syntax.specs.Syntax.{line_of}
 use Rattle.xr_run.specs.Named.{names_of}
+use Rattle.xr_run.proofs.Broken.{broken_off, part_none}
 use Rattle.xr_run.proofs.Carried.{kept_by, performed, unperformed}
 use Rattle.xr_run.proofs.NamesKept.{names_kept, stay_names}
 use Rattle.xr_run.proofs.step.step.Goals as goal
@@ -40,3 +41,14 @@ returns-in-Err-clause-step g c = λ s.
 
 pub returns-in-Err-clause-inside : goal.returns-in-Err-clause-inside
 returns-in-Err-clause-inside g c = stay_names c.args.cx.now.plan c.effect_of.new.cx.plan c.args.names.now c.in-Err.ensures.grows c.requires.inside
+
+pub returns-in-Ok-clause-broken : goal.returns-in-Ok-clause-broken
+returns-in-Ok-clause-broken g c = λ s.
+    let e = c.in-Ok.ensures in
+    let told = subst (λ (b : Bool). IsTrue b) (sym e.tells) s in
+    broken_off c.effect_of.new.cx.plan (line_of c.args.statement.now) c.in-Ok.effect (names_of c.args.cx.now.plan c.args.names.now)
+    (g.S.Store.held c.args.store.now) (g.S.Store.held c.effect_of.new.store) (g.S.Store.held c.perform.new.store) (g.O.Sink.tells c.args.out.now) (g.O.Sink.taken c.args.out.now) (g.O.Sink.taken c.perform.new.out)
+    c.perform.result (e.keeps s) (e.effect s) (e.fits s) (c.perform.ensures.broken told)
+
+pub returns-in-Err-clause-broken : goal.returns-in-Err-clause-broken
+returns-in-Err-clause-broken g c = λ s. part_none (line_of c.args.statement.now) (names_of c.args.cx.now.plan c.args.names.now) _ _ _ _ _ (c.in-Err.ensures.keeps s) refl
