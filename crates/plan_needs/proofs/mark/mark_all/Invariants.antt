@@ -1,5 +1,5 @@
 use Rattle.std.proofs.Common.{◌≡◌, ◌≤◌, ◌<◌, ℕ, take, length, get_or, All}
-use Rattle.plan_whole.proofs.mark.mark_all.Given as goal
+use Rattle.plan_needs.proofs.mark.mark_all.Given as goal
 
 abbrev pub invariant-loop-id : goal.invariant-loop-id
 invariant-loop-id l = record {

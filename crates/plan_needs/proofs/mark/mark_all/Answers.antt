@@ -1,7 +1,7 @@
 use Rattle.std.proofs.Common.{◌≤◌, ◌∙◌, arith, get_or}
 use Rattle.plan_core.proofs.Concats.{all_done}
 use Rattle.plan_core.proofs.Needs.{marks_more}
-use Rattle.plan_whole.proofs.mark.mark_all.Goals as goal
+use Rattle.plan_needs.proofs.mark.mark_all.Goals as goal
 
 pub loop-id-preserved : goal.loop-id-preserved
 loop-id-preserved c =

@@ -2,7 +2,7 @@ use Rattle.std.proofs.Common.{◌++◌, ◌∙◌, [], ◌∷◌, ap, get_or, ma
 use Rattle.std.proofs.lemmas.List.{map-append}
 use Rattle.xr_arrays.specs.Nodes.{value}
 use Rattle.plan_core.proofs.Steps.{first_at, step_more}
-use Rattle.plan_whole.proofs.inputs.inputs.Goals as goal
+use Rattle.plan_needs.proofs.held.inputs.Goals as goal
 
 pub loop-id-preserved : goal.loop-id-preserved
 loop-id-preserved c =

@@ -1,6 +1,6 @@
 use Rattle.std.proofs.Common.{◌∙◌, ap, sym, subst, IsSome, option_map, refl}
 use Rattle.plan_core.proofs.Needs.{source_held, kept_held, kept_value}
-use Rattle.plan_whole.proofs.inputs.input.Goals as goal
+use Rattle.plan_needs.proofs.held.input.Goals as goal
 
 pub kept-requires : goal.kept-requires
 kept-requires c =

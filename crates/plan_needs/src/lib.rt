@@ -1,0 +1,12 @@
+//! Which nodes of a plan a node needs, which of them are computed as whole arrays, and how long each is kept.
+#![tactic(auto)]
+
+mod chosen;
+mod held;
+mod mark;
+mod sorts;
+
+pub use chosen::whole_nodes;
+pub use held::{input, inputs, inputs_of, is_source, source};
+pub use mark::mark_needed;
+pub use sorts::{is_each_cell, takes_strips};
