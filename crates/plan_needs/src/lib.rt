@@ -4,9 +4,13 @@
 mod chosen;
 mod held;
 mod mark;
+mod release;
 mod sorts;
+mod spread;
 
 pub use chosen::whole_nodes;
 pub use held::{input, inputs, inputs_of, is_source, source};
 pub use mark::mark_needed;
+pub use release::release_inputs;
 pub use sorts::{is_each_cell, takes_strips};
+pub use spread::spread_cell;

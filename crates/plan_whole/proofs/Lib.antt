@@ -2,3 +2,4 @@ pub mod Present
 pub mod EachCell
 pub mod Totals
 pub mod FoldedCells
+pub mod Trees

@@ -6,9 +6,9 @@ ghost use Rattle.xr_arrays.specs.Nodes.{value};
 ghost use Rattle.cell_strips.specs.Strips.{strip};
 ghost use Rattle.plan_needs.specs.Trees.{standing, IsStrand, IsTree};
 
-use crate::inputs::source;
 use arrangement::points;
 use cell_strips::{Strips, binary, choose, collect_strips, strip_of, unary};
+use plan_needs::source;
 use std::alloc::{AllocError, Global};
 use xr_arrays::{ArrayValue, Node};
 
