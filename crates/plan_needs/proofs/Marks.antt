@@ -1,12 +1,13 @@
 -- Marks of how long values are kept, and of the nodes that are computed whole.
 use Rattle.std.proofs.Common.{◌≡◌, ◌<◌, ◌≤◌, ◌+◌, ℕ, zero, suc, Bool, true, false, List, [], ◌∷◌, length, take, get_or, refl, sym, ap, subst, ◌∙◌, arith, inl, inr}
 use Rattle.std.specs.List.{All}
+use Rattle.std.specs.Prelude.{◌||◌}
 use Rattle.std.proofs.lemmas.Bool.{cases_lt}
 use Rattle.std.proofs.lemmas.List.{get_or_default}
 use Rattle.xr_arrays.specs.declared.node.Node.{Node}
 use Rattle.plan_core.specs.Needs.{inputs_at}
 use Rattle.plan_core.proofs.Concats.{all_more}
-use Rattle.plan_needs.specs.Trees.{last_use, node_is, takes_strips, KeepsInputs, KeepFrom}
+use Rattle.plan_needs.specs.Trees.{last_use, node_is, takes_in_strips, KeepsInputs, KeepFrom}
 
 pub node_is_at : (f : Node → Bool) (nodes : List Node) (i : ℕ) (node : Node) → i < length nodes → node ≡ get_or nodes i node → node_is f nodes i ≡ f node
 node_is_at f nodes i node lt is = at nodes i lt ∙ ap f (sym is)
@@ -16,6 +17,21 @@ node_is_at f nodes i node lt is = at nodes i lt ∙ ap f (sym is)
     at (n ∷ ns) zero lt = refl
     at (n ∷ ns) (suc i) lt = at ns i (omega arith)
 
+either_first : (r b x : Bool) → r ≡ b → r ≡ true → r ≡ (b || x)
+either_first r true x is is_true = is_true
+either_first r false x is is_true = absurd cc
+
+either_second : (r q b x : Bool) → q ≡ b → q ≡ false → r ≡ x → r ≡ (b || x)
+either_second r q true x is is_false same = absurd cc
+either_second r q false x is is_false same = same
+
+-- one of two tests of a node
+pub first_test : (f : Node → Bool) (nodes : List Node) (i : ℕ) (node : Node) (r x : Bool) → i < length nodes → node ≡ get_or nodes i node → r ≡ f node → r ≡ true → r ≡ (node_is f nodes i || x)
+first_test f nodes i node r x lt is said is_true = either_first r (node_is f nodes i) x (said ∙ sym (node_is_at f nodes i node lt is)) is_true
+
+pub second_test : (f : Node → Bool) (nodes : List Node) (i : ℕ) (node : Node) (r q x : Bool) → i < length nodes → node ≡ get_or nodes i node → q ≡ f node → q ≡ false → r ≡ x → r ≡ (node_is f nodes i || x)
+second_test f nodes i node r q x lt is said is_false same = either_second r q (node_is f nodes i) x (said ∙ sym (node_is_at f nodes i node lt is)) is_false same
+
 -- one more node of those that are held
 pub held_marks : (old new : List Bool) (ids : List ℕ) (i : ℕ) → i < length ids → get_or new (get_or ids i 0) true ≡ true → ((k : ℕ) → get_or old k true ≡ true → get_or new k true ≡ true) → All (λ m. get_or old m true ≡ true) (take i ids)
     → All (λ m. get_or new m true ≡ true) (take (i + 1) ids)
@@ -24,7 +40,7 @@ held_marks old new ids i lt here grows so_far =
 
 -- a node that is needed, with its inputs marked
 pub keep_more : (nodes : List Node) (whole held : List Bool) (until new : List ℕ) (at : ℕ) → length new ≡ length until → All (λ m. m < at) (inputs_at nodes at) → All (λ m. last_use (get_or whole at true) (get_or until at 0) at ≤ get_or new m 0) (inputs_at nodes at)
-    → (node_is takes_strips nodes at ≡ false → All (λ m. get_or held m true ≡ true) (inputs_at nodes at)) → ((k : ℕ) → get_or until k 0 ≤ get_or new k 0) → ((k : ℕ) → get_or whole k true ≡ true → get_or held k true ≡ true)
+    → (takes_in_strips nodes at ≡ false → All (λ m. get_or held m true ≡ true) (inputs_at nodes at)) → ((k : ℕ) → get_or until k 0 ≤ get_or new k 0) → ((k : ℕ) → get_or whole k true ≡ true → get_or held k true ≡ true)
     → ((k : ℕ) → All (λ m. m < k) (inputs_at nodes at) → get_or new k 0 ≡ get_or until k 0) → ((k : ℕ) → All (λ m. m < k) (inputs_at nodes at) → get_or held k true ≡ get_or whole k true) → KeepFrom nodes whole until (at + 1) → KeepFrom nodes held new at
 keep_more nodes whole held until new at long before marked kept grows grows_held others others_held keep i from inside some = elim (cases_lt at i) [
   | inl later ↦

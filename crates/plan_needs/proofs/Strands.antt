@@ -10,7 +10,7 @@ use Rattle.xr_arrays.specs.Nodes.{value, AllFit}
 use Rattle.xr_arrays.specs.declared.node.Node.{Node}
 use Rattle.plan_core.specs.Needs.{inputs_at, IsHeld}
 use Rattle.plan_core.proofs.Needs.{inputs_before}
-use Rattle.plan_needs.specs.Trees.{is_each_cell, last_use, node_is, standing, takes_strips, AreThere, IsNext, IsStrand, IsThere, IsTree, KeepFrom}
+use Rattle.plan_needs.specs.Trees.{comes_in_strips, last_use, standing, takes_in_strips, AreThere, IsNext, IsStrand, IsThere, IsTree, KeepFrom}
 
 -- ---- what stands at a node
 
@@ -50,14 +50,14 @@ pub strand_tree : (nodes : List Node) (done : List (Option Array)) (m : ℕ) (d 
 strand_tree nodes done m d s none =
     let below = s.before in
     let there = s.user_there in
-    let passed = none_there (standing nodes done m) (value nodes m) ((get_or s.whole m true ≡ false) × (node_is is_each_cell nodes m ≡ true)) none (s.there m s.before s.needed) in
+    let passed = none_there (standing nodes done m) (value nodes m) ((get_or s.whole m true ≡ false) × (comes_in_strips nodes m ≡ true)) none (s.there m s.before s.needed) in
     let inside : m < length nodes = omega (arith, below, there) in
     let keeps = s.keep m (omega arith) (let k = s.marked in omega (arith, below, k)) (let n = s.needed in omega (arith, below, n)) in
     let long = as_long (get_or s.whole m true) (get_or s.until m 0) m passed.0 in
     record {
       fit = s.fit;
       at_there = inside;
-      each_cell = passed.1;
+      in_strips = passed.1;
       inputs = λ k e lt.
           let before = inputs_before nodes m d s.fit inside k e lt in
           let more = keeps.long k e lt in
@@ -99,7 +99,7 @@ input_strands nodes done whole until at d fit inside marked long keep there some
 
 -- those of a node that takes no strips are held
 pub inputs_held : (nodes : List Node) (done : List (Option Array)) (whole : List Bool) (until : List ℕ) (at : ℕ) (d : Node) → AllFit [] nodes → at < length nodes → at < length until → at ≤ length done → KeepFrom nodes whole until 0 → AreThere nodes done whole until at → 0 < get_or until at 0
-    → node_is takes_strips nodes at ≡ false → All (IsHeld nodes done) (inputs_at nodes at)
+    → takes_in_strips nodes at ≡ false → All (IsHeld nodes done) (inputs_at nodes at)
 inputs_held nodes done whole until at d fit inside marked long keep there some none k e lt =
     let keeps = keep at (omega arith) marked some in
     let more = keeps.long k e lt in

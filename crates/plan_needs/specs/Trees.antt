@@ -1,11 +1,12 @@
 -- Nodes whose cells come strip by strip from those of other nodes, and how long the values that they come from are kept.
-use Rattle.std.specs.Prelude.{◌≡◌, ◌<◌, ◌≤◌, ◌+◌, ℕ, zero, suc, Bool, true, false, max, List, [], ◌∷◌, length, get_or, Option, None, All, MatchOption}
+use Rattle.std.specs.Prelude.{◌≡◌, ◌<◌, ◌≤◌, ◌+◌, ℕ, zero, suc, Bool, true, false, max, List, [], ◌∷◌, length, get_or, Option, None, All, MatchOption, is_some, ◌||◌}
 use Rattle.std.specs.Option.{option_or}
 use Rattle.xr_arrays.specs.declared.node.Node.{Node}
 use Rattle.xr_arrays.specs.declared.node.Node.TheVariants.{Source, Take, Reorder, Widen, Unary, Binary, Choose, Fold, Scan, Concat, Chunk}
 use Rattle.xr_arrays.specs.Arrays.{Array}
 use Rattle.xr_arrays.specs.Nodes.{value, AllFit}
 use Rattle.plan_core.specs.Needs.{inputs_at, source_at}
+use Rattle.plan_needs.specs.Spreads.{spread}
 
 -- ---- sorts of nodes
 
@@ -23,7 +24,7 @@ is_each_cell (Scan k n axis) = false
 is_each_cell (Concat ns axis) = false
 is_each_cell (Chunk n sizes) = false
 
--- its inputs may come strip by strip
+-- its inputs may come strip by strip, as may those of a node whose cells are one cell
 abbrev pub takes_strips : Node → Bool
 takes_strips (Source a) = false
 takes_strips (Take n axis from fill drops) = false
@@ -42,6 +43,17 @@ node_is f [] i = false
 node_is f (node ∷ nodes) zero = f node
 node_is f (node ∷ nodes) (suc i) = node_is f nodes i
 
+-- all its cells are one cell, which is there
+abbrev pub is_spread : List Node → ℕ → Bool
+is_spread nodes m = is_some (spread 16 nodes m)
+
+-- its cells may come strip by strip
+abbrev pub comes_in_strips : List Node → ℕ → Bool
+comes_in_strips nodes m = node_is is_each_cell nodes m || is_spread nodes m
+
+abbrev pub takes_in_strips : List Node → ℕ → Bool
+takes_in_strips nodes m = node_is takes_strips nodes m || is_spread nodes m
+
 -- ---- how long the values of nodes are kept: `until` as in Needs.antt, and `whole` of the nodes whose value is kept as a whole array
 
 -- the inputs of a node are kept until itself, and where it comes strip by strip, as long as it is
@@ -51,7 +63,7 @@ last_use false until i = max i until
 
 pub record KeepsInputs (nodes : List Node) (whole : List Bool) (until : List ℕ) (i : ℕ) : Type 0 where
   pub long : All (λ m. last_use (get_or whole i true) (get_or until i 0) i ≤ get_or until m 0) (inputs_at nodes i)
-  pub held : node_is takes_strips nodes i ≡ false → All (λ m. get_or whole m true ≡ true) (inputs_at nodes i)
+  pub held : takes_in_strips nodes i ≡ false → All (λ m. get_or whole m true ≡ true) (inputs_at nodes i)
 
 -- nodes from this one on that are needed keep their inputs
 abbrev pub KeepFrom : List Node → List Bool → List ℕ → ℕ → Type 0
@@ -72,11 +84,11 @@ standing nodes done m = option_or (source_at nodes m) (get_or done m None)
 
 -- what stands at a node is its value, and where nothing does, its cells come strip by strip
 abbrev pub IsThere : List Node → List (Option Array) → List Bool → ℕ → Type 0
-IsThere nodes done whole m = MatchOption (standing nodes done m) ((get_or whole m true ≡ false) × (node_is is_each_cell nodes m ≡ true)) (λ a. a ≡ value nodes m)
+IsThere nodes done whole m = MatchOption (standing nodes done m) ((get_or whole m true ≡ false) × (comes_in_strips nodes m ≡ true)) (λ a. a ≡ value nodes m)
 
 -- what comes to stand at a node that is needed
 abbrev pub IsNext : List Node → List Bool → ℕ → Option Array → Type 0
-IsNext nodes whole m o = MatchOption (option_or (source_at nodes m) o) ((get_or whole m true ≡ false) × (node_is is_each_cell nodes m ≡ true)) (λ a. a ≡ value nodes m)
+IsNext nodes whole m o = MatchOption (option_or (source_at nodes m) o) ((get_or whole m true ≡ false) × (comes_in_strips nodes m ≡ true)) (λ a. a ≡ value nodes m)
 
 -- those that nodes from i on need
 abbrev pub AreThere : List Node → List (Option Array) → List Bool → List ℕ → ℕ → Type 0
@@ -100,5 +112,5 @@ pub record IsStrand (nodes : List Node) (done : List (Option Array)) (m : ℕ) :
 pub record IsTree (nodes : List Node) (done : List (Option Array)) (at : ℕ) : Type 0 where
   pub fit : AllFit [] nodes
   pub at_there : at < length nodes
-  pub each_cell : node_is is_each_cell nodes at ≡ true
+  pub in_strips : comes_in_strips nodes at ≡ true
   pub inputs : All (IsStrand nodes done) (inputs_at nodes at)

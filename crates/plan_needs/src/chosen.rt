@@ -1,9 +1,11 @@
 //! Which nodes are computed as whole arrays. Any choice gives the same values: this one decides how much memory and time they
 //! take. A node comes strip by strip where its cells serve one other node alone, and it replaces no two arrays by one.
-ghost use Rattle.std.specs.Prelude.{◌≡◌, ◌<◌, ◌≤◌, ◌+◌, length, true, get_or, OnOk, IfOk};
+ghost use Rattle.std.specs.Prelude.{◌≡◌, ◌<◌, ◌≤◌, ◌+◌, [], length, true, get_or, OnOk, IfOk};
+ghost use Rattle.xr_arrays.specs.Nodes.{AllFit};
 
 use crate::held::{inputs_of, is_source};
-use crate::sorts::{is_each_cell, takes_strips};
+use crate::sorts::{comes_in_strips, takes_in_strips};
+use crate::spread::is_spread;
 use std::alloc::{AllocError, Global};
 use xr_arrays::Node;
 use xr_types::NodeId;
@@ -31,10 +33,13 @@ struct Load {
     deep: u8,
 }
 
-fn user(node: &Node) -> Users {
-    if is_each_cell(node) {
+fn user(nodes: &[Node], at: usize) -> Users
+    requires fit { AllFit [] nodes.now }
+    requires inside { at < length nodes.now }
+{
+    if comes_in_strips(nodes, at) {
         Users::Cells
-    } else if takes_strips(node) {
+    } else if takes_in_strips(nodes, at) {
         Users::Fold
     } else {
         Users::Several
@@ -66,12 +71,13 @@ fn add_users(
     users: &mut [Users],
     at: usize,
 ) -> Result<(), AllocError>
+    requires fit { AllFit [] nodes.now }
     requires inside { at < length nodes.now }
     requires there { at < length users.old }
     ensures { length users.new ≡ length users.old }
 {
     if is_needed(users[at]) {
-        let by = user(&nodes[at]);
+        let by = user(nodes, at);
         for id in &inputs_of(alloc, &nodes[at])? {
             add_user(users, *id, by);
         }
@@ -80,7 +86,8 @@ fn add_users(
 }
 
 fn users_of(alloc: Global, nodes: &[Node], node: usize) -> Result<Vec<Users>, AllocError>
-    requires { node < length nodes.now }
+    requires fit { AllFit [] nodes.now }
+    requires inside { node < length nodes.now }
     ensures { IfOk result (λ v. length v.items ≡ node + 1) }
 {
     let count = node + 1;
@@ -118,9 +125,9 @@ fn load_of(alloc: Global, node: &Node, loads: &[Load]) -> Result<Load, AllocErro
     Ok(load)
 }
 
-// Whether a node is computed as a whole array.
-fn is_whole(node: &Node, users: Users, load: Load) -> bool {
-    if !is_each_cell(node) || load.deep > MOST_DEEP {
+// Whether a node whose cells may come strip by strip is computed as a whole array.
+fn is_whole(users: Users, load: Load) -> bool {
+    if load.deep > MOST_DEEP {
         return true;
     }
     match users {
@@ -131,19 +138,40 @@ fn is_whole(node: &Node, users: Users, load: Load) -> bool {
     }
 }
 
-fn load_after(node: &Node, whole: bool, load: Load) -> Load {
-    if is_source(node) {
-        Load { arrays: 0, deep: 0 }
-    } else if whole {
-        Load { arrays: 1, deep: 0 }
+// Whether a node is computed as a whole array, and what strips of it come from then.
+fn choice(
+    alloc: Global,
+    nodes: &[Node],
+    at: usize,
+    users: Users,
+    loads: &[Load],
+) -> Result<(bool, Load), AllocError>
+    requires fit { AllFit [] nodes.now }
+    requires inside { at < length nodes.now }
+{
+    let none = Load { arrays: 0, deep: 0 };
+    let kept = Load { arrays: 1, deep: 0 };
+    if is_source(&nodes[at]) {
+        return Ok((true, none));
+    }
+    if is_spread(nodes, at) {
+        return Ok((false, none));
+    }
+    if !comes_in_strips(nodes, at) {
+        return Ok((true, kept));
+    }
+    let load = load_of(alloc, &nodes[at], loads)?;
+    if is_whole(users, load) {
+        Ok((true, kept))
     } else {
-        load
+        Ok((false, load))
     }
 }
 
 /// For each node up to this one whether it is computed as a whole array, as this one is.
 pub fn whole_nodes(alloc: Global, nodes: &[Node], node: usize) -> Result<Vec<bool>, AllocError>
-    requires { node < length nodes.now }
+    requires fit { AllFit [] nodes.now }
+    requires inside { node < length nodes.now }
     ensures long { IfOk result (λ v. length v.items ≡ node + 1) }
     ensures root { IfOk result (λ v. get_or v.items node true ≡ true) }
 {
@@ -151,9 +179,8 @@ pub fn whole_nodes(alloc: Global, nodes: &[Node], node: usize) -> Result<Vec<boo
     let mut loads = Vec::new(alloc);
     let mut all = Vec::new(alloc);
     for at in 0..node {
-        let load = load_of(alloc, &nodes[at], &loads)?;
-        let whole = is_whole(&nodes[at], users[at], load);
-        loads.push(load_after(&nodes[at], whole, load))?;
+        let (whole, load) = choice(alloc, nodes, at, users[at], &loads)?;
+        loads.push(load)?;
         all.push(whole)?;
     }
     all.push(true)?;

@@ -12,5 +12,5 @@ pub use chosen::whole_nodes;
 pub use held::{input, inputs, inputs_of, is_source, source};
 pub use mark::mark_needed;
 pub use release::release_inputs;
-pub use sorts::{is_each_cell, takes_strips};
-pub use spread::spread_cell;
+pub use sorts::{comes_in_strips, takes_in_strips};
+pub use spread::{is_spread, spread_cell};

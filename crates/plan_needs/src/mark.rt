@@ -1,10 +1,10 @@
 //! How long the values of earlier nodes are kept for a node.
 ghost use Rattle.std.specs.Prelude.{◌≡◌, ◌<◌, ◌≤◌, ◌+◌, ℕ, [], length, get_or, true, false, All, OnOk, IfOk};
 ghost use Rattle.xr_arrays.specs.Nodes.{AllFit};
-ghost use Rattle.plan_needs.specs.Trees.{last_use, takes_strips, AreMarked, KeepFrom};
+ghost use Rattle.plan_needs.specs.Trees.{last_use, takes_in_strips, AreMarked, KeepFrom};
 
 use crate::held::inputs_of;
-use crate::sorts::takes_strips;
+use crate::sorts::takes_in_strips;
 use std::alloc::{AllocError, Global};
 use xr_arrays::Node;
 use xr_types::NodeId;
@@ -57,14 +57,16 @@ fn hold_all(whole: &mut [bool], ids: &[NodeId])
 }
 
 // A node that doesn't take strips has its inputs computed whole.
-fn hold_inputs(whole: &mut [bool], node: &Node, ids: &[NodeId])
-    requires { All (λ m. m < length whole.old) ids.now }
+fn hold_inputs(whole: &mut [bool], nodes: &[Node], at: usize, ids: &[NodeId])
+    requires fit { AllFit [] nodes.now }
+    requires inside { at < length nodes.now }
+    requires there { All (λ m. m < length whole.old) ids.now }
     ensures long { length whole.new ≡ length whole.old }
-    ensures held { takes_strips node.now ≡ false → All (λ m. get_or whole.new m true ≡ true) ids.now }
+    ensures held { takes_in_strips nodes.now at ≡ false → All (λ m. get_or whole.new m true ≡ true) ids.now }
     ensures grows { (k : ℕ) → get_or whole.old k true ≡ true → get_or whole.new k true ≡ true }
     ensures others { (k : ℕ) → All (λ m. m < k) ids.now → get_or whole.new k true ≡ get_or whole.old k true }
 {
-    if !takes_strips(node) {
+    if !takes_in_strips(nodes, at) {
         hold_all(whole, ids);
     }
 }
@@ -101,7 +103,7 @@ fn mark_at(
     let ids = inputs_of(alloc, &nodes[at])?;
     let user = last_use(whole[at], until[at], at);
     mark_all(until, &ids, user);
-    hold_inputs(whole, &nodes[at], &ids);
+    hold_inputs(whole, nodes, at, &ids);
     Ok(())
 }
 

@@ -3,6 +3,7 @@ ghost use Rattle.std.specs.Prelude.{◌≡◌, ◌<◌, ◌∷◌, [], length, t
 ghost use Rattle.xr_types.specs.Points.{size};
 ghost use Rattle.xr_arrays.specs.Nodes.{value, AllFit};
 ghost use Rattle.plan_core.specs.Needs.{source_of};
+ghost use Rattle.plan_needs.specs.Trees.{is_spread};
 ghost use Rattle.plan_needs.specs.Spreads.{spread, widens, without_axes};
 
 use crate::held::source;
@@ -58,4 +59,13 @@ pub fn spread_cell(nodes: &[Node], at: usize) -> Option<&ArrayValue>
     ensures { option_map (λ a. a.now) result ≡ spread 16 nodes.now at }
 {
     spread_in(nodes, at, MOST_STEPS)
+}
+
+/// Whether all cells of a node are the one cell of a source, to which the node adds axes.
+pub fn is_spread(nodes: &[Node], at: usize) -> bool
+    requires fit { AllFit [] nodes.now }
+    requires inside { at < length nodes.now }
+    ensures { result ≡ is_spread nodes.now at }
+{
+    spread_cell(nodes, at).is_some()
 }
