@@ -1,5 +1,5 @@
 -- Arrays all of whose cells are one cell.
-use Rattle.std.proofs.Common.{◌≡◌, ◌<◌, ◌≤◌, ◌+◌, ◌-◌, ℕ, ℤ, zero, suc, List, [], ◌∷◌, length, take, drop, get_or, Option, Some, None, refl, sym, ap, subst, ◌∙◌, arith}
+use Rattle.std.proofs.Common.{◌≡◌, ◌<◌, ◌≤◌, ◌+◌, ◌-◌, ℕ, ℤ, zero, suc, List, [], ◌∷◌, length, take, drop, insert, get_or, Option, Some, None, refl, sym, ap, subst, ◌∙◌, arith}
 use Rattle.std.specs.List.{All}
 use Rattle.std.specs.Option.{option_or}
 use Rattle.std.proofs.lemmas.List.{get_or_default, length-take, length-drop}
@@ -10,7 +10,8 @@ use Rattle.xr_arrays.specs.declared.node.Node.TheVariants.{Source, Take, Reorder
 use Rattle.xr_arrays.specs.Arrays.{at, Array, IsArray}
 use Rattle.xr_arrays.specs.Nodes.{nothing, value, widened, without, AllFit}
 use Rattle.plan_core.specs.Needs.{source_at, source_of}
-use Rattle.plan_core.proofs.Needs.{by_inputs, source_at_is, widen_ready}
+use Rattle.plan_core.specs.Widens.{IsWidening}
+use Rattle.plan_core.proofs.Needs.{by_inputs, source_at_is, value_small, widen_ready}
 use Rattle.plan_core.proofs.Tabs.{place_below, tab-length, All-tab}
 use Rattle.plan_core.proofs.Valued.{value_is_array}
 use Rattle.plan_core.proofs.Widens.{without_inside}
@@ -72,6 +73,7 @@ one_axis_more nodes m n a fit lt e s =
     let r = widen_ready nodes (each_kept nodes) node n w.axis w.count w.is (ready_anyway nodes m node fit lt is) in
     let here : value nodes m ≡ widened (value nodes n) w.axis w.count = by_inputs nodes m node fit lt is ∙ sym r.is in
     subst (λ (v : Array). IsSpread v a) (sym here) (record {
+      array = s.array;
       kind = s.kind;
       flat = s.flat;
       cells = widened_cells (value nodes n) w.axis w.count (get_or a.cells 0 None) r.widening.axis_is (value_is_array nodes n fit r.held.there).whole s.cells;
@@ -128,7 +130,8 @@ spread_is (suc k) nodes m a fit lt e = by_widens (widens_at nodes m) refl (λ n 
         let both = flat_source (source_at nodes n) a (is ∙ e) in
         let same : a ≡ value nodes n = source_value nodes n a fit below (sym both.0) in
         let array = value_is_array nodes n fit below in
-        subst (λ (v : Array). IsSpread v a) same (record { kind = refl; flat = both.1; cells = lone_cell a (subst (λ (x : Array). IsArray x) (sym same) array) both.1 })
+        let is_array : IsArray a = subst (λ (x : Array). IsArray x) (sym same) array in
+        subst (λ (v : Array). IsSpread v a) same (record { array = is_array; kind = refl; flat = both.1; cells = lone_cell a is_array both.1 })
 
     by_widens : (w : Option ℕ) → widens_at nodes m ≡ w → ((n : ℕ) → n < length nodes → spread k nodes n ≡ Some a → IsSpread (value nodes n) a) → found w (λ n. option_or (without_axes (source_at nodes n)) (spread k nodes n)) ≡ Some a → IsSpread (value nodes m) a
     by_widens None is deeper e = absurd cc
@@ -139,8 +142,8 @@ spread_is (suc k) nodes m a fit lt e = by_widens (widens_at nodes m) refl (λ n 
 -- ---- strips
 
 -- so many of the cells are the source with an axis of that size
-pub spread_strip : (v a : Array) (f n : ℕ) → IsArray v → IsArray a → IsSpread v a → f + n ≤ size v.shape → widened a 0 n ≡ record { kind = v.kind; shape = n ∷ []; cells = take n (drop f v.cells) }
-spread_strip v a f n is lone s inside = λ i. record { kind = sym s.kind i; shape = shape i; cells = cells i }
+pub spread_strip : (v a : Array) (f n : ℕ) → IsArray v → IsSpread v a → f + n ≤ size v.shape → widened a 0 n ≡ record { kind = v.kind; shape = n ∷ []; cells = take n (drop f v.cells) }
+spread_strip v a f n is s inside = λ i. record { kind = sym s.kind i; shape = shape i; cells = cells i }
   where
     c : Option ℤ
     c = get_or a.cells 0 None
@@ -152,4 +155,24 @@ spread_strip v a f n is lone s inside = λ i. record { kind = sym s.kind i; shap
     long = let d = length-drop f v.cells in let t = length-take n (drop f v.cells) in let w = is.whole in tab-length (widened a 0 n).shape (λ p. at a (without 0 p)) ∙ ap size shape ∙ omega (arith, d, t, w, inside)
 
     cells : (widened a 0 n).cells ≡ take n (drop f v.cells)
-    cells = same_cells c (widened a 0 n).cells (take n (drop f v.cells)) long (widened_cells a 0 n c (omega arith) lone.whole (lone_cell a lone s.flat)) (All-take (λ x. x ≡ c) n (drop f v.cells) (All-drop (λ x. x ≡ c) f v.cells s.cells))
+    cells = same_cells c (widened a 0 n).cells (take n (drop f v.cells)) long (widened_cells a 0 n c (omega arith) s.array.whole (lone_cell a s.array s.flat)) (All-take (λ x. x ≡ c) n (drop f v.cells) (All-drop (λ x. x ≡ c) f v.cells s.cells))
+
+pub record SpreadStrip (v a : Array) (f n : ℕ) : Type 0 where
+  pub widening : IsWidening a.shape 0 n
+  pub is : widened a 0 n ≡ record { kind = v.kind; shape = n ∷ []; cells = take n (drop f v.cells) }
+
+one_cell_size : (n : ℕ) → n ≡ size (n ∷ [])
+one_cell_size n = grind arith
+
+-- strips of a node whose cells are one cell
+pub strip_found : (nodes : List Node) (m : ℕ) (a : Array) (f n : ℕ) → AllFit [] nodes → m < length nodes → Some a ≡ spread 16 nodes m → f + n ≤ size (value nodes m).shape → SpreadStrip (value nodes m) a f n
+strip_found nodes m a f n fit lt e inside =
+    let s = spread_is 16 nodes m a fit lt (sym e) in
+    let few = value_small nodes m (Source nothing) fit lt in
+    let flat : size a.shape ≡ 1 = ap size s.flat in
+    let one = one_cell_size n in
+    let long : size (insert a.shape 0 n) ≡ n = ap (λ (t : List ℕ). size (insert t 0 n)) s.flat ∙ sym one in
+    record {
+      widening = record { axis_is = omega arith; few = omega (arith, flat); small = omega (arith, long, few, inside) };
+      is = spread_strip (value nodes m) a f n (value_is_array nodes m fit lt) s inside;
+    }

@@ -3,7 +3,7 @@ use Rattle.std.specs.Prelude.{◌≡◌, ℕ, zero, suc, List, [], ◌∷◌, ge
 use Rattle.std.specs.Option.{option_or}
 use Rattle.xr_arrays.specs.declared.node.Node.{Node}
 use Rattle.xr_arrays.specs.declared.node.Node.TheVariants.{Source, Take, Reorder, Widen, Unary, Binary, Choose, Fold, Scan, Concat, Chunk}
-use Rattle.xr_arrays.specs.Arrays.{Array}
+use Rattle.xr_arrays.specs.Arrays.{Array, IsArray}
 use Rattle.plan_core.specs.Needs.{source_at}
 
 -- the node to which an axis is added
@@ -43,6 +43,7 @@ spread zero nodes m = None
 spread (suc k) nodes m = found (widens_at nodes m) (λ n. option_or (without_axes (source_at nodes n)) (spread k nodes n))
 
 pub record IsSpread (v a : Array) : Type 0 where
+  pub array : IsArray a
   pub kind : v.kind ≡ a.kind
   pub flat : a.shape ≡ []
   pub cells : All (λ x. x ≡ get_or a.cells 0 None) v.cells

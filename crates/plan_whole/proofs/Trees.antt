@@ -14,45 +14,18 @@ use Rattle.xr_arrays.specs.Arrays.{Array, IsArray}
 use Rattle.xr_arrays.specs.Elements.{unary_of, binary_of, choose_of, result_kind, takes_one, takes_two, Gives, Suits}
 use Rattle.xr_arrays.specs.Nodes.{nothing, value, values, AllFit, most_node_cells}
 use Rattle.plan_core.specs.Needs.{inputs_at, inputs_of, source_at, IsHeld, IsReady}
-use Rattle.plan_core.proofs.Needs.{binary_ready, by_inputs, choose_ready, inputs_at_is, inputs_before, ready, source_at_is, source_next, unary_ready, value_small}
+use Rattle.plan_core.proofs.Needs.{binary_ready, by_inputs, choose_ready, inputs_at_is, inputs_before, unary_ready, value_small}
 use Rattle.plan_core.proofs.Plans.{values-length}
 use Rattle.plan_core.proofs.Valued.{value_is_array}
 use Rattle.cell_strips.specs.Strips.{strip}
 use Rattle.cell_strips.proofs.StripLaws.{strip_is, strip_of_choice, strip_of_one, strip_of_two}
 use Rattle.plan_needs.specs.Trees.{IsStrand, IsTree}
+use Rattle.plan_needs.proofs.Ready.{each_kept, ready_anyway}
 
 -- ---- what a node asks of its inputs, whether they are held or not
 
--- as if each value were kept
-abbrev each_kept : List Node → List (Option Array)
-each_kept nodes = map Some (values nodes)
-
-some_at : (vs : List Array) (m : ℕ) → m < length vs → get_or (map Some vs) m None ≡ Some (get_or vs m nothing)
-some_at [] m lt = absurd (omega arith)
-some_at (v ∷ vs) zero lt = refl
-some_at (v ∷ vs) (suc m) lt = some_at vs m (omega arith)
-
-either : (o : Option Array) (v : Array) → (is_some o ≡ true → option_or o None ≡ Some v) → option_or o (Some v) ≡ Some v
-either None v h = refl
-either (Some a) v h = h refl
-
-held_anyway : (nodes : List Node) (m : ℕ) → AllFit [] nodes → m < length nodes → IsHeld nodes (each_kept nodes) m
-held_anyway nodes m fit lt =
-    let node : Node = get_or nodes m (Source nothing) in
-    let is : node ≡ get_or nodes m node = get_or_default nodes m (Source nothing) node lt in
-    let long = values-length nodes in
-    let inside : m < length (values nodes) = omega (arith, lt, long) in
-    record {
-      there = lt;
-      done_there = let many = length-map (values nodes) Some in omega (arith, many, inside);
-      is = ap (option_or (source_at nodes m)) (some_at (values nodes) m inside)
-          ∙ either (source_at nodes m) (value nodes m) (λ some. source_next nodes m node fit lt is (ap is_some (sym (source_at_is nodes m (Source nothing) lt)) ∙ some));
-    }
-
 tree_ready : (nodes : List Node) (done : List (Option Array)) (at : ℕ) (node : Node) → IsTree nodes done at → node ≡ get_or nodes at node → IsReady nodes (each_kept nodes) node
-tree_ready nodes done at node t is =
-    let inside = t.at_there in
-    ready nodes (each_kept nodes) at node t.fit inside is (λ k d lt. held_anyway nodes (get_or (inputs_at nodes at) k d) t.fit (let b = inputs_before nodes at node t.fit inside k d lt in omega (arith, b, inside)))
+tree_ready nodes done at node t is = ready_anyway nodes at node t.fit t.at_there is
 
 -- ---- strips of arrays
 

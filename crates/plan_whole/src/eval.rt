@@ -3,12 +3,12 @@ ghost use Rattle.std.specs.Prelude.{◌≡◌, ◌<◌, ◌≤◌, [], length, t
 ghost use Rattle.xr_types.specs.Points.{size};
 ghost use Rattle.xr_arrays.specs.Nodes.{value, node_of, folded, kept, most_node_cells, AllFit, AreFed};
 ghost use Rattle.plan_core.specs.Needs.{inputs_at, IsHeld, IsReady};
-ghost use Rattle.plan_needs.specs.Trees.{node_is, takes_strips, IsStrand};
+ghost use Rattle.plan_needs.specs.Trees.{takes_in_strips, takes_strips, IsStrand};
 
 use crate::fold::fold;
 use crate::strips::{collect, standing};
 use arrangement::{concat, reorder, take, widen};
-use plan_needs::{input, inputs, is_each_cell};
+use plan_needs::{comes_in_strips, input, inputs};
 use row_folds::scan;
 use std::alloc::{AllocError, Global};
 use xr_arrays::{ArrayValue, Feed, Node};
@@ -99,10 +99,10 @@ pub fn compute(
     requires fit { AllFit [] nodes.now }
     requires inside { at < length nodes.now }
     requires strands { All (IsStrand nodes.now done.now) (inputs_at nodes.now at) }
-    requires held { node_is takes_strips nodes.now at ≡ false → All (IsHeld nodes.now done.now) (inputs_at nodes.now at) }
+    requires held { takes_in_strips nodes.now at ≡ false → All (IsHeld nodes.now done.now) (inputs_at nodes.now at) }
     ensures { IfOk result (λ a. a ≡ value nodes.now at) }
 {
-    if is_each_cell(&nodes[at]) {
+    if comes_in_strips(nodes, at) {
         return collect(alloc, nodes, done, at);
     }
     match &nodes[at] {

@@ -1,14 +1,14 @@
 //! The values of nodes strip by strip: no node between that of which strips are asked and those whose values stand there is
 //! computed as a whole array.
-ghost use Rattle.std.specs.Prelude.{◌≡◌, ◌<◌, ◌≤◌, ◌+◌, length, IfOk, option_map};
+ghost use Rattle.std.specs.Prelude.{◌≡◌, ◌<◌, ◌≤◌, ◌+◌, length, insert, IfOk, option_map};
 ghost use Rattle.xr_types.specs.Points.{size};
 ghost use Rattle.xr_arrays.specs.Nodes.{value};
 ghost use Rattle.cell_strips.specs.Strips.{strip};
 ghost use Rattle.plan_needs.specs.Trees.{standing, IsStrand, IsTree};
 
-use arrangement::points;
+use arrangement::{points, widen};
 use cell_strips::{Strips, binary, choose, collect_strips, strip_of, unary};
-use plan_needs::source;
+use plan_needs::{source, spread_cell};
 use std::alloc::{AllocError, Global};
 use xr_arrays::{ArrayValue, Node};
 
@@ -69,6 +69,9 @@ fn computed_strip(
     requires inside { from + n ≤ size (value nodes.now at).shape }
     ensures { IfOk result (λ b. b ≡ strip from n (value nodes.now at)) }
 {
+    if let Some(cell) = spread_cell(nodes, at) {
+        return widen(alloc, cell, 0, n as u64);
+    }
     match &nodes[at] {
         Node::Unary { op, kind, input } => {
             let a = strip_at(alloc, nodes, done, *input as usize, from, n)?;
@@ -85,35 +88,58 @@ fn computed_strip(
             let second = strip_at(alloc, nodes, done, *b as usize, from, n)?;
             choose(alloc, &tests, &first, &second)
         }
-        _ => unreachable!(),
+        Node::Source { .. } | Node::Take { .. } | Node::Reorder { .. } => unreachable!(),
+        Node::Widen { .. } | Node::Fold { .. } | Node::Scan { .. } => unreachable!(),
+        Node::Concat { .. } | Node::Chunk { .. } => unreachable!(),
     }
 }
 
-// The shape of a node's value.
-fn shape_at<'a>(nodes: &'a [Node], done: &'a [Option<ArrayValue>], at: usize) -> &'a [u64]
+// The sizes of a node's value.
+fn sizes_at(
+    alloc: Global,
+    nodes: &[Node],
+    done: &[Option<ArrayValue>],
+    at: usize,
+) -> Result<Vec<u64>, AllocError>
     requires { IsStrand nodes.now done.now at }
-    ensures { result.now ≡ (value nodes.now at).shape }
+    ensures { IfOk result (λ v. v.items ≡ (value nodes.now at).shape) }
 {
     match standing(nodes, done, at) {
-        Some(a) => a.shape(),
-        None => computed_shape(nodes, done, at),
+        Some(a) => Vec::from_slice(alloc, a.shape()),
+        None => computed_sizes(alloc, nodes, done, at),
     }
 }
 
-/// The shape of the value of a node that is computed from strips.
-pub fn computed_shape<'a>(
-    nodes: &'a [Node],
-    done: &'a [Option<ArrayValue>],
+// Sizes with one more before an axis.
+fn widened_sizes(mut sizes: Vec<u64>, axis: usize, size: u64) -> Result<Vec<u64>, AllocError>
+    requires { axis ≤ length sizes.items }
+    ensures { IfOk result (λ v. v.items ≡ insert sizes.items axis size) }
+{
+    sizes.insert(axis, size)?;
+    Ok(sizes)
+}
+
+/// The sizes of the value of a node that is computed from strips.
+pub fn computed_sizes(
+    alloc: Global,
+    nodes: &[Node],
+    done: &[Option<ArrayValue>],
     at: usize,
-) -> &'a [u64]
+) -> Result<Vec<u64>, AllocError>
     requires { IsTree nodes.now done.now at }
-    ensures { result.now ≡ (value nodes.now at).shape }
+    ensures { IfOk result (λ v. v.items ≡ (value nodes.now at).shape) }
 {
     match &nodes[at] {
-        Node::Unary { input, .. } => shape_at(nodes, done, *input as usize),
-        Node::Binary { a, .. } => shape_at(nodes, done, *a as usize),
-        Node::Choose { a, .. } => shape_at(nodes, done, *a as usize),
-        _ => unreachable!(),
+        Node::Unary { input, .. } => sizes_at(alloc, nodes, done, *input as usize),
+        Node::Binary { a, .. } => sizes_at(alloc, nodes, done, *a as usize),
+        Node::Choose { a, .. } => sizes_at(alloc, nodes, done, *a as usize),
+        Node::Widen { input, axis, size } => {
+            let sizes = sizes_at(alloc, nodes, done, *input as usize)?;
+            widened_sizes(sizes, *axis, *size)
+        }
+        Node::Source { .. } | Node::Take { .. } | Node::Reorder { .. } => unreachable!(),
+        Node::Fold { .. } | Node::Scan { .. } => unreachable!(),
+        Node::Concat { .. } | Node::Chunk { .. } => unreachable!(),
     }
 }
 
@@ -145,7 +171,7 @@ pub fn collect(
     requires { IsTree nodes.now done.now at }
     ensures { IfOk result (λ a. a ≡ value nodes.now at) }
 {
-    let shape = computed_shape(nodes, done, at);
-    let total = points(shape) as usize;
-    collect_strips(alloc, &Tree { nodes, done, at }, shape, total)
+    let sizes = computed_sizes(alloc, nodes, done, at)?;
+    let total = points(&sizes) as usize;
+    collect_strips(alloc, &Tree { nodes, done, at }, &sizes, total)
 }

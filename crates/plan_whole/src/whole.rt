@@ -2,11 +2,11 @@
 ghost use Rattle.std.specs.Prelude.{◌≡◌, ◌<◌, ◌≤◌, ◌+◌, ℕ, [], length, get_or, false, true, Some, None, All, OnOk, IfOk, refl};
 ghost use Rattle.xr_arrays.specs.Nodes.{value, AllFit};
 ghost use Rattle.plan_core.specs.Needs.{inputs_at, IsHeld};
-ghost use Rattle.plan_needs.specs.Trees.{is_each_cell, node_is, takes_strips, AreThere, IsNext, IsStrand, KeepFrom};
+ghost use Rattle.plan_needs.specs.Trees.{takes_in_strips, AreThere, IsNext, IsStrand, KeepFrom};
 
 use crate::eval::compute;
 use plan_core::{Compute, Plan};
-use plan_needs::{is_each_cell, is_source, mark_needed, release_inputs, whole_nodes};
+use plan_needs::{comes_in_strips, is_source, mark_needed, release_inputs, whole_nodes};
 use std::alloc::{AllocError, Global};
 use std::thread::Threads;
 use xr_arrays::{ArrayValue, Node};
@@ -33,7 +33,7 @@ fn next(
     requires whole_there { at < length whole.now }
     requires until_there { at < length until.now }
     requires strands { 0 < get_or until.now at 0 → All (IsStrand nodes.now done.now) (inputs_at nodes.now at) }
-    requires held { 0 < get_or until.now at 0 → node_is takes_strips nodes.now at ≡ false → All (IsHeld nodes.now done.now) (inputs_at nodes.now at) }
+    requires held { 0 < get_or until.now at 0 → takes_in_strips nodes.now at ≡ false → All (IsHeld nodes.now done.now) (inputs_at nodes.now at) }
     ensures { IfOk result (λ o. 0 < get_or until.now at 0 → IsNext nodes.now whole.now at o) }
 {
     if until[at] == 0 {
@@ -42,7 +42,7 @@ fn next(
     if is_source(&nodes[at]) {
         return Ok(None);
     }
-    if is_each_cell(&nodes[at]) && !whole[at] {
+    if !whole[at] && comes_in_strips(nodes, at) {
         return Ok(None);
     }
     let value = compute(alloc, nodes, done, at)?;
