@@ -17,7 +17,11 @@ fn without_axes(node: &Node) -> Option<&ArrayValue>
     ensures { option_map (λ a. a.now) result ≡ without_axes (source_of node.now) }
 {
     match source(node) {
-        Some(cells) => if cells.shape().is_empty() { Some(cells) } else { None },
+        Some(cells) => if cells.shape().is_empty() {
+            Some(cells)
+        } else {
+            None
+        },
         None => None,
     }
 }

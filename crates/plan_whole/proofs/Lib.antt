@@ -3,3 +3,5 @@ pub mod EachCell
 pub mod Totals
 pub mod FoldedCells
 pub mod Trees
+pub mod Evaluated
+pub mod Standing

@@ -1,26 +1,27 @@
 -- A node that comes strip by strip is the operation on the strips of its inputs.
-use Rattle.std.proofs.Common.{◌≡◌, ◌<◌, ◌≤◌, ◌+◌, ℕ, zero, suc, Bool, true, List, [], ◌∷◌, length, map, get_or, Option, Some, None, is_some, refl, sym, ap, subst, ◌∙◌, arith}
+use Rattle.std.proofs.Common.{◌≡◌, ◌<◌, ◌≤◌, ◌+◌, ℕ, Bool, true, false, List, [], ◌∷◌, length, insert, get_or, Option, Some, None, is_some, refl, sym, ap, subst, ◌∙◌, arith}
 use Rattle.std.specs.List.{All}
-use Rattle.std.specs.Option.{option_or}
-use Rattle.std.proofs.lemmas.List.{get_or_default, length-map}
+use Rattle.std.specs.Prelude.{◌||◌}
 use Rattle.std.proofs.lemmas.List.Elements.{All-head, All-tail}
 use Rattle.xr_types.specs.Points.{size}
 use Rattle.xr_types.specs.declared.kind.DType.{DType}
 use Rattle.xr_types.specs.declared.kind.DType.TheVariants.{Bool as truths}
 use Rattle.xr_types.specs.declared.operation.OpKind.{OpKind}
 use Rattle.xr_arrays.specs.declared.node.Node.{Node}
-use Rattle.xr_arrays.specs.declared.node.Node.TheVariants.{Source, Unary, Binary, Choose}
+use Rattle.xr_arrays.specs.declared.node.Node.TheVariants.{Source, Take, Reorder, Widen, Unary, Binary, Choose, Fold, Scan, Concat, Chunk}
 use Rattle.xr_arrays.specs.Arrays.{Array, IsArray}
 use Rattle.xr_arrays.specs.Elements.{unary_of, binary_of, choose_of, result_kind, takes_one, takes_two, Gives, Suits}
-use Rattle.xr_arrays.specs.Nodes.{nothing, value, values, AllFit, most_node_cells}
-use Rattle.plan_core.specs.Needs.{inputs_at, inputs_of, source_at, IsHeld, IsReady}
-use Rattle.plan_core.proofs.Needs.{binary_ready, by_inputs, choose_ready, inputs_at_is, inputs_before, unary_ready, value_small}
-use Rattle.plan_core.proofs.Plans.{values-length}
-use Rattle.plan_core.proofs.Valued.{value_is_array}
+use Rattle.xr_arrays.specs.Nodes.{value, widened, most_node_cells}
+use Rattle.plan_core.specs.Needs.{inputs_at, inputs_of, IsReady}
+use Rattle.plan_core.proofs.Needs.{binary_ready, by_inputs, choose_ready, inputs_at_is, inputs_before, unary_ready, value_small, widen_ready}
 use Rattle.cell_strips.specs.Strips.{strip}
 use Rattle.cell_strips.proofs.StripLaws.{strip_is, strip_of_choice, strip_of_one, strip_of_two}
-use Rattle.plan_needs.specs.Trees.{IsStrand, IsTree}
+use Rattle.plan_needs.specs.Spreads.{found, spread, widens, widens_at}
+use Rattle.plan_needs.specs.Trees.{is_each_cell, node_is, IsStrand, IsTree}
+use Rattle.plan_needs.proofs.Marks.{node_is_at}
 use Rattle.plan_needs.proofs.Ready.{each_kept, ready_anyway}
+use Rattle.plan_needs.proofs.Spreads.{widens_at_is}
+use Rattle.plan_whole.specs.Operations.{alike, BinaryTree, ChooseTree, UnaryTree}
 
 -- ---- what a node asks of its inputs, whether they are held or not
 
@@ -40,17 +41,6 @@ strip_fits v a f n is few inside e = record {
 }
 
 -- ---- each operation
-
-pub record UnaryTree (nodes : List Node) (done : List (Option Array)) (at : ℕ) (op : OpKind) (kind : DType) (m : ℕ) : Type 0 where
-  pub strand : IsStrand nodes done m
-  pub below : m < at
-  pub shape : (value nodes at).shape ≡ (value nodes m).shape
-  pub array : IsArray (value nodes m)
-  pub few : size (value nodes m).shape ≤ most_node_cells
-  pub one : takes_one op ≡ true
-  pub gives : Gives op kind (value nodes m).kind
-  pub suits : Suits op (value nodes m).kind
-  pub is : value nodes at ≡ unary_of op kind (value nodes m)
 
 pub unary_tree : (nodes : List Node) (done : List (Option Array)) (at : ℕ) (node : Node) (op : OpKind) (kind : DType) (m : ℕ) → IsTree nodes done at → node ≡ get_or nodes at node → node ≡ Unary op kind m → UnaryTree nodes done at op kind m
 unary_tree nodes done at node op kind m t is is_unary =
@@ -89,21 +79,6 @@ unary_strip nodes done at op kind m a f n t inside e =
       suits = subst (λ (x : Array). Suits op x.kind) (sym e) t.suits;
       is = ap (unary_of op kind) e ∙ strip_of_one op kind f n (value nodes m) t.array within ∙ ap (strip f n) (sym t.is);
     }
-
-pub record BinaryTree (nodes : List Node) (done : List (Option Array)) (at : ℕ) (op : OpKind) (m k : ℕ) : Type 0 where
-  pub strand : IsStrand nodes done m
-  pub other_strand : IsStrand nodes done k
-  pub below : m < at
-  pub other_below : k < at
-  pub shape : (value nodes at).shape ≡ (value nodes m).shape
-  pub array : IsArray (value nodes m)
-  pub other : IsArray (value nodes k)
-  pub few : size (value nodes m).shape ≤ most_node_cells
-  pub two : takes_two op ≡ true
-  pub shapes : (value nodes k).shape ≡ (value nodes m).shape
-  pub kinds : (value nodes k).kind ≡ (value nodes m).kind
-  pub suits : Suits op (value nodes m).kind
-  pub is : value nodes at ≡ binary_of op (result_kind op (value nodes m).kind) (value nodes m) (value nodes k)
 
 pub binary_tree : (nodes : List Node) (done : List (Option Array)) (at : ℕ) (node : Node) (op : OpKind) (m k : ℕ) → IsTree nodes done at → node ≡ get_or nodes at node → node ≡ Binary op m k → BinaryTree nodes done at op m k
 binary_tree nodes done at node op m k t is is_binary =
@@ -152,24 +127,6 @@ binary_strip nodes done at op m k a b f n t inside e d =
       suits = subst (λ (x : Array). Suits op x.kind) (sym e) t.suits;
       is = (λ i. binary_of op (result_kind op (e i).kind) (e i) (d i)) ∙ strip_of_two op f n (value nodes m) (value nodes k) t.array t.other t.shapes within ∙ ap (strip f n) (sym t.is);
     }
-
-pub record ChooseTree (nodes : List Node) (done : List (Option Array)) (at c m k : ℕ) : Type 0 where
-  pub cond_strand : IsStrand nodes done c
-  pub strand : IsStrand nodes done m
-  pub other_strand : IsStrand nodes done k
-  pub cond_below : c < at
-  pub below : m < at
-  pub other_below : k < at
-  pub shape : (value nodes at).shape ≡ (value nodes m).shape
-  pub cond : IsArray (value nodes c)
-  pub array : IsArray (value nodes m)
-  pub other : IsArray (value nodes k)
-  pub few : size (value nodes m).shape ≤ most_node_cells
-  pub truth : (value nodes c).kind ≡ truths
-  pub cond_shape : (value nodes c).shape ≡ (value nodes m).shape
-  pub shapes : (value nodes k).shape ≡ (value nodes m).shape
-  pub kinds : (value nodes k).kind ≡ (value nodes m).kind
-  pub is : value nodes at ≡ choose_of (value nodes c) (value nodes m) (value nodes k)
 
 pub choose_tree : (nodes : List Node) (done : List (Option Array)) (at : ℕ) (node : Node) (c m k : ℕ) → IsTree nodes done at → node ≡ get_or nodes at node → node ≡ Choose c m k → ChooseTree nodes done at c m k
 choose_tree nodes done at node c m k t is is_choice =
@@ -226,3 +183,90 @@ choose_strip nodes done at i m k c a b f n t inside g e d =
       kind = ap (λ (x : Array). x.kind) d ∙ t.kinds ∙ sym (ap (λ (x : Array). x.kind) e);
       is = (λ j. choose_of (g j) (e j) (d j)) ∙ strip_of_choice f n (value nodes i) (value nodes m) (value nodes k) t.cond t.array t.other t.cond_shape t.shapes within ∙ ap (strip f n) (sym t.is);
     }
+
+-- ---- axes that are added
+
+pub record WidenTree (nodes : List Node) (done : List (Option Array)) (at m axis count : ℕ) : Type 0 where
+  pub strand : IsStrand nodes done m
+  pub below : m < at
+  pub axis_is : axis ≤ length (value nodes m).shape
+  pub shape : insert (value nodes m).shape axis count ≡ (value nodes at).shape
+
+pub widen_tree : (nodes : List Node) (done : List (Option Array)) (at : ℕ) (node : Node) (m axis count : ℕ) → IsTree nodes done at → node ≡ get_or nodes at node → node ≡ Widen m axis count → WidenTree nodes done at m axis count
+widen_tree nodes done at node m axis count t is is_widened =
+    let r = widen_ready nodes (each_kept nodes) node m axis count is_widened (tree_ready nodes done at node t is) in
+    let ids : inputs_at nodes at ≡ m ∷ [] = inputs_at_is nodes at node t.at_there ∙ ap inputs_of (sym is ∙ is_widened) in
+    let here : value nodes at ≡ widened (value nodes m) axis count = by_inputs nodes at node t.fit t.at_there is ∙ sym r.is in
+    record {
+      strand = All-head (IsStrand nodes done) m [] (subst (All (IsStrand nodes done)) ids t.inputs);
+      below = All-head (λ k. k < at) m [] (subst (All (λ k. k < at)) ids (inputs_before nodes at node t.fit t.at_there));
+      axis_is = r.widening.axis_is;
+      shape = ap (λ (a : Array). a.shape) (sym here);
+    }
+
+-- ---- the sorts of nodes that come strip by strip
+
+abbrev pub sort_of : Node → Bool
+sort_of node = is_each_cell node || is_some (widens node)
+
+none_found : (w : Option ℕ) (f : ℕ → Option Array) → is_some w ≡ false → is_some (found w f) ≡ false
+none_found None f e = refl
+none_found (Some n) f e = absurd cc
+
+one_sort : (b c w : Bool) → (b || c) ≡ true → (w ≡ false → c ≡ false) → (b || w) ≡ true
+one_sort true c w e h = refl
+one_sort false c true e h = refl
+one_sort false c false e h = let f = h refl in absurd cc
+
+pub tree_sort : (nodes : List Node) (done : List (Option Array)) (at : ℕ) (node : Node) → IsTree nodes done at → node ≡ get_or nodes at node → sort_of node ≡ true
+tree_sort nodes done at node t is =
+    let each : node_is is_each_cell nodes at ≡ is_each_cell node = node_is_at is_each_cell nodes at node t.at_there is in
+    let widened : widens_at nodes at ≡ widens node = widens_at_is nodes at node t.at_there ∙ ap widens (sym is) in
+    one_sort (is_each_cell node) (is_some (spread 16 nodes at)) (is_some (widens node)) (ap (λ b. b || is_some (spread 16 nodes at)) (sym each) ∙ t.in_strips)
+    (λ none. none_found (widens_at nodes at) _ (ap is_some widened ∙ none))
+
+only_first : (b c : Bool) → (b || c) ≡ true → c ≡ false → b ≡ true
+only_first true c e f = refl
+only_first false c e f = absurd cc
+
+-- a node whose cells aren't one cell has each from those at its place
+pub tree_each_cell : (nodes : List Node) (done : List (Option Array)) (at : ℕ) (node : Node) → IsTree nodes done at → node ≡ get_or nodes at node → None ≡ spread 16 nodes at → is_each_cell node ≡ true
+tree_each_cell nodes done at node t is none =
+    sym (node_is_at is_each_cell nodes at node t.at_there is) ∙ only_first (node_is is_each_cell nodes at) (is_some (spread 16 nodes at)) t.in_strips (ap is_some (sym none))
+
+-- ---- the input whose sizes a node has
+
+pub record AlikeTree (nodes : List Node) (done : List (Option Array)) (at m : ℕ) : Type 0 where
+  pub strand : IsStrand nodes done m
+  pub below : m < at
+  pub shape : (value nodes at).shape ≡ (value nodes m).shape
+
+pub alike_tree : (nodes : List Node) (done : List (Option Array)) (at : ℕ) (node : Node) (m : ℕ) → IsTree nodes done at → node ≡ get_or nodes at node → Some m ≡ alike node → AlikeTree nodes done at m
+alike_tree nodes done at (Source a) m t is e = absurd cc
+alike_tree nodes done at (Take n axis from fill drops) m t is e = absurd cc
+alike_tree nodes done at (Reorder n order) m t is e = absurd cc
+alike_tree nodes done at (Widen n axis count) m t is e = absurd cc
+alike_tree nodes done at (Unary op kind n) m t is e = let s : n ≡ m = cc in let u = unary_tree nodes done at (Unary op kind n) op kind n t is refl in subst (AlikeTree nodes done at) s (record { strand = u.strand; below = u.below; shape = u.shape })
+alike_tree nodes done at (Binary op k n) m t is e = let s : k ≡ m = cc in let u = binary_tree nodes done at (Binary op k n) op k n t is refl in subst (AlikeTree nodes done at) s (record { strand = u.strand; below = u.below; shape = u.shape })
+alike_tree nodes done at (Choose c k n) m t is e = let s : k ≡ m = cc in let u = choose_tree nodes done at (Choose c k n) c k n t is refl in subst (AlikeTree nodes done at) s (record { strand = u.strand; below = u.below; shape = u.shape })
+alike_tree nodes done at (Fold k n feeds) m t is e = absurd cc
+alike_tree nodes done at (Scan k n axis) m t is e = absurd cc
+alike_tree nodes done at (Concat ns axis) m t is e = absurd cc
+alike_tree nodes done at (Chunk n sizes) m t is e = absurd cc
+
+-- where there is none, an axis is added
+sort_left : (node : Node) → sort_of node ≡ true → None ≡ alike node → is_some (widens node) ≡ true
+sort_left (Source a) s e = absurd cc
+sort_left (Take n axis from fill drops) s e = absurd cc
+sort_left (Reorder n order) s e = absurd cc
+sort_left (Widen n axis count) s e = refl
+sort_left (Unary op kind n) s e = absurd cc
+sort_left (Binary op m n) s e = absurd cc
+sort_left (Choose c m n) s e = absurd cc
+sort_left (Fold k n feeds) s e = absurd cc
+sort_left (Scan k n axis) s e = absurd cc
+sort_left (Concat ns axis) s e = absurd cc
+sort_left (Chunk n sizes) s e = absurd cc
+
+pub adds_axis : (nodes : List Node) (done : List (Option Array)) (at : ℕ) (node : Node) → IsTree nodes done at → node ≡ get_or nodes at node → None ≡ alike node → is_some (widens node) ≡ true
+adds_axis nodes done at node t is none = sort_left node (tree_sort nodes done at node t is) none

@@ -105,12 +105,13 @@ pub fn compute(
     if comes_in_strips(nodes, at) {
         return collect(alloc, nodes, done, at);
     }
-    match &nodes[at] {
+    let node = &nodes[at];
+    match node {
         Node::Fold {
             fold: kind,
             input: id,
             feeds,
         } => fold_of(alloc, nodes, done, *kind, *id as usize, feeds.as_slice()),
-        node => value_of(alloc, nodes, done, node),
+        _ => value_of(alloc, nodes, done, node),
     }
 }

@@ -2,7 +2,7 @@
 ghost use Rattle.std.specs.Prelude.{◌≡◌, ◌<◌, ◌≤◌, ◌+◌, ℕ, [], length, get_or, false, true, Some, None, All, OnOk, IfOk, refl};
 ghost use Rattle.xr_arrays.specs.Nodes.{value, AllFit};
 ghost use Rattle.plan_core.specs.Needs.{inputs_at, IsHeld};
-ghost use Rattle.plan_needs.specs.Trees.{takes_in_strips, AreThere, IsNext, IsStrand, KeepFrom};
+ghost use Rattle.plan_needs.specs.Trees.{comes_in_strips, takes_in_strips, AreThere, IsNext, IsStrand, KeepFrom};
 
 use crate::eval::compute;
 use plan_core::{Compute, Plan};
@@ -17,6 +17,21 @@ use xr_types::{ComputeFault, NodeId};
 /// of which is kept as long as something needs it.
 #[derive(Clone, Copy)]
 pub struct Whole;
+
+// Whether a node comes strip by strip.
+fn is_passed(nodes: &[Node], whole: &[bool], at: usize) -> bool
+    requires fit { AllFit [] nodes.now }
+    requires inside { at < length nodes.now }
+    requires whole_there { at < length whole.now }
+    ensures passed { result ≡ true → get_or whole.now at true ≡ false }
+    ensures comes { result ≡ true → comes_in_strips nodes.now at ≡ true }
+{
+    if whole[at] {
+        false
+    } else {
+        comes_in_strips(nodes, at)
+    }
+}
 
 // The value that is kept beside the plan: none for a node that isn't needed, none for a source, and none for a node that comes
 // strip by strip.
@@ -42,7 +57,7 @@ fn next(
     if is_source(&nodes[at]) {
         return Ok(None);
     }
-    if !whole[at] && comes_in_strips(nodes, at) {
+    if is_passed(nodes, whole, at) {
         return Ok(None);
     }
     let value = compute(alloc, nodes, done, at)?;
@@ -66,10 +81,7 @@ fn release_after(
     ensures long { length done.new ≡ length done.old }
     ensures kept { (m : ℕ) → at < get_or until.now m 0 → get_or done.new m None ≡ get_or done.old m None }
 {
-    if until[at] == 0 {
-        return Ok(());
-    }
-    if !whole[at] {
+    if until[at] == 0 || !whole[at] {
         return Ok(());
     }
     release_inputs(alloc, nodes, done, whole, until, at, at)
@@ -98,18 +110,34 @@ fn step(
     release_after(alloc, nodes, done, whole, until, at)
 }
 
+// The value of a node, where each node of which it is said so is computed as a whole array.
+fn evaluate_by(
+    alloc: Global,
+    nodes: &[Node],
+    whole: &mut [bool],
+    node: usize,
+) -> Result<ArrayValue, AllocError>
+    requires fit { AllFit [] nodes.now }
+    requires inside { node < length nodes.now }
+    requires long { length whole.old ≡ node + 1 }
+    requires root { get_or whole.old node true ≡ true }
+    ensures { IfOk result (λ a. a ≡ value nodes.now node) }
+{
+    let until = mark_needed(alloc, nodes, whole, node)?;
+    let mut done = Vec::new(alloc);
+    for at in 0..node {
+        step(alloc, nodes, whole, &until, &mut done, at)?;
+    }
+    compute(alloc, nodes, &done, node)
+}
+
 fn evaluate(alloc: Global, nodes: &[Node], node: usize) -> Result<ArrayValue, AllocError>
     requires fit { AllFit [] nodes.now }
     requires inside { node < length nodes.now }
     ensures { IfOk result (λ a. a ≡ value nodes.now node) }
 {
     let mut whole = whole_nodes(alloc, nodes, node)?;
-    let until = mark_needed(alloc, nodes, &mut whole, node)?;
-    let mut done = Vec::new(alloc);
-    for at in 0..node {
-        step(alloc, nodes, &whole, &until, &mut done, at)?;
-    }
-    compute(alloc, nodes, &done, node)
+    evaluate_by(alloc, nodes, &mut whole, node)
 }
 
 impl Compute for Whole {

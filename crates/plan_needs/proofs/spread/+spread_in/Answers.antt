@@ -11,7 +11,7 @@ pub bounds-nodes-input : goal.bounds-nodes-input
 bounds-nodes-input t c = widened_there c.args.nodes.now c.args.at c.index-nodes-at.result c.in-Some.input c.requires.fit c.requires.inside c.index-nodes-at.is (sym c.in-Some.is ∙ c.widens.ensures)
 
 pub spread_in-requires : goal.spread_in-requires
-spread_in-requires t c = 
+spread_in-requires t c =
     let d = c.decreases in
     let some = c.if-steps-eq0.false in
     (omega (arith, d, some), (c.requires.fit, widened_there c.args.nodes.now c.args.at c.index-nodes-at.result c.in-Some.input c.requires.fit c.requires.inside c.index-nodes-at.is (sym c.in-Some.is ∙ c.widens.ensures)))
