@@ -102,7 +102,17 @@ fn operated_strip(
             unary_strip(alloc, nodes, done, at, *op, *kind, *input as usize, from, n)
         }
         Node::Binary { op, a, b } => {
-            binary_strip(alloc, nodes, done, at, *op, *a as usize, *b as usize, from, n)
+            binary_strip(
+                alloc,
+                nodes,
+                done,
+                at,
+                *op,
+                *a as usize,
+                *b as usize,
+                from,
+                n,
+            )
         }
         Node::Choose { cond, a, b } => choose_strip(
             alloc,
