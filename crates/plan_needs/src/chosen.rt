@@ -151,7 +151,7 @@ fn choice(
 {
     let none = Load { arrays: 0, deep: 0 };
     let kept = Load { arrays: 1, deep: 0 };
-    if is_source(&nodes[at]) {
+    if !is_needed(users) || is_source(&nodes[at]) {
         return Ok((true, none));
     }
     if is_spread(nodes, at) {
