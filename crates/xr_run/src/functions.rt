@@ -139,8 +139,17 @@ fn function_of_several<R: Threads + Sync>(
     ensures inside { IfOk result (IsValueIn cx.new.plan) }
     ensures grows { Grows cx.old.plan cx.new.plan }
 {
-    if name.as_str() == "merge" {
+    if name.as_str() == "concat" {
+        told(xr_concat::concat(rt, alloc, &mut cx.plan, args))
+    } else if name.as_str() == "merge" {
         told(xr_merge::merge(rt, alloc, &mut cx.plan, args))
+    } else if name.as_str() == "combine_by_coords" {
+        told(xr_combine::combine_by_coords(
+            rt,
+            alloc,
+            &mut cx.plan,
+            args,
+        ))
     } else {
         value_function(rt, alloc, cx, name, args)
     }

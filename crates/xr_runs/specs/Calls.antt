@@ -29,6 +29,8 @@ use Rattle.xr_groups.specs.declared.maker.Maker.{Maker}
 use Rattle.xr_groups.specs.Calls.{array_grouping, maker_named, set_grouping}
 use Rattle.xr_groups.specs.Methods.{grouped_array, grouped_set}
 use Rattle.xr_relations.specs.Times.{times_given}
+use Rattle.xr_combination.specs.Combine.{combine_called}
+use Rattle.xr_combination.specs.Concat.{concat_called}
 use Rattle.xr_combination.specs.Merge.{merge_called}
 use Rattle.xr_defs.specs.Meanings.{Value, Truth, Number, Text, Array, Set, GroupedArray, GroupedSet, Given}
 use Rattle.xr_defs.specs.Arguments.{wrong, unfit, as_text, slice_given}
@@ -67,7 +69,11 @@ function_over_values name g = if bytes_eq name (codes "DataArray") then (data_ar
 
 -- those, and the ones that make one value of several, whose cells may be compared
 unfoldable pub function_of_several : List ℕ → Given → Result Value Fault
-function_of_several name g = if bytes_eq name (codes "merge") then merge_called g else function_over_values name g
+function_of_several name g =
+    if bytes_eq name (codes "concat") then concat_called g
+    else if bytes_eq name (codes "merge") then merge_called g
+    else if bytes_eq name (codes "combine_by_coords") then combine_called g
+    else function_over_values name g
 
 unfoldable pub function_called : Files → List ℕ → Given → Result Value Fault
 function_called files name g =
