@@ -144,12 +144,7 @@ fn function_of_several<R: Threads + Sync>(
     } else if name.as_str() == "merge" {
         told(xr_merge::merge(rt, alloc, &mut cx.plan, args))
     } else if name.as_str() == "combine_by_coords" {
-        told(xr_combine::combine_by_coords(
-            rt,
-            alloc,
-            &mut cx.plan,
-            args,
-        ))
+        told(xr_combine::combine_by_coords(rt, alloc, &mut cx.plan, args))
     } else {
         value_function(rt, alloc, cx, name, args)
     }
