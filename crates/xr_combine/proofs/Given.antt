@@ -54,7 +54,7 @@ passed : (r : Result (Unit {0}) Fault) (v : of.Value) (o : Option of.Value) → 
 passed (Ok u) v o is = (refl, cc)
 passed (Err e) v o is = absurd cc
 
-none_is : (o : Option (Bor Value)) → Ok None ≡ Ok (option_map (λ (v : Bor Value). meaning [] v.now) o) → IsFixed o
+none_is : (o : Option (Bor Value)) → ◌≡◌ {A = Result (Option of.Value) Fault} (Ok None) (Ok (option_map (λ (v : Bor Value). meaning [] v.now) o)) → IsFixed o
 none_is None is = record { means = λ nodes others. refl }
 none_is (Some v) is = absurd cc
 
