@@ -92,4 +92,4 @@ pub line_said : (w : Option (List ℕ)) (before after text : List ℕ) (p q : �
 line_said w before after text p q status is said = inl (said ∙ ap (λ (t : List ℕ). before ++ t) is)
 
 pub line_broken : (w : Option (List ℕ)) (before after text : List ℕ) (p q : ℕ) (status other : Status) → text ≡ status_line w other → Rose p q → ((k : ℕ) × (after ≡ before ++ take k text)) → IsLine w before after p q status
-line_broken w before after text p q status other is rose part = inr (rose, other, part.0, part.1 ∙ ap (λ (t : List ℕ). before ++ take part.0 t) is)
+line_broken w before after text p q status other is rose part = inr (rose, (other, part.0, part.1 ∙ ap (λ (t : List ℕ). before ++ take part.0 t) is))

@@ -50,7 +50,7 @@ returns-clause-keeps g c = λ s. (c.loop-i.invariant.leads s).keeps
 pub returns-in-Err-clause-left : goal.returns-in-Err-clause-left
 returns-in-Err-clause-left g c = λ s.
     let told = subst (λ (b : Bool). IsTrue b) (sym c.loop-i.invariant.store_tells) s in
-    left_broken c.args.statements.now _ _ _ _ c.loop-i.i _ _ _ _ _ c.index-statements-i.result c.in-Err.stopped (c.loop-i.invariant.leads s) c.loop-i-test.true c.index-statements-i.is c.loop-i.invariant.out_tells (c.step.ensures.broken told)
+    left_broken c.args.statements.now _ _ _ _ c.loop-i.i _ _ _ _ _ c.index-statements-i.result c.in-Err.stopped (c.loop-i.invariant.leads s) c.loop-i-test.true c.index-statements-i.is c.loop-i.invariant.out_tells (c.in-Err.ensures.broken told)
 
 pub returns-clause-left : goal.returns-clause-left
 returns-clause-left g c = λ s. left_so_far c.args.statements.now _ _ _ c.loop-i.i _ _ _ (c.loop-i.invariant.leads s)
