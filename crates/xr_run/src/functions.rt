@@ -126,6 +126,7 @@ fn told(answer: Result<Value, CallFault>) -> Result<Value, Stopped>
 }
 
 // A function that makes one value of several, or one of values alone.
+#[tactic(auto, unfolding(xr_runs::specs::Calls::function_of_several))]
 fn function_of_several<R: Threads + Sync>(
     rt: &R,
     alloc: Global,
