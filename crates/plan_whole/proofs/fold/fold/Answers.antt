@@ -1,5 +1,7 @@
-use Rattle.std.proofs.Common.{◌≡◌, ◌∙◌, ap, sym, []}
-use Rattle.xr_arrays.specs.Nodes.{folded, kept}
+use Rattle.std.proofs.Common.{◌≡◌, ◌≤◌, ◌∙◌, ap, sym, subst, length, List, [], ℕ}
+use Rattle.xr_types.specs.Points.{size}
+use Rattle.xr_arrays.specs.Folds.{folded_kind}
+use Rattle.xr_arrays.specs.Nodes.{folded, kept, AreFed, most_node_cells}
 use Rattle.plan_core.proofs.Takes.{if_ok}
 use Rattle.plan_whole.proofs.FoldedCells.{sum_is}
 use Rattle.plan_whole.proofs.fold.fold.Goals as goal

@@ -1,4 +1,0 @@
-pub mod Marks
-pub mod Strands
-pub mod Ready
-pub mod Spreads
