@@ -1,0 +1,6 @@
+pub mod Fronts
+pub mod Taken
+pub mod Texts
+pub mod Given
+pub mod Read
+mod Rows
