@@ -6,9 +6,10 @@ use Rattle.xr_times.specs.Units.{◌>>=◌}
 
 -- ---- answers that may be none
 
-pub bound_some : {A B : Type 0} (o : Option A) (f : A → Option B) (b : B) → (o >>= f) ≡ Some b → (a : A) × (o ≡ Some a) × (f a ≡ Some b)
-bound_some (Some a) f b e = (a, refl, e)
-bound_some None f b e = absurd cc
+-- a value that came by another one
+pub bound : {A B C : Type 0} (o : Option A) (f : A → Option B) (b : B) → (o >>= f) ≡ Some b → ((a : A) → o ≡ Some a → f a ≡ Some b → C) → C
+bound (Some a) f b e k = k a refl e
+bound None f b e k = absurd cc
 
 -- a value where a test holds, and one where it fails
 pub if_some : {A : Type 0} (t : Bool) (x y : A) → (if t then Some x else None) ≡ Some y → (t ≡ true) × (x ≡ y)

@@ -1,15 +1,15 @@
 -- What the reader takes is spelled from parts, piece by piece.
-use Rattle.std.proofs.Common.{◌≡◌, ◌==◌, ◌&&◌, ℕ, ◌+◌, ◌*◌, ◌<◌, ◌≤◌, true, if◌then◌else◌, List, [], ◌∷◌, ◌++◌, length, take, drop, codes, Option, Some, None, IfSome, option_and_then, refl, sym, ap, subst, ◌∙◌, inl, inr, arith, nat_le, nat_lt}
+use Rattle.std.proofs.Common.{◌≡◌, ◌==◌, ◌&&◌, ℕ, ◌+◌, ◌*◌, ◌<◌, ◌≤◌, true, List, [], ◌∷◌, ◌++◌, length, take, drop, codes, Option, Some, None, IfSome, refl, sym, ap, subst, subst₂, ◌∙◌, inl, inr, arith, nat_le, nat_lt}
 use Rattle.std.specs.List.{list_all, prefix_len, take_while}
 use Rattle.std.specs.Char.{is_ascii_digit}
 use Rattle.std.proofs.lemmas.Bool.{and_parts, leb-true, ltb-true, eqb-true, eqb-false}
 use Rattle.std.proofs.lemmas.List.Folds.{length-prefix_len}
 use Rattle.xr_types.specs.declared.axis.Calendar.{Calendar}
 use Rattle.xr_times.specs.Times.{IsDate, month_days}
-use Rattle.xr_times.specs.Units.{is_blank, behind_blanks, behind_byte, number, part, is_date, dated, date, is_whole, clock, second, seconds, time_of_day, behind_mark, marked_time, day_second}
+use Rattle.xr_times.specs.Units.{is_blank, behind_blanks, behind_byte, number, part, is_date, date, is_whole, clock, second, seconds, time_of_day, behind_mark, marked_time, day_second}
 use Rattle.unit_spellings.specs.Spellings as say
 use Rattle.unit_spellings.specs.Spellings.{ClockParts, SecondParts, AreBlanks, AreZeros, AreDigits, IsSecond, IsMark, IsClock, zeros_spelled, second_spelled, clock_spelled, hour_of, minute_of, second_of, second_in}
-use Rattle.unit_spellings.proofs.Fronts.{bound_some, if_some, unless_some, then_some, either_some, some_is, joined, run_passes, in_two}
+use Rattle.unit_spellings.proofs.Fronts.{bound, if_some, unless_some, then_some, either_some, some_is, joined, run_passes, in_two}
 
 -- a text is a front that has P, and the rest
 pub record Fronts (P : List ℕ → Type 0) (text rest : List ℕ) : Type 0 where
@@ -55,11 +55,17 @@ number_taken least most t x e =
       has = record { digits = record { from = omega arith; to = omega arith; digits = run_passes is_ascii_digit t }; value = sym (ap (λ (y : ℕ × List ℕ). y.0) h.1) };
     }
 
-pub part_taken : (c : ℕ) (t : List ℕ) (x : ℕ × List ℕ) → part c t ≡ Some x → (r : List ℕ) × (t ≡ c ∷ r) × Fronts (IsNumber 1 2 x.0) r x.1
+-- a byte, and digits behind it
+pub record PartTaken (c n : ℕ) (t rest : List ℕ) : Type 0 where
+  pub front : List ℕ
+  pub parts : t ≡ c ∷ (front ++ rest)
+  pub has : IsNumber 1 2 n front
+
+pub part_taken : (c : ℕ) (t : List ℕ) (x : ℕ × List ℕ) → part c t ≡ Some x → PartTaken c x.0 t x.1
 unfolding part
-part_taken c t x e =
-    let h = bound_some (behind_byte c t) (number 1 2) x e in
-    (h.0, byte_taken c t h.0 h.1, number_taken 1 2 h.0 x h.2)
+part_taken c t x e = bound (behind_byte c t) _ x e (λ r h k.
+    let d = number_taken 1 2 r x k in
+    record { front = d.front; parts = byte_taken c t r h ∙ ap (λ (y : List ℕ). c ∷ y) d.parts; has = d.has })
 
 -- ---- the time of day
 
@@ -94,18 +100,16 @@ pub record SecondTaken (h m n : ℕ) (t : List ℕ) : Type 0 where
 
 some_second_taken : (h m n : ℕ) (t : List ℕ) → second h m t ≡ Some n → SecondTaken h m n t
 unfolding second
-some_second_taken h m n t e =
-    let a = bound_some (part 58 t) (λ (x : ℕ × List ℕ). if is_whole x.1 then clock h m x.0 else None) n e in
-    let p = part_taken 58 t a.0 a.1 in
-    let i = then_some (is_whole a.0.1) (clock h m a.0.0) n a.2 in
-    let z = zeros_taken a.0.1 i.0 in
-    let digits : List ℕ = p.2.front in
+some_second_taken h m n t e = bound (part 58 t) _ n e (λ x a k.
+    let p = part_taken 58 t x a in
+    let i = then_some (is_whole x.1) (clock h m x.0) n k in
+    let z = zeros_taken x.1 i.0 in
     record {
-      parts = Some (record { second = digits; zeros = z.0 });
-      spelling = joined (codes ":") p.1 (joined digits p.2.parts z.1);
-      lawful = record { second = p.2.has.digits; zeros = z.2 };
-      clock = subst (λ (s : ℕ). IsClockOf h m s n) p.2.has.value (clock_taken h m a.0.0 n i.1);
-    }
+      parts = Some (record { second = p.front; zeros = z.0 });
+      spelling = joined (codes ":") p.parts (ap (λ (y : List ℕ). p.front ++ y) z.1);
+      lawful = record { second = p.has.digits; zeros = z.2 };
+      clock = subst (λ (s : ℕ). IsClockOf h m s n) p.has.value (clock_taken h m x.0 n i.1);
+    })
 
 second_taken : (h m n : ℕ) (t : List ℕ) → seconds h m t ≡ Some n → SecondTaken h m n t
 second_taken h m n [] e = record { parts = None; spelling = refl; lawful = tt; clock = clock_taken h m 0 n e }
@@ -125,22 +129,21 @@ pub record TimeTaken (n : ℕ) (t : List ℕ) : Type 0 where
 time_taken : (n : ℕ) (t : List ℕ) → time_of_day t ≡ Some n → TimeTaken n t
 unfolding time_of_day
 time_taken n t e =
-    let a = bound_some (number 1 2 t) (λ (h : ℕ × List ℕ). option_and_then (λ (m : ℕ × List ℕ). seconds h.0 m.0 m.1) (part 58 h.1)) n e in
-    let b = bound_some (part 58 a.0.1) (λ (m : ℕ × List ℕ). seconds a.0.0 m.0 m.1) n a.2 in
-    let hour = number_taken 1 2 t a.0 a.1 in
-    let minute = part_taken 58 a.0.1 b.0 b.1 in
-    let second = second_taken a.0.0 b.0.0 n b.0.1 b.2 in
-    let behind : a.0.1 ≡ 58 ∷ (minute.2.front ++ second_spelled second.parts) = joined (codes ":") minute.1 (joined minute.2.front minute.2.parts second.spelling) in
+    bound (number 1 2 t) _ n e (λ h eh k.
+    bound (part 58 h.1) _ n k (λ m em l.
+    let hour = number_taken 1 2 t h eh in
+    let minute = part_taken 58 h.1 m em in
+    let second = second_taken h.0 m.0 n m.1 l in
     record {
       hour = hour.front;
-      minute = minute.2.front;
+      minute = minute.front;
       second = second.parts;
-      spelling = joined hour.front hour.parts behind;
+      spelling = joined hour.front hour.parts (joined (codes ":") minute.parts (ap (λ (y : List ℕ). minute.front ++ y) second.spelling));
       hour_digits = hour.has.digits;
-      minute_digits = minute.2.has.digits;
+      minute_digits = minute.has.digits;
       lawful = second.lawful;
-      clock = subst (λ (h : ℕ). IsClockOf h (say.number minute.2.front) (second_in second.parts) n) hour.has.value (subst (λ (m : ℕ). IsClockOf a.0.0 m (second_in second.parts) n) minute.2.has.value second.clock);
-    }
+      clock = subst₂ (λ (h' m' : ℕ). IsClockOf h' m' (second_in second.parts) n) hour.has.value minute.has.value second.clock;
+    }))
 
 mark_taken : (t r : List ℕ) → behind_mark t ≡ Some r → Fronts IsMark t r
 mark_taken [] r e = absurd cc
@@ -158,16 +161,15 @@ pub record ClockTaken (n : ℕ) (t : List ℕ) : Type 0 where
 
 some_clock_taken : (n : ℕ) (t : List ℕ) → marked_time t ≡ Some n → ClockTaken n t
 unfolding marked_time
-some_clock_taken n t e =
-    let a = bound_some (behind_mark t) time_of_day n e in
-    let mark = mark_taken t a.0 a.1 in
-    let time = time_taken n a.0 a.2 in
+some_clock_taken n t e = bound (behind_mark t) _ n e (λ r h k.
+    let mark = mark_taken t r h in
+    let time = time_taken n r k in
     record {
       parts = Some (record { mark = mark.front; hour = time.hour; minute = time.minute; second = time.second });
       spelling = joined mark.front mark.parts time.spelling;
       lawful = record { mark = mark.has; hour = time.hour_digits; minute = time.minute_digits; second = time.lawful };
       clock = time.clock;
-    }
+    })
 
 pub clock_taken_or_none : (n : ℕ) (t : List ℕ) → day_second t ≡ Some n → ClockTaken n t
 clock_taken_or_none n [] e =
@@ -210,28 +212,26 @@ pub record DateTaken (c : Calendar) (x : (ℕ × ℕ × ℕ) × List ℕ) (t : L
 pub date_taken : (c : Calendar) (t : List ℕ) (x : (ℕ × ℕ × ℕ) × List ℕ) → date c t ≡ Some x → DateTaken c x t
 unfolding date
 date_taken c t x e =
-    let a = bound_some (number 4 4 t) (λ (y : ℕ × List ℕ). option_and_then (λ (m : ℕ × List ℕ). option_and_then (λ (d : ℕ × List ℕ). dated c y.0 m.0 d.0 d.1) (part 45 m.1)) (part 45 y.1)) x e in
-    let b = bound_some (part 45 a.0.1) (λ (m : ℕ × List ℕ). option_and_then (λ (d : ℕ × List ℕ). dated c a.0.0 m.0 d.0 d.1) (part 45 m.1)) x a.2 in
-    let f = bound_some (part 45 b.0.1) (λ (d : ℕ × List ℕ). dated c a.0.0 b.0.0 d.0 d.1) x b.2 in
-    let year = number_taken 4 4 t a.0 a.1 in
-    let month = part_taken 45 a.0.1 b.0 b.1 in
-    let day = part_taken 45 b.0.1 f.0 f.1 in
-    let made : (ℕ × ℕ × ℕ) × List ℕ = ((a.0.0, b.0.0, f.0.0), f.0.1) in
-    let h = if_some (is_date c a.0.0 b.0.0 f.0.0) made x f.2 in
-    let rest : f.0.1 ≡ x.1 = ap (λ (w : (ℕ × ℕ × ℕ) × List ℕ). w.1) h.1 in
-    let behind_month : b.0.1 ≡ 45 ∷ (day.2.front ++ x.1) = joined (codes "-") day.1 (joined day.2.front day.2.parts rest) in
-    let behind_year : a.0.1 ≡ 45 ∷ (month.2.front ++ (45 ∷ (day.2.front ++ x.1))) = joined (codes "-") month.1 (joined month.2.front month.2.parts behind_month) in
-    let there : IsDate c a.0.0 b.0.0 f.0.0 = is_a_date c a.0.0 b.0.0 f.0.0 h.0 in
+    bound (number 4 4 t) _ x e (λ y ey k.
+    bound (part 45 y.1) _ x k (λ m em l.
+    bound (part 45 m.1) _ x l (λ d ed o.
+    let year = number_taken 4 4 t y ey in
+    let month = part_taken 45 y.1 m em in
+    let day = part_taken 45 m.1 d ed in
+    let made : (ℕ × ℕ × ℕ) × List ℕ = ((y.0, m.0, d.0), d.1) in
+    let h = if_some (is_date c y.0 m.0 d.0) made x o in
+    let there : IsDate c y.0 m.0 d.0 = is_a_date c y.0 m.0 d.0 h.0 in
+    let behind : m.1 ≡ 45 ∷ (day.front ++ x.1) = day.parts ∙ ap (λ (w : (ℕ × ℕ × ℕ) × List ℕ). 45 ∷ (day.front ++ w.1)) h.1 in
     record {
       year = year.front;
-      month = month.2.front;
-      day = day.2.front;
-      spelling = joined year.front year.parts behind_year;
+      month = month.front;
+      day = day.front;
+      spelling = joined year.front year.parts (joined (codes "-") month.parts (ap (λ (w : List ℕ). month.front ++ w) behind));
       year_digits = year.has.digits;
-      month_digits = month.2.has.digits;
-      day_digits = day.2.has.digits;
-      date = subst (λ (w : ℕ). IsDate c w (say.number month.2.front) (say.number day.2.front)) year.has.value (subst (λ (w : ℕ). IsDate c a.0.0 w (say.number day.2.front)) month.2.has.value (subst (λ (w : ℕ). IsDate c a.0.0 b.0.0 w) day.2.has.value there));
+      month_digits = month.has.digits;
+      day_digits = day.has.digits;
+      date = subst₂ (λ (m' d' : ℕ). IsDate c (say.number year.front) m' d') month.has.value day.has.value (subst (λ (y' : ℕ). IsDate c y' m.0 d.0) year.has.value there);
       is_year = sym (ap (λ (w : (ℕ × ℕ × ℕ) × List ℕ). w.0.0) h.1) ∙ year.has.value;
-      is_month = sym (ap (λ (w : (ℕ × ℕ × ℕ) × List ℕ). w.0.1) h.1) ∙ month.2.has.value;
-      is_day = sym (ap (λ (w : (ℕ × ℕ × ℕ) × List ℕ). w.0.2) h.1) ∙ day.2.has.value;
-    }
+      is_month = sym (ap (λ (w : (ℕ × ℕ × ℕ) × List ℕ). w.0.1) h.1) ∙ month.has.value;
+      is_day = sym (ap (λ (w : (ℕ × ℕ × ℕ) × List ℕ). w.0.2) h.1) ∙ day.has.value;
+    })))

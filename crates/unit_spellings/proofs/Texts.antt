@@ -1,5 +1,5 @@
 -- A whole text that the reader takes is spelled from parts, and they say what the reader gives.
-use Rattle.std.proofs.Common.{◌≡◌, ◌||◌, ◌⊎◌, ℕ, ◌+◌, ◌*◌, ◌<◌, Bool, true, false, if◌then◌else◌, ℤ, pos, negsuc, ◌+ℤ◌, ◌≤ℤ◌, int_le, ◌-ℤ◌, List, ◌++◌, drop, codes, Option, Some, None, IfSome, option_and_then, refl, sym, ap, subst, subst₂, ◌∙◌, inl, inr, arith}
+use Rattle.std.proofs.Common.{◌≡◌, ◌||◌, ◌⊎◌, ℕ, ◌+◌, ◌*◌, ◌<◌, Bool, true, false, if◌then◌else◌, ℤ, pos, negsuc, ◌+ℤ◌, ◌≤ℤ◌, int_le, ◌-ℤ◌, List, ◌++◌, drop, codes, Option, Some, None, IfSome, refl, sym, ap, ap₂, subst, subst₂, ◌∙◌, inl, inr, arith}
 use Rattle.std.specs.List.{prefix_len, take_while}
 use Rattle.std.specs.Str.{bytes_eq}
 use Rattle.std.proofs.lemmas.Bool.{or_cases}
@@ -13,7 +13,7 @@ use Rattle.xr_types.specs.declared.axis.Calendar.TheVariants.{Civil, NoLeap, Day
 use Rattle.xr_times.specs.Times.{IsDate, time_of, day_number, epoch, is_gregorian, days_of_years, days_of_months}
 use Rattle.xr_times.specs.Units.{is_dark, behind_blanks, behind_since, behind_word, date, day_second, reference, unit_named, unit, calendar_named, units, units_of}
 use Rattle.unit_spellings.specs.Spellings.{ClockParts, Parts, AreBlanks, AreDigits, IsClock, UnitWord, CalendarName, IsUnits, Says, number, clock_spelled, hour_of, minute_of, second_of, spelled}
-use Rattle.unit_spellings.proofs.Fronts.{bound_some, if_some, either_some, some_is, joined, in_two}
+use Rattle.unit_spellings.proofs.Fronts.{bound, if_some, either_some, some_is, joined, in_two}
 use Rattle.unit_spellings.proofs.Taken.{blanks_taken, date_taken, clock_taken_or_none}
 
 -- ---- words
@@ -122,16 +122,13 @@ pub record UnitTaken (x : TimeUnit × List ℕ) (t : List ℕ) : Type 0 where
 
 unit_taken : (t : List ℕ) (x : TimeUnit × List ℕ) → unit t ≡ Some x → UnitTaken x t
 unfolding unit
-unit_taken t x e =
-    let w : List ℕ = take_while is_dark t in
-    let rest : List ℕ = drop (prefix_len is_dark t) t in
-    let a = bound_some (unit_named (take_while is_dark t)) (λ (u : TimeUnit). Some (pair u rest)) x e in
-    let same : pair a.0 rest ≡ x = some_is (pair a.0 rest) x a.2 in
+unit_taken t x e = bound (unit_named (take_while is_dark t)) _ x e (λ u h k.
+    let same : pair u (drop (prefix_len is_dark t) t) ≡ x = some_is (pair u (drop (prefix_len is_dark t) t)) x k in
     record {
-      word = w;
-      spelling = in_two is_dark t ∙ ap (λ (y : TimeUnit × List ℕ). w ++ y.1) same;
-      is = subst (λ (y : TimeUnit × List ℕ). UnitWord w y.0) same (word_taken w a.0 a.1);
-    }
+      word = take_while is_dark t;
+      spelling = in_two is_dark t ∙ ap (λ (y : TimeUnit × List ℕ). take_while is_dark t ++ y.1) same;
+      is = subst (λ (y : TimeUnit × List ℕ). UnitWord (take_while is_dark t) y.0) same (word_taken (take_while is_dark t) u h);
+    })
   where
     pair : TimeUnit → List ℕ → TimeUnit × List ℕ
     pair u l = (u, l)
@@ -153,17 +150,17 @@ pub record SinceTaken (t r : List ℕ) : Type 0 where
 since_with_blanks : (t r : List ℕ) → behind_word t ≡ Some r → SinceTaken t r
 unfolding behind_word
 since_with_blanks t r e =
-    let a = bound_some (behind_blanks t) (λ (u : List ℕ). option_and_then behind_blanks (behind_since u)) r e in
-    let b = bound_some (behind_since a.0) behind_blanks r a.2 in
-    let before = blanks_taken t a.0 a.1 in
-    let behind = blanks_taken b.0 r b.2 in
+    bound (behind_blanks t) _ r e (λ u eu k.
+    bound (behind_since u) _ r k (λ v ev l.
+    let before = blanks_taken t u eu in
+    let behind = blanks_taken v r l in
     record {
       before = before.front;
       behind = behind.front;
-      spelling = joined before.front before.parts (joined (codes "since") (since_taken a.0 b.0 b.1) behind.parts);
+      spelling = joined before.front before.parts (joined (codes "since") (since_taken u v ev) behind.parts);
       before_blanks = before.has;
       behind_blanks = behind.has;
-    }
+    }))
 
 -- ---- the reference
 
@@ -193,21 +190,18 @@ pub record ReferenceTaken (c : Calendar) (r : ℤ) (t : List ℕ) : Type 0 where
 reference_taken : (c : Calendar) (r : ℤ) (t : List ℕ) → reference c t ≡ Some r → ReferenceTaken c r t
 unfolding reference
 reference_taken c r t e =
-    let a = bound_some (date c t) (λ (d : (ℕ × ℕ × ℕ) × List ℕ). option_and_then (λ (s : ℕ). Some (time_of c d.0.0 d.0.1 d.0.2 0 0 s)) (day_second d.1)) r e in
-    let b = bound_some (day_second a.0.1) (λ (s : ℕ). Some (time_of c a.0.0.0 a.0.0.1 a.0.0.2 0 0 s)) r a.2 in
-    let d = date_taken c t a.0 a.1 in
-    let k = clock_taken_or_none b.0 a.0.1 b.1 in
-    let same : time_of c a.0.0.0 a.0.0.1 a.0.0.2 0 0 b.0 ≡ r = some_is _ r b.2 in
-    let dated : time_of c a.0.0.0 a.0.0.1 a.0.0.2 0 0 b.0 ≡ time_of c (number d.year) (number d.month) (number d.day) 0 0 b.0 =
-    ap (λ (y : ℕ). time_of c y a.0.0.1 a.0.0.2 0 0 b.0) d.is_year
-    ∙ (ap (λ (m : ℕ). time_of c (number d.year) m a.0.0.2 0 0 b.0) d.is_month
-    ∙ ap (λ (n : ℕ). time_of c (number d.year) (number d.month) n 0 0 b.0) d.is_day) in
+    bound (date c t) _ r e (λ x ex l.
+    bound (day_second x.1) _ r l (λ n en same.
+    let d = date_taken c t x ex in
+    let k = clock_taken_or_none n x.1 en in
+    let dated : time_of c x.0.0 x.0.1 x.0.2 0 0 n ≡ time_of c (number d.year) (number d.month) (number d.day) 0 0 n =
+    ap (λ (y : ℕ). time_of c y x.0.1 x.0.2 0 0 n) d.is_year ∙ ap₂ (λ (m' d' : ℕ). time_of c (number d.year) m' d' 0 0 n) d.is_month d.is_day in
     record {
       year = d.year;
       month = d.month;
       day = d.day;
       clock = k.parts;
-      spelling = d.spelling ∙ ap (λ (x : List ℕ). d.year ++ (codes "-" ++ (d.month ++ (codes "-" ++ (d.day ++ x))))) k.spelling;
+      spelling = d.spelling ∙ ap (λ (y : List ℕ). d.year ++ (codes "-" ++ (d.month ++ (codes "-" ++ (d.day ++ y))))) k.spelling;
       year_digits = d.year_digits;
       month_digits = d.month_digits;
       day_digits = d.day_digits;
@@ -216,8 +210,8 @@ reference_taken c r t e =
       hour = k.clock.hour;
       minute = k.clock.minute;
       second = k.clock.second;
-      time = sym same ∙ (dated ∙ time_at c (number d.year) (number d.month) (number d.day) (hour_of k.parts) (minute_of k.parts) (second_of k.parts) b.0 k.clock.value);
-    }
+      time = sym (some_is _ r same) ∙ (dated ∙ time_at c (number d.year) (number d.month) (number d.day) (hour_of k.parts) (minute_of k.parts) (second_of k.parts) n k.clock.value);
+    }))
 
 -- ---- the first Gregorian day
 
@@ -243,34 +237,37 @@ early_or_gregorian early t (inr e) = inr (from_gregorian t e)
 
 -- ---- the whole text
 
-pub text_taken : (t : List ℕ) (name : Option (List ℕ)) (u : Units) → units_of t name ≡ Some u → IsUnits t name u
-unfolding units_of
-text_taken t name u e =
-    let a = bound_some (unit t) (λ (x : TimeUnit × List ℕ). option_and_then (λ (v : List ℕ). option_and_then (λ (c : Calendar × Bool). option_and_then (λ (r : ℤ). units x.0 r c.0 c.1) (reference c.0 v)) (calendar_named name)) (behind_word x.1)) u e in
-    let b = bound_some (behind_word a.0.1) (λ (v : List ℕ). option_and_then (λ (c : Calendar × Bool). option_and_then (λ (r : ℤ). units a.0.0 r c.0 c.1) (reference c.0 v)) (calendar_named name)) u a.2 in
-    let c = bound_some (calendar_named name) (λ (k : Calendar × Bool). option_and_then (λ (r : ℤ). units a.0.0 r k.0 k.1) (reference k.0 b.0)) u b.2 in
-    let d = bound_some (reference c.0.0 b.0) (λ (r : ℤ). units a.0.0 r c.0.0 c.0.1) u c.2 in
-    let made : Units = record { unit = a.0.0; reference = d.0; calendar = c.0.0; early = c.0.1 } in
-    let h = if_some (c.0.1 || is_gregorian d.0) made u d.2 in
-    let w = unit_taken t a.0 a.1 in
-    let s = since_with_blanks a.0.1 b.0 b.1 in
-    let r = reference_taken c.0.0 d.0 b.0 d.1 in
-    let parts : Parts = record { word = w.word; before = s.before; behind = s.behind; year = r.year; month = r.month; day = r.day; clock = r.clock } in
-    let spelling : t ≡ spelled parts = joined w.word w.spelling (s.spelling ∙ ap (λ (x : List ℕ). s.before ++ (codes "since" ++ (s.behind ++ x))) r.spelling) in
+-- the pieces of a text together
+together : (t : List ℕ) (name : Option (List ℕ)) (u : Units) (w : TimeUnit × List ℕ) (v : List ℕ) (c : Calendar × Bool) (n : ℤ)
+    → UnitTaken w t → SinceTaken w.1 v → CalendarName name c.0 c.1 → ReferenceTaken c.0 n v → units w.0 n c.0 c.1 ≡ Some u → IsUnits t name u
+together t name u w v c n unit since calendar r e =
+    let made : Units = record { unit = w.0; reference = n; calendar = c.0; early = c.1 } in
+    let h = if_some (c.1 || is_gregorian n) made u e in
+    let parts : Parts = record { word = unit.word; before = since.before; behind = since.behind; year = r.year; month = r.month; day = r.day; clock = r.clock } in
+    let spelling : t ≡ spelled parts = joined unit.word unit.spelling (since.spelling ∙ ap (λ (x : List ℕ). since.before ++ (codes "since" ++ (since.behind ++ x))) r.spelling) in
     let says : Says parts name made =
     record {
-      unit = w.is;
-      calendar = calendar_taken name c.0 c.1;
+      unit = unit.is;
+      calendar = calendar;
       date = r.date;
       hour = r.hour;
       minute = r.minute;
       second = r.second;
       reference = r.time;
-      early = early_or_gregorian c.0.1 d.0 (or_cases c.0.1 (is_gregorian d.0) h.0);
+      early = early_or_gregorian c.1 n (or_cases c.1 (is_gregorian n) h.0);
     } in
     subst (λ (x : Units). IsUnits t name x) h.1 (record {
       parts = parts;
-      lawful = record { before = s.before_blanks; behind = s.behind_blanks; year = r.year_digits; month = r.month_digits; day = r.day_digits; clock = r.lawful };
+      lawful = record { before = since.before_blanks; behind = since.behind_blanks; year = r.year_digits; month = r.month_digits; day = r.day_digits; clock = r.lawful };
       spelling = spelling;
       says = says;
     })
+
+pub text_taken : (t : List ℕ) (name : Option (List ℕ)) (u : Units) → units_of t name ≡ Some u → IsUnits t name u
+unfolding units_of
+text_taken t name u e =
+    bound (unit t) _ u e (λ w ew k.
+    bound (behind_word w.1) _ u k (λ v ev l.
+    bound (calendar_named name) _ u l (λ c ec m.
+    bound (reference c.0 v) _ u m (λ n en o.
+    together t name u w v c n (unit_taken t w ew) (since_with_blanks w.1 v ev) (calendar_taken name c ec) (reference_taken c.0 n v en) o))))
