@@ -595,6 +595,41 @@ def each_call_of_a_read_fails_in_turn(room):
                 failed(Ran(*end[:3]))
 
 
+def moves_bytes(call):
+    return call.name in ("read", "write", "pread")
+
+
+@test("trace")
+def devices_that_move_one_byte_a_call_change_no_answer(room):
+    text = 'a = open_dataset("a.nc")\nprint(a)\na.to_netcdf("b.nc")\nprint(a["v"].sum())\nprint(no)'
+    sound = room.run(text)
+    assert sound.status == 1 and sound.out.endswith(b"6\n") and sound.err == b"xrs: statement 5: F1 unknown name no\n", sound
+    os.remove(room.path("b.nc"))
+    end = tracing.run(room.script(text), room.folder, lambda call: tracing.ONE_BYTE if moves_bytes(call) else None)
+    assert Ran(*end[:3]) == sound and room.read("b.nc") == room.new and not room.beside()
+    written = sum(call.name == "write" for call in end.calls)
+    assert written == len(sound.out) + len(sound.err) + len(room.new), written
+
+
+@test("trace")
+def calls_that_a_signal_interrupts_are_made_again(room):
+    text = 'a = open_dataset("a.nc")\nprint(a)\na.to_netcdf("b.nc")\nprint(no)'
+    sound = room.run(text)
+    assert sound.status == 1 and sound.out and sound.err == b"xrs: statement 4: F1 unknown name no\n", sound
+    os.remove(room.path("b.nc"))
+    again = set()
+
+    def interrupted(call):
+        # (each call fails once, and is then made)
+        if not moves_bytes(call) or kind_of(call) in again:
+            again.discard(kind_of(call))
+            return None
+        again.add(kind_of(call))
+        return errno.EINTR
+    end = tracing.run(room.script(text), room.folder, interrupted)
+    assert Ran(*end[:3]) == sound and room.read("b.nc") == room.new and not room.beside()
+
+
 # ---- files that change meanwhile
 
 @test("trace")
@@ -675,6 +710,53 @@ def what_is_no_file_to_read(room):
         failed(room.run(f'print(open_dataset("{name}"))'))
     ran = subprocess.run([room.program, "no.xrs"], cwd=room.folder, capture_output=True, timeout=SECONDS)
     assert ran.returncode == 2, ran
+
+
+def peak_of(words, folder):
+    """How a program ended, and the most memory that it held, in KiB."""
+    with tempfile.TemporaryFile() as out, tempfile.TemporaryFile() as err:
+        child = subprocess.Popen(words, cwd=folder, stdin=subprocess.DEVNULL, stdout=out, stderr=err)
+        _, status, used = os.wait4(child.pid, 0)
+        child.returncode = os.waitstatus_to_exitcode(status)
+        told = [os.pread(file.fileno(), 1 << 20, 0) for file in (out, err)]
+    return Ran(child.returncode, *told), used.ru_maxrss
+
+
+@test()
+def vast_files_are_too_large_and_are_not_read(room):
+    # (no bytes of it are on the disk)
+    with open(room.path("vast.nc"), "wb") as vast:
+        vast.truncate(1 << 42)
+    ran, peak = peak_of(room.script('print(open_dataset("vast.nc"))'), room.folder)
+    assert ran == Ran(1, b"", b"xrs: statement 1: F24 bad file: TooLarge at 0\n"), ran
+    assert peak < 64 << 10, peak
+    ran, peak = peak_of([room.program, "vast.nc"], room.folder)
+    assert ran == Ran(2, b"", b"xrs: line 0: too many\n") and peak < 64 << 10, (ran, peak)
+
+
+@test()
+def endless_files_are_too_large(room):
+    assert room.run('print(open_dataset("/dev/zero"))') == Ran(1, b"", b"xrs: statement 1: F24 bad file: TooLarge at 0\n")
+    ran = subprocess.run([room.program, "/dev/zero"], cwd=room.folder, capture_output=True, timeout=SECONDS)
+    assert (ran.returncode, ran.stdout, ran.stderr) == (2, b"", b"xrs: line 0: too many\n"), ran
+
+
+def one_variable(name, dim, size):
+    """A classic file of one variable of type int over one dimension, all of whose cells are 0."""
+    header = b"CDF\x01" + struct.pack(">4i", 0, 10, 1, 1) + dim + bytes(3) + struct.pack(">i", size)
+    header += struct.pack(">5i", 0, 0, 11, 1, 1) + name + bytes(3) + struct.pack(">6i", 1, 0, 0, 0, 4, 4 * size)
+    return header + struct.pack(">i", len(header) + 4) + bytes(4 * size)
+
+
+@test()
+def nothing_is_computed_of_a_value_that_is_too_large(room):
+    # (its cells would take 256 MiB)
+    room.put("p.nc", one_variable(b"p", b"i", 8192))
+    room.put("q.nc", one_variable(b"q", b"j", 8192))
+    text = 'p = open_dataset("p.nc")["p"]\nq = open_dataset("q.nc")["q"]\nprint((p.isel(i=slice(2)) + q.isel(j=slice(2))).sum())\nr = p + q'
+    ran, peak = peak_of(room.script(text), room.folder)
+    assert ran == Ran(1, b"DataArray - () int64\n0\n", b"xrs: statement 4: F22 too large\n"), ran
+    assert peak < 64 << 10, peak
 
 
 @test("user")
