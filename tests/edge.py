@@ -605,7 +605,7 @@ def devices_that_move_one_byte_a_call_change_no_answer(room):
     sound = room.run(text)
     assert sound.status == 1 and sound.out.endswith(b"6\n") and sound.err == b"xrs: statement 5: F1 unknown name no\n", sound
     os.remove(room.path("b.nc"))
-    end = tracing.run(room.script(text), room.folder, lambda call: tracing.ONE_BYTE if moves_bytes(call) else None)
+    end = calls_of(room, text, "s.xrs", lambda call: tracing.ONE_BYTE if moves_bytes(call) else None)
     assert Ran(*end[:3]) == sound and room.read("b.nc") == room.new and not room.beside()
     written = sum(call.name == "write" for call in end.calls)
     assert written == len(sound.out) + len(sound.err) + len(room.new), written
@@ -626,7 +626,7 @@ def calls_that_a_signal_interrupts_are_made_again(room):
             return None
         again.add(kind_of(call))
         return errno.EINTR
-    end = tracing.run(room.script(text), room.folder, interrupted)
+    end = calls_of(room, text, "s.xrs", interrupted)
     assert Ran(*end[:3]) == sound and room.read("b.nc") == room.new and not room.beside()
 
 
