@@ -759,6 +759,35 @@ def nothing_is_computed_of_a_value_that_is_too_large(room):
     assert peak < 64 << 10, peak
 
 
+def with_shared_labels(count, size):
+    """A classic file of so many indexes of bytes, whose values are the same bytes of the file."""
+    names = [b"d%03d" % i for i in range(count)]
+    dims = b"".join(struct.pack(">i4si", 4, name, size) for name in names)
+    front = b"CDF\x01" + struct.pack(">3i", 0, 10, count) + dims + struct.pack(">4i", 0, 0, 11, count)
+    begin = len(front) + 36 * count
+    vars_ = b"".join(struct.pack(">i4s7i", 4, name, 1, i, 0, 0, 1, size, begin) for i, name in enumerate(names))
+    return front + vars_ + (bytes(range(251)) * (size // 251 + 1))[:size]
+
+
+@test()
+def labels_that_share_their_bytes(room):
+    room.put("b.nc", with_shared_labels(40, 300))
+    ran = room.run('print(open_dataset("b.nc").isel(d000=[299], d039=[0]))')
+    labels = " ".join(str(i % 251 - 256 * (i % 251 > 127)) for i in range(300))
+    wanted = [f"dim d{i:03}: {1 if i in (0, 39) else 300}\n" for i in range(40)]
+    wanted += [f"coord d{i:03} int8 (d{i:03}): {'48' if i == 0 else '0' if i == 39 else labels}\n" for i in range(40)]
+    assert ran == Ran(0, "".join(["Dataset\n", *wanted]).encode(), b""), ran
+
+
+@test("memory")
+def labels_that_want_more_memory_than_there_is(room):
+    # (a list of these labels takes 256 MiB, and each index has one of its own)
+    room.put("big.nc", with_shared_labels(12, 1 << 25))
+    ran = room.run('open_dataset("a.nc").to_netcdf("b.nc")\nprint(open_dataset("big.nc"))', preexec_fn=lambda: resource.setrlimit(resource.RLIMIT_AS, (1 << 30, 1 << 30)))
+    assert ran == Ran(4, b"", b"xrs: out of memory\n"), ran
+    assert room.read("b.nc") == room.new and not room.beside()
+
+
 @test("user")
 def a_file_that_may_not_be_read_is_a_fault_of_the_storage(room):
     room.put("b.nc", room.read("a.nc"), mode=0)
@@ -876,6 +905,12 @@ def can_mount():
         return False
 
 
+def can_limit_memory(program):
+    """Whether a program may run in little memory; one that is built with checks takes far more addresses than it uses."""
+    ran = subprocess.run([program], capture_output=True, preexec_fn=lambda: resource.setrlimit(resource.RLIMIT_AS, (1 << 30, 1 << 30)))
+    return ran.returncode == 2
+
+
 def main():
     top = tempfile.mkdtemp()
     os.chmod(top, 0o755)
@@ -883,7 +918,7 @@ def main():
         # (the ordinary user need not be able to read where the program lies)
         program = shutil.copy(sys.argv[1], os.path.join(top, "xrs"))
         os.chmod(program, 0o755)
-        can = {"root": os.geteuid() == 0, "user": True, "trace": tracing.works(), "mount": can_mount()}
+        can = {"root": os.geteuid() == 0, "user": True, "trace": tracing.works(), "mount": can_mount(), "memory": can_limit_memory(program)}
         only, passed, wrong, skipped = sys.argv[2:], 0, 0, []
         for number, (name, needs, function) in enumerate(TESTS):
             if only and not any(word in name for word in only):
