@@ -712,26 +712,34 @@ def what_is_no_file_to_read(room):
     assert ran.returncode == 2, ran
 
 
-def peak_of(words, folder):
-    """How a program ended, and the most memory that it held, in KiB."""
-    with tempfile.TemporaryFile() as out, tempfile.TemporaryFile() as err:
-        child = subprocess.Popen(words, cwd=folder, stdin=subprocess.DEVNULL, stdout=out, stderr=err)
-        _, status, used = os.wait4(child.pid, 0)
-        child.returncode = os.waitstatus_to_exitcode(status)
-        told = [os.pread(file.fileno(), 1 << 20, 0) for file in (out, err)]
-    return Ran(child.returncode, *told), used.ru_maxrss
+def little_memory(size):
+    return lambda: resource.setrlimit(resource.RLIMIT_AS, (size, size))
 
 
-@test()
+@test("memory")
 def vast_files_are_too_large_and_are_not_read(room):
     # (no bytes of it are on the disk)
     with open(room.path("vast.nc"), "wb") as vast:
         vast.truncate(1 << 42)
-    ran, peak = peak_of(room.script('print(open_dataset("vast.nc"))'), room.folder)
+    ran = room.run('print(open_dataset("vast.nc"))', preexec_fn=little_memory(64 << 20))
     assert ran == Ran(1, b"", b"xrs: statement 1: F24 bad file: TooLarge at 0\n"), ran
-    assert peak < 64 << 10, peak
-    ran, peak = peak_of([room.program, "vast.nc"], room.folder)
-    assert ran == Ran(2, b"", b"xrs: line 0: too many\n") and peak < 64 << 10, (ran, peak)
+    ran = subprocess.run([room.program, "vast.nc"], cwd=room.folder, capture_output=True, timeout=SECONDS, preexec_fn=little_memory(64 << 20))
+    assert (ran.returncode, ran.stdout, ran.stderr) == (2, b"", b"xrs: line 0: too many\n"), ran
+
+
+@test()
+def files_and_scripts_of_the_greatest_size_are_taken(room):
+    text = 'print(open_dataset("a.nc")["v"].sum())\n#'
+    for more in (0, 1):
+        with open(room.path("a.nc"), "r+b") as file:
+            file.truncate((1 << 28) + more)
+        room.put("s.xrs", (text + "." * ((1 << 20) - len(text))).encode())
+        ran = subprocess.run([room.program, "s.xrs"], cwd=room.folder, capture_output=True, timeout=SECONDS)
+        wanted = (1, b"", b"xrs: statement 1: F24 bad file: TooLarge at 0\n") if more else (0, b"DataArray v () int64\n6\n", b"")
+        assert (ran.returncode, ran.stdout, ran.stderr) == wanted, ran
+    room.put("s.xrs", room.read("s.xrs") + b".")
+    ran = subprocess.run([room.program, "s.xrs"], cwd=room.folder, capture_output=True, timeout=SECONDS)
+    assert (ran.returncode, ran.stdout, ran.stderr) == (2, b"", b"xrs: line 0: too many\n"), ran
 
 
 @test()
@@ -748,15 +756,14 @@ def one_variable(name, dim, size):
     return header + struct.pack(">i", len(header) + 4) + bytes(4 * size)
 
 
-@test()
+@test("memory")
 def nothing_is_computed_of_a_value_that_is_too_large(room):
     # (its cells would take 256 MiB)
     room.put("p.nc", one_variable(b"p", b"i", 8192))
     room.put("q.nc", one_variable(b"q", b"j", 8192))
     text = 'p = open_dataset("p.nc")["p"]\nq = open_dataset("q.nc")["q"]\nprint((p.isel(i=slice(2)) + q.isel(j=slice(2))).sum())\nr = p + q'
-    ran, peak = peak_of(room.script(text), room.folder)
+    ran = room.run(text, preexec_fn=little_memory(64 << 20))
     assert ran == Ran(1, b"DataArray - () int64\n0\n", b"xrs: statement 4: F22 too large\n"), ran
-    assert peak < 64 << 10, peak
 
 
 def with_shared_labels(count, size):
@@ -783,9 +790,20 @@ def labels_that_share_their_bytes(room):
 def labels_that_want_more_memory_than_there_is(room):
     # (a list of these labels takes 256 MiB, and each index has one of its own)
     room.put("big.nc", with_shared_labels(12, 1 << 25))
-    ran = room.run('open_dataset("a.nc").to_netcdf("b.nc")\nprint(open_dataset("big.nc"))', preexec_fn=lambda: resource.setrlimit(resource.RLIMIT_AS, (1 << 30, 1 << 30)))
+    ran = room.run('open_dataset("a.nc").to_netcdf("b.nc")\nprint(open_dataset("big.nc"))', preexec_fn=little_memory(1 << 30))
     assert ran == Ran(4, b"", b"xrs: out of memory\n"), ran
     assert room.read("b.nc") == room.new and not room.beside()
+
+
+@test()
+def a_file_that_would_be_too_large_is_not_written(room):
+    # (its values alone take 256 MiB)
+    room.put("b.nc")
+    room.put("p.nc", one_variable(b"p", b"i", 8192))
+    room.put("q.nc", one_variable(b"q", b"j", 4096))
+    ran = room.run('p = open_dataset("p.nc")["p"].astype("int64")\nr = (p + open_dataset("q.nc")["q"]).rename("r")\nr.to_netcdf("b.nc")')
+    assert ran == Ran(1, b"", b"xrs: statement 3: F22 too large\n"), ran
+    assert room.read("b.nc") == OLD and not room.beside()
 
 
 @test("user")
@@ -907,7 +925,7 @@ def can_mount():
 
 def can_limit_memory(program):
     """Whether a program may run in little memory; one that is built with checks takes far more addresses than it uses."""
-    ran = subprocess.run([program], capture_output=True, preexec_fn=lambda: resource.setrlimit(resource.RLIMIT_AS, (1 << 30, 1 << 30)))
+    ran = subprocess.run([program], capture_output=True, preexec_fn=little_memory(64 << 20))
     return ran.returncode == 2
 
 

@@ -146,7 +146,7 @@ def main():
     program, wrong, told = os.path.abspath(sys.argv[1]), 0, []
     with tempfile.TemporaryDirectory() as top:
         shim = os.path.join(top, "nth_allocation.so")
-        subprocess.run(["cc", "-O1", "-shared", "-fPIC", "-o", shim, os.path.join(HERE, "nth_allocation.c")], check=True)
+        subprocess.run(["cc", "-O1", "-D_GNU_SOURCE", "-shared", "-fPIC", "-o", shim, os.path.join(HERE, "nth_allocation.c")], check=True)
         for script in (months(), groups(), parts(), over_a_link()):
             fault, made, status = run(program, shim, top, script, 0)
             if fault or status or not made:

@@ -5,7 +5,7 @@
 
 Cells are computed in strips of 16,384, folded and searched in tables whose sizes go with their labels, and masks are counted by 240
 bytes; the other tests have arrays of few cells. Here each has 70,001, or two dimensions of 263 and 271; there are 20,011 groups,
-20,000 texts and 70,071 bins. Each value is worked out below by plain loops over Python's numbers, and printed by the program; files
+20,000 texts, 70,071 bins, and 400 labels that a table would all keep at one place. Each value is worked out below by plain loops over Python's numbers, and printed by the program; files
 are read by the plain reader of classic.py. The last line is 'N the same, M differ'.
 """
 import datetime
@@ -47,6 +47,9 @@ G = [i * 97 % 10_007 - 5_000 for i in range(ROWS * COLUMNS)]
 H = [None if i % 11 == 5 or i // COLUMNS == 100 else i * 61 % 3_001 for i in range(ROWS * COLUMNS)]
 NAMES = [f"n{i * 7_919 % ZONES:05}" for i in range(TEXTS)]
 M = [i * 13 % 8_009 for i in range(TEXTS)]
+# The table's first place for a number is told by the upper half of its product with the golden ratio of 64 bits.
+GOLDEN = 11_400_714_819_323_198_485
+CROWDED = [n for n in (i * pow(GOLDEN, -1, 1 << 64) % (1 << 64) for i in range(1, 1_000)) if n < 1 << 63][:400]
 
 
 def stored(cells):
@@ -67,7 +70,8 @@ def the_file():
         writing.Var("h", ["y", "z"], SHORT, stored(H), [fill]), writing.Var("m", ["name"], INT, M, [])])
 
 
-HEAD = """\
+HEAD = f"""\
+q = DataArray({list(range(400))}, dims=["x"], coords={{"x": {CROWDED}}})
 ds = open_dataset("long.nc", mask=True)
 a = ds["a"].drop_vars("zone")
 b = ds["b"].drop_vars("zone")
@@ -153,6 +157,10 @@ def by_labels():
     names = ", ".join(f'"{NAMES[i]}"' for i in picked)
     yield f"m.sel(name=[{names}])", Wanted([("name", 200)], "int32", [M[i] for i in picked], name=[f'"{NAMES[i]}"' for i in picked])
     yield "m + m.isel(name=slice(None, None, -1))", Wanted([("name", TEXTS)], "int32", [2 * n for n in M], name=[f'"{it}"' for it in NAMES])
+    assert len(CROWDED) == 400 and all(n * GOLDEN % (1 << 64) < 1_000 for n in CROWDED)
+    yield "q - q.isel(x=slice(None, None, -1))", over_x("int64", [0] * 400, labels=CROWDED)
+    picked = [i * 37 % 400 for i in range(100)]
+    yield f"q.sel(x={[CROWDED[i] for i in picked]})", over_x("int64", picked, labels=[CROWDED[i] for i in picked])
     yield "a.isel(x=slice(69990, 3, -3))", over_x("int16", [A[i] for i in range(69_990, 3, -3)], True, [X[i] for i in range(69_990, 3, -3)])
 
 

@@ -5,6 +5,7 @@
 #include <stdatomic.h>
 #include <stdio.h>
 #include <stdlib.h>
+#include <sys/syscall.h>
 #include <unistd.h>
 
 extern void *__libc_malloc(size_t);
@@ -43,7 +44,7 @@ __attribute__((constructor)) static void begin(void) {
     begun = 1;
 }
 
-__attribute__((destructor)) static void tell(void) {
+static void tell(void) {
     const char *name = getenv("ALLOCATIONS_TOLD");
     begun = 0;
     int file = name ? open(name, O_WRONLY | O_CREAT | O_TRUNC, 0600) : -1;
@@ -51,4 +52,11 @@ __attribute__((destructor)) static void tell(void) {
         dprintf(file, "%lu\n", (unsigned long)made);
         close(file);
     }
+}
+
+/* The program ends by this call, after which nothing else of it runs. */
+void _exit(int status) {
+    tell();
+    for (;;)
+        syscall(SYS_exit_group, status);
 }
