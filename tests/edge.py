@@ -559,6 +559,18 @@ def each_kind_of_call_of_a_large_write_fails_in_turn(room):
 
 
 @test("trace")
+def want_of_memory_is_told_before_a_write_and_a_fault_of_the_storage_in_it(room):
+    os.symlink("b.nc", room.path("l.nc"))
+    fault = (STORAGE, b"", b"xrs: storage fault\n")
+    for kind, wanted in ((("readlink", "l.nc"), (4, b"", b"xrs: out of memory\n")), (("write", ".xrs"), fault), (("rename", ".xrs"), fault)):
+        room.put("b.nc")
+        at_call, seen = at_one(kind, 0, lambda: errno.ENOMEM)
+        end = calls_of(room, 'open_dataset("a.nc").to_netcdf("l.nc")', "l.nc", at_call)
+        assert seen and end[:3] == wanted, (kind, end[:3])
+        assert room.read("b.nc") == OLD and not room.beside(), kind
+
+
+@test("trace")
 def a_new_file_that_cant_be_removed_is_left_and_the_old_one_stays(room):
     room.put("b.nc")
     end = calls_of(room, 'open_dataset("a.nc").to_netcdf("b.nc")', "b.nc", lambda call: errno.EIO if call.name in ("fsync", "unlink") else None)
