@@ -42,14 +42,14 @@ fn strip_width(rows: u64, columns: u64) -> u64 {
     near.clamp(16, 1024).min(columns)
 }
 
-/// The room for the windows along an axis, if they overlap, behind which no axis is folded.
+/// The room for the windows along an axis, if they overlap so much that it pays, behind which no axis is folded.
 pub fn room_for(feeds: &[Feed], shape: &[u64]) -> Room
     ensures { result.folds ≤ 2 ^ 34 }
 {
     match (feeds, shape) {
         ([Feed::By(lists), rest @ ..], [size, sizes @ ..]) if are_kept(rest) => {
             let extent = extent_of(lists);
-            if extent.total / 2 < *size {
+            if extent.total / 4 < *size {
                 return Room { folds: 0, width: 0 };
             }
             let rows = extent.longest.saturating_add(2);
