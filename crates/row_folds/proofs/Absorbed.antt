@@ -1,9 +1,8 @@
 -- Rows of accumulators that have absorbed cells.
-use Rattle.std.proofs.Common.{◌≡◌, ◌<◌, ◌≤◌, ◌+◌, ◌-◌, ◌*◌, ◌/◌, ◌%◌, ℕ, ℤ, List, [], ◌∷◌, ◌++◌, length, flat_map, get_or, Option, None, refl, sym, ap, subst, ◌∙◌, inl, inr, inl, inr, arith, append-nil, append_assoc}
+use Rattle.std.proofs.Common.{◌≡◌, ◌<◌, ◌+◌, ◌-◌, ◌*◌, ◌/◌, ◌%◌, ℕ, ℤ, List, [], ◌∷◌, ◌++◌, get_or, Option, None, refl, sym, ap, subst, ◌∙◌, inl, inr, inl, inr, arith, append-nil, append_assoc}
 use Rattle.std.proofs.lemmas.Bool.{cases_lt}
 use Rattle.std.proofs.lemmas.Nat.{div_below, div-mul-add, mod-mul-add}
 use Rattle.xr_types.specs.Points.{size, place, IsPoint}
-use Rattle.plan_core.proofs.Tabs.{place_below}
 use Rattle.plan_core.proofs.Takes.{positive}
 use Rattle.row_folds.specs.Rows.{point_at, Absorbs, AbsorbsRow}
 

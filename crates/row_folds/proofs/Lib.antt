@@ -8,3 +8,6 @@ pub mod Meanings
 pub mod Kept
 pub mod Parts
 pub mod SumsTo
+pub mod Joined
+pub mod Tables
+pub mod Strips

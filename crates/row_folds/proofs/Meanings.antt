@@ -2,7 +2,7 @@
 use Rattle.std.proofs.Common.{◌≡◌, ◌≤◌, ◌<◌, ◌^◌, ℕ, ℤ, pos, Bool, true, false, List, [], ◌∷◌, length, Option, Some, None, refl, sym, ap, ◌∙◌, arith}
 use Rattle.std.specs.Int.{int_wrap, int_min, int_max, w64}
 use Rattle.std.proofs.lemmas.Int.{ints, int_wrap_fits}
-use Rattle.xr_types.specs.Kinds.{wrap_to, is_unsigned, low, high}
+use Rattle.xr_types.specs.Kinds.{wrap_to, is_unsigned}
 use Rattle.xr_types.specs.declared.kind.DType.{DType}
 use Rattle.xr_types.specs.declared.kind.DType.TheVariants.{Int64, UInt64}
 use Rattle.xr_types.specs.declared.operation.FoldKind.TheVariants.{Sum, Prod, Min, Max, First, Last, ArgMin, ArgMax, Count, Any, All}

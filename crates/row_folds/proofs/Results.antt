@@ -1,27 +1,26 @@
 -- The cells of results, and the arrays of them.
-use Rattle.std.proofs.Common.{◌≡◌, ◌<◌, ◌≤◌, ◌+◌, ◌*◌, ◌%◌, ◌^◌, ◌++◌, ℕ, ℤ, pos, suc, zero, Bool, true, false, cond, is_none, List, [], ◌∷◌, length, map, min, take, drop, get_or, replicate, Option, Some, None, refl, sym, ap, subst, ◌∙◌, arith}
-use Rattle.std.specs.List.{All, zip, range_with_len, list_any}
+use Rattle.std.proofs.Common.{◌≡◌, ◌<◌, ◌≤◌, ◌+◌, ◌*◌, ◌%◌, ◌++◌, ℕ, ℤ, pos, suc, zero, Bool, true, false, List, [], ◌∷◌, length, map, min, take, drop, get_or, replicate, Option, Some, None, refl, sym, ap, subst, ◌∙◌, arith}
+use Rattle.std.specs.List.{All, zip}
 use Rattle.std.proofs.lemmas.Int.{ints}
 use Rattle.std.proofs.lemmas.List.{get_or-replicate, take_at}
 use Rattle.std.proofs.lemmas.Nat.{div-mul-add, mod-mul-add}
 use Rattle.std.proofs.lemmas.List.Elements.{All-head, All-tail, All-cons}
-use Rattle.std.proofs.lemmas.List.FromFn.{length-map-range_with_len, get_or-map-range_with_len}
 use Rattle.xr_types.specs.Kinds.{InRange}
 use Rattle.xr_types.specs.declared.kind.DType.{DType}
 use Rattle.xr_types.specs.declared.kind.DType.TheVariants as kinds
 use Rattle.xr_types.specs.declared.operation.FoldKind.{FoldKind}
 use Rattle.xr_types.specs.Points.{size, tab, place, IsPoint}
 use Rattle.xr_arrays.specs.declared.node.Feed.{Feed}
-use Rattle.xr_arrays.specs.Arrays.{Array, at, made, hidden, IsArray, IsCell}
+use Rattle.xr_arrays.specs.Arrays.{IsCell}
 use Rattle.xr_arrays.specs.Folds.{fold_of, folded_kind}
-use Rattle.xr_arrays.specs.Nodes.{folded, gathered, kept, AreFed, most_node_cells}
+use Rattle.xr_arrays.specs.Nodes.{folded, gathered, kept, most_node_cells}
 use Rattle.plan_core.specs.Arrangements.{filling, gap}
 use Rattle.plan_core.proofs.Arrangements.{zero_in}
-use Rattle.plan_core.proofs.Tabs.{tab_same, tab_read, tab-length, place_below}
+use Rattle.plan_core.proofs.Tabs.{tab_same, tab_read, place_below}
 use Rattle.plan_core.proofs.Valued.{fed_most, folded_is}
 use Rattle.row_folds.specs.declared.accumulator.Present.{Present}
 use Rattle.row_folds.specs.Rows.{has_some, point_at, read_from, row_cells, array_of, shown, Absorbs, IsFolding, AreFolds}
-use Rattle.row_folds.proofs.Absorbed.{absorbs_none, absorbs_that, point_inside, place_at}
+use Rattle.row_folds.proofs.Absorbed.{absorbs_none, absorbs_that, point_inside}
 
 -- ---- rows
 

@@ -1,5 +1,5 @@
 -- Cells that folds read, by their places.
-use Rattle.std.proofs.Common.{◌≡◌, ◌==◌, ◌<◌, ℕ, ℤ, suc, zero, min, List, [], ◌∷◌, map, length, get_or, Option, Some, None, if◌then◌else◌, arith, refl}
+use Rattle.std.proofs.Common.{◌≡◌, ◌==◌, ◌<◌, ℕ, ℤ, suc, zero, min, List, [], ◌∷◌, map, length, get_or, Some, None, arith, refl}
 use Rattle.std.specs.List.{zip}
 use Rattle.xr_arrays.specs.Arrays.{cell}
 use Rattle.row_folds.specs.Rows.{shown}

@@ -1,13 +1,12 @@
 -- Folds with one more cell.
-use Rattle.std.proofs.Common.{◌≡◌, ◌≤◌, ◌<◌, ◌+◌, ◌^◌, ℕ, ℤ, pos, ◌+ℤ◌, ◌*ℤ◌, ◌≤ℤ◌, int_le, int_lt, Bool, true, false, not, ◌||◌, ◌&&◌, if◌then◌else◌, List, [], ◌∷◌, ◌++◌, length, Option, Some, None, option_map, arith, ap, refl, sym, ◌∙◌, length-append}
+use Rattle.std.proofs.Common.{◌≡◌, ◌≤◌, ◌^◌, ℕ, ℤ, pos, ◌+ℤ◌, ◌*ℤ◌, ◌≤ℤ◌, int_le, int_lt, Bool, true, false, not, ◌||◌, ◌&&◌, if◌then◌else◌, List, [], ◌∷◌, ◌++◌, length, Option, Some, None, arith, ap, refl, sym, ◌∙◌, length-append}
 use Rattle.std.specs.Int.{int_wrap, int_min, int_max, w64}
 use Rattle.std.specs.Option.{option_or}
-use Rattle.std.proofs.lemmas.Int.{ints, clamps, by_lt_z, int_wrap-add_right, int_wrap-mul_right, int_wrap_fits}
-use Rattle.xr_types.specs.Kinds.{wrap_to}
+use Rattle.std.proofs.lemmas.Int.{ints, clamps, by_lt_z, int_wrap_fits}
 use Rattle.xr_types.specs.declared.kind.DType.TheVariants.{Int64}
 use Rattle.xr_types.specs.declared.operation.FoldKind.TheVariants.{Sum, Prod, Min, Max, First, Last, ArgMin, ArgMax, Count, Any, All}
 use Rattle.xr_arrays.specs.Folds.{present, of_both, fold_of, truth, is_nonzero}
-use Rattle.xr_arrays.proofs.Folds.{kept_place, int_ge, sum-append, prod-append, min-append, max-append, firsts-append, lasts-append, argmin-append, argmax-append, count-append, any-append, all-append, sum_one, prod_one, sum_none, prod_none, argmin_one, argmax_one, any_one, all_one}
+use Rattle.xr_arrays.proofs.Folds.{kept_place, int_ge, sum-append, prod-append, min-append, max-append, firsts-append, lasts-append, argmin-append, argmax-append, count-append, any-append, all-append, sum_one, prod_one, argmin_one, argmax_one, any_one, all_one}
 use Rattle.row_folds.specs.Rows.{shown, or_number, has_some, is_better}
 
 abbrev Cells : Type 0
@@ -35,7 +34,7 @@ product_more before p c s m n is is_m is_n =
 
 -- ---- counts
 
-length-present : (cs : Cells) → length (present cs) ≤ length cs
+pub length-present : (cs : Cells) → length (present cs) ≤ length cs
 length-present [] = omega arith
 length-present ((p, None) ∷ cs) = omega (arith, length-present cs)
 length-present ((p, Some x) ∷ cs) = omega (arith, length-present cs)
@@ -116,12 +115,12 @@ some_more before p b x s n is is_n = from before ∙ ap (λ t. t || b) is ∙ sy
 
 -- ---- least and greatest numbers
 
-lesser : (x y : ℤ) → int_min x y ≡ (if int_lt y x then y else x)
+pub lesser : (x y : ℤ) → int_min x y ≡ (if int_lt y x then y else x)
 lesser x y = by_lt_z y x
     (λ lt. let e : int_lt y x ≡ true = grind (arith, ints) in rw e (omega (arith, ints, clamps)))
     (λ le. let e : int_lt y x ≡ false = grind (arith, ints) in rw e (omega (arith, ints, clamps)))
 
-greater : (x y : ℤ) → int_max x y ≡ (if int_lt x y then y else x)
+pub greater : (x y : ℤ) → int_max x y ≡ (if int_lt x y then y else x)
 greater x y = by_lt_z x y
     (λ lt. let e : int_lt x y ≡ true = grind (arith, ints) in rw e (omega (arith, ints, clamps)))
     (λ le. let e : int_lt x y ≡ false = grind (arith, ints) in rw e (omega (arith, ints, clamps)))

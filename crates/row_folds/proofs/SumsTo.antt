@@ -14,7 +14,7 @@ use Rattle.xr_types.specs.declared.kind.DType.{DType}
 use Rattle.xr_types.specs.declared.kind.DType.TheVariants.{Int64, UInt64}
 use Rattle.xr_types.specs.declared.operation.FoldKind.TheVariants.{Sum}
 use Rattle.xr_types.specs.Points.{size, place, IsPoint}
-use Rattle.xr_arrays.specs.Arrays.{Array, at, IsArray}
+use Rattle.xr_arrays.specs.Arrays.{Array, at}
 use Rattle.xr_arrays.specs.Folds.{fold_of, numbers, present, sum_of, total_kind}
 use Rattle.xr_arrays.specs.Nodes.{along, scanned, up_to}
 use Rattle.xr_arrays.proofs.Folds.{sum_of-append}
@@ -23,7 +23,6 @@ use Rattle.plan_core.proofs.FoldRows.{those_pairs}
 use Rattle.plan_core.proofs.Tabs.{place_below, tab-map, tab_read, tab_same}
 use Rattle.plan_core.proofs.Boxes.{behind_small}
 use Rattle.plan_core.proofs.Takes.{positive, size_split}
-use Rattle.plan_core.proofs.Valued.{scanned_is}
 use Rattle.row_folds.specs.SumsTo.{line_to, sum_to}
 use Rattle.row_folds.specs.Rows.{array_of, or_number}
 use Rattle.row_folds.proofs.Totals.{wrapped_again}

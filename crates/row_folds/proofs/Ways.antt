@@ -1,7 +1,7 @@
 -- The cells that a row of a fold's result comes from, axis by axis.
 use Rattle.std.proofs.Common.{◌≡◌, ◌<◌, ◌≤◌, ◌+◌, ◌*◌, ℕ, ℤ, zero, suc, List, [], ◌∷◌, ◌++◌, length, take, drop, get_or, flat_map, Option, None, refl, sym, ap, subst, ◌∙◌, arith, append-nil, length-drop}
 use Rattle.std.specs.List.{All, range_with_len}
-use Rattle.std.proofs.lemmas.List.{take_more, take_all}
+use Rattle.std.proofs.lemmas.List.{take_more}
 use Rattle.std.proofs.lemmas.List.Concat.{flat_map-append}
 use Rattle.std.proofs.lemmas.List.Elements.{All-head, All-tail}
 use Rattle.std.proofs.lemmas.Nat.{mul-le}
@@ -16,22 +16,22 @@ use Rattle.row_folds.specs.Rows.{read_from, AllKept, AreRows}
 
 -- ---- one position of the first axis
 
-reads : (cells : List (Option ℤ)) (start i : ℕ) (ns : List ℕ) → read_from cells (start + i * size ns) ns ≡ (λ q. get_or cells (start + (i * size ns + place ns q)) None)
+pub reads : (cells : List (Option ℤ)) (start i : ℕ) (ns : List ℕ) → read_from cells (start + i * size ns) ns ≡ (λ q. get_or cells (start + (i * size ns + place ns q)) None)
 reads cells start i ns = λ k q. ap (λ m. get_or cells m None) (assoc q) k
   where
     assoc : (q : List ℕ) → (start + i * size ns) + place ns q ≡ start + (i * size ns + place ns q)
     assoc q = omega arith
 
-times_up : (n s : ℕ) → 0 < n → s ≤ n * s
+pub times_up : (n s : ℕ) → 0 < n → s ≤ n * s
 times_up n s i = let up = mul-le 1 s n s (omega arith) (omega arith) in let d : 1 * s ≡ s = omega arith in omega arith
 
-times_right : (n s : ℕ) → 0 < s → n ≤ n * s
+pub times_right : (n s : ℕ) → 0 < s → n ≤ n * s
 times_right n s i = grind arith
 
 -- ---- what the code has at hand
 
 -- the first of the feeds and those behind it
-parted : (feeds rest : List Feed) (f g : Feed) → 0 < length feeds → f ≡ get_or feeds 0 f → f ≡ g → rest ≡ drop 1 feeds → feeds ≡ g ∷ rest
+pub parted : (feeds rest : List Feed) (f g : Feed) → 0 < length feeds → f ≡ get_or feeds 0 f → f ≡ g → rest ≡ drop 1 feeds → feeds ≡ g ∷ rest
 parted feeds rest f g some is is_g is_rest = first_is feeds 0 f some is ∙ ap (λ h. h ∷ drop 1 feeds) is_g ∙ ap (λ fs. g ∷ fs) (sym is_rest)
 
 pub falls : (feeds rest : List Feed) → 0 < length feeds → rest ≡ drop 1 feeds → length rest < length feeds
@@ -144,7 +144,7 @@ one_each rest shape shape1 p start begin i cells is_begin is_shape = (λ t. gath
 
 -- ---- an axis of lists of positions
 
-positions_in : (n i : ℕ) (lists : List (List ℕ)) → All (ArePositions n 0) lists → ArePositions n 0 (get_or lists i [])
+pub positions_in : (n i : ℕ) (lists : List (List ℕ)) → All (ArePositions n 0) lists → ArePositions n 0 (get_or lists i [])
 positions_in n i [] all = tt
 positions_in n zero (ps ∷ lists) all = All-head (ArePositions n 0) ps lists all
 positions_in n (suc i) (ps ∷ lists) all = positions_in n i lists (All-tail (ArePositions n 0) ps lists all)
@@ -207,7 +207,7 @@ flat_one g i = append-nil (g i)
 pub list_more : {X : Type 0} (g : ℕ → List X) (ps : List ℕ) (i : ℕ) → i < length ps → flat_map g (take i ps) ++ g (get_or ps i 0) ≡ flat_map g (take (i + 1) ps)
 list_more g ps i lt = ap (λ t. flat_map g (take i ps) ++ t) (sym (flat_one g (get_or ps i 0))) ∙ sym (flat_map-append g (take i ps) (get_or ps i 0 ∷ [])) ∙ ap (flat_map g) (sym (take_more ps i 0 lt))
 
-range_more : (a n : ℕ) → range_with_len a (n + 1) ≡ range_with_len a n ++ (a + n) ∷ []
+pub range_more : (a n : ℕ) → range_with_len a (n + 1) ≡ range_with_len a n ++ (a + n) ∷ []
 range_more a zero = let e : a ≡ a + 0 = omega arith in ap (λ k. k ∷ []) e
 range_more a (suc n) =
     let e : (a + 1) + n ≡ a + suc n = omega arith in

@@ -1,15 +1,17 @@
 //! All cells of an array, absorbed into the rows of a fold's result in the order in which the cells lie.
-ghost use Rattle.std.specs.Prelude.{◌≡◌, ◌<◌, length, [], ◌∷◌, drop, get_or, true, false};
-ghost use Rattle.xr_arrays.specs.declared.node.Feed.TheVariants.{All};
-ghost use Rattle.xr_arrays.specs.FeedPositions.{listed};
-ghost use Rattle.xr_arrays.specs.Nodes.{gathered};
+ghost use Rattle.std.specs.Prelude.{◌≡◌, ◌<◌, ◌≤◌, length, [], ◌∷◌, drop, get_or, true, false};
+ghost use Rattle.xr_arrays.specs.declared.node.Feed.TheVariants.{All, By};
+ghost use Rattle.xr_arrays.specs.Nodes.{gathered, most_node_cells};
 ghost use Rattle.row_folds.specs.Rows.{read_from, AllKept, AreRows, Absorbs};
 
 use crate::accumulator::Accumulator;
 use crate::leaf::{absorb_row, absorb_run};
+use crate::lists::absorb_lists;
+use crate::positions::{count, nth};
 use crate::sizes::{begin, behind, points};
 use crate::source::Source;
-use xr_arrays::{Feed, Positions};
+use crate::strip::Strip;
+use xr_arrays::{Feed, Feeds};
 use xr_types::Elem;
 
 fn feeds_behind(feeds: &[Feed]) -> &[Feed]
@@ -19,27 +21,8 @@ fn feeds_behind(feeds: &[Feed]) -> &[Feed]
     &feeds[1..]
 }
 
-fn count(positions: Positions<'_>) -> u64
-    ensures { result ≡ length (listed positions.entry) }
-{
-    match positions {
-        Positions::Range { from, to } => to.saturating_sub(from),
-        Positions::List(positions) => positions.len() as u64,
-    }
-}
-
-fn nth(positions: Positions<'_>, i: u64) -> u64
-    requires { i < length (listed positions) }
-    ensures { result ≡ get_or (listed positions.entry) i 0 }
-{
-    match positions {
-        Positions::Range { from, .. } => from + i,
-        Positions::List(positions) => u64::from(positions[i as usize]),
-    }
-}
-
-// Whether all axes stay.
-fn are_kept(feeds: &[Feed]) -> bool
+/// Whether all axes stay.
+pub fn are_kept(feeds: &[Feed]) -> bool
     ensures kept { result ≡ true → AllKept feeds.now }
     ensures some { result ≡ false → 0 < length feeds.now }
 {
@@ -60,8 +43,40 @@ fn is_run(feeds: &[Feed]) -> bool
     }
 }
 
+// Absorbs the cells of a shape by lists of positions of its first axis, where all axes behind that stay.
+fn absorb_table<T: Elem, A: Accumulator<T>, S: Source<T>>(
+    rows: &mut [A],
+    at: usize,
+    position: u64,
+    lists: &Feeds,
+    rest: &[Feed],
+    shape: &[u64],
+    sizes: &[u64],
+    source: S,
+    start: usize,
+    folds: &mut [A],
+    width: usize,
+    empty: A,
+)
+    requires rows { AreRows (By lists.now ∷ rest.now) shape.now sizes.now at (length rows.old) start (length (S.cells source)) position }
+    requires kept { AllKept rest.now }
+    requires folds { length folds.old ≤ most_node_cells }
+    requires empty { A.Is empty [] }
+    ensures { Absorbs A.Is rows.old rows.new at sizes.now (λ p. gathered position (By lists.now ∷ rest.now) shape.now p (read_from (S.cells source) start shape.now)) }
+{
+    let columns = points(behind(shape)) as usize;
+    let table = Strip {
+        size: shape[0],
+        stride: columns,
+        count: columns,
+        start,
+    };
+    absorb_lists(rows, at, table, width, lists, source, folds, empty);
+}
+
 /// Absorbs the cells of a shape, which lie from `start` on, into the accumulators of the sizes that stay, which lie from `at`
-/// on. The position is that along the last axis before that was folded.
+/// on. The position is that along the last axis before that was folded. What the memory for folds holds doesn't matter; windows
+/// are put together there, so many columns at a time.
 pub fn absorb<T: Elem, A: Accumulator<T>, S: Source<T>>(
     rows: &mut [A],
     at: usize,
@@ -71,8 +86,13 @@ pub fn absorb<T: Elem, A: Accumulator<T>, S: Source<T>>(
     sizes: &[u64],
     source: S,
     start: usize,
+    folds: &mut [A],
+    width: usize,
+    empty: A,
 )
-    requires { AreRows feeds.now shape.now sizes.now at (length rows.old) start (length (S.cells source)) position }
+    requires rows { AreRows feeds.now shape.now sizes.now at (length rows.old) start (length (S.cells source)) position }
+    requires folds { length folds.old ≤ most_node_cells }
+    requires empty { A.Is empty [] }
     ensures { Absorbs A.Is rows.old rows.new at sizes.now (λ p. gathered position feeds.now shape.now p (read_from (S.cells source) start shape.now)) }
 {
     if are_kept(feeds) {
@@ -98,16 +118,38 @@ pub fn absorb<T: Elem, A: Accumulator<T>, S: Source<T>>(
                     behind(sizes),
                     source,
                     cells,
+                    folds,
+                    width,
+                    empty,
                 );
             }
         }
         Feed::All => {
             for i in 0..shape[0] {
                 let cells = begin(shape, start, i);
-                absorb(rows, at, i, rest, behind(shape), sizes, source, cells);
+                absorb(
+                    rows,
+                    at,
+                    i,
+                    rest,
+                    behind(shape),
+                    sizes,
+                    source,
+                    cells,
+                    folds,
+                    width,
+                    empty,
+                );
             }
         }
         Feed::By(lists) => {
+            if are_kept(rest) {
+                absorb_table(
+                    rows, at, position, lists, rest, shape, sizes, source, start, folds, width,
+                    empty,
+                );
+                return;
+            }
             for place in 0..lists.len() {
                 let row = begin(sizes, at, place);
                 let positions = lists.positions(place);
@@ -123,6 +165,9 @@ pub fn absorb<T: Elem, A: Accumulator<T>, S: Source<T>>(
                         behind(sizes),
                         source,
                         cells,
+                        folds,
+                        width,
+                        empty,
                     );
                 }
             }

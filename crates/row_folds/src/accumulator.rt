@@ -18,6 +18,10 @@ pub trait Accumulator<T: Elem>: Copy + Drop {
     fn with(self, position: u64, cell: T, present: bool) -> Self
         requires { position < 2 ^ 62 }
         ensures { (before : List (ℕ × Option ℤ)) → Is self before → Is result (before ++ (position, shown present (T.number cell)) ∷ []) };
+
+    /// The fold of the cells of both, those of the other behind.
+    fn combine(self, after: Self) -> Self
+        ensures { (a b : List (ℕ × Option ℤ)) → Is self a → Is after b → Is result (a ++ b) };
 }
 
 #[tactic(auto, using(std::proofs::lemmas::Int::wraps))]
@@ -88,6 +92,13 @@ impl<T: Elem> Accumulator<T> for Total {
             sum: added(self.sum, number_or(cell, present, 0)),
         }
     }
+
+    #[tactic(auto, using(crate::proofs::Joined::sum_both))]
+    fn combine(self, after: Total) -> Total {
+        Total {
+            sum: added(self.sum, after.sum),
+        }
+    }
 }
 
 /// The product, wrapped at 64 bits.
@@ -103,6 +114,13 @@ impl<T: Elem> Accumulator<T> for Product {
     fn with(self, _position: u64, cell: T, present: bool) -> Product {
         Product {
             product: multiplied(self.product, number_or(cell, present, 1)),
+        }
+    }
+
+    #[tactic(auto, using(crate::proofs::Joined::product_both))]
+    fn combine(self, after: Product) -> Product {
+        Product {
+            product: multiplied(self.product, after.product),
         }
     }
 }
@@ -122,6 +140,13 @@ impl<T: Elem> Accumulator<T> for Counted {
             count: added(self.count, i64::from(present)),
         }
     }
+
+    #[tactic(auto, using(crate::proofs::Joined::count_both))]
+    fn combine(self, after: Counted) -> Counted {
+        Counted {
+            count: added(self.count, after.count),
+        }
+    }
 }
 
 /// Whether a cell isn't 0.
@@ -137,6 +162,13 @@ impl<T: Elem> Accumulator<T> for AnyNonzero {
     fn with(self, _position: u64, cell: T, present: bool) -> AnyNonzero {
         AnyNonzero {
             any: self.any | is_nonzero(cell, present),
+        }
+    }
+
+    #[tactic(auto, using(crate::proofs::Joined::any_both))]
+    fn combine(self, after: AnyNonzero) -> AnyNonzero {
+        AnyNonzero {
+            any: self.any | after.any,
         }
     }
 }
@@ -156,6 +188,13 @@ impl<T: Elem> Accumulator<T> for AllNonzero {
             all: self.all & !is_zero(cell, present),
         }
     }
+
+    #[tactic(auto, using(crate::proofs::Joined::all_both))]
+    fn combine(self, after: AllNonzero) -> AllNonzero {
+        AllNonzero {
+            all: self.all & after.all,
+        }
+    }
 }
 
 /// Whether a cell is present.
@@ -171,6 +210,13 @@ impl<T: Elem> Accumulator<T> for Present {
     fn with(self, _position: u64, _cell: T, present: bool) -> Present {
         Present {
             some: self.some | present,
+        }
+    }
+
+    #[tactic(auto, using(crate::proofs::Joined::some_both))]
+    fn combine(self, after: Present) -> Present {
+        Present {
+            some: self.some | after.some,
         }
     }
 }
@@ -193,6 +239,17 @@ impl<T: Elem> Accumulator<T> for Least<T> {
             self
         }
     }
+
+    #[tactic(auto, using(crate::proofs::Joined::least_both))]
+    fn combine(self, after: Least<T>) -> Least<T> {
+        let _range = self.number.widen();
+        let _other_range = after.number.widen();
+        if is_less(after.number, self.number) {
+            after
+        } else {
+            self
+        }
+    }
 }
 
 /// The greatest number, or the least one of the type where no cell is present.
@@ -209,6 +266,17 @@ impl<T: Elem> Accumulator<T> for Greatest<T> {
         let _range = cell.widen();
         if present & is_less(self.number, cell) {
             Greatest { number: cell }
+        } else {
+            self
+        }
+    }
+
+    #[tactic(auto, using(crate::proofs::Joined::greatest_both))]
+    fn combine(self, after: Greatest<T>) -> Greatest<T> {
+        let _range = self.number.widen();
+        let _other_range = after.number.widen();
+        if is_less(self.number, after.number) {
+            after
         } else {
             self
         }
@@ -236,6 +304,11 @@ impl<T: Elem> Accumulator<T> for First<T> {
             }
         }
     }
+
+    #[tactic(auto, using(crate::proofs::Joined::first_before, crate::proofs::Joined::first_both))]
+    fn combine(self, after: First<T>) -> First<T> {
+        if self.some { self } else { after }
+    }
 }
 
 /// The last present cell.
@@ -258,6 +331,11 @@ impl<T: Elem> Accumulator<T> for Last<T> {
         } else {
             self
         }
+    }
+
+    #[tactic(auto, using(crate::proofs::Joined::last_behind, crate::proofs::Joined::last_both))]
+    fn combine(self, after: Last<T>) -> Last<T> {
+        if after.some { after } else { self }
     }
 }
 
@@ -284,6 +362,15 @@ impl<T: Elem> Accumulator<T> for LeastAt<T> {
             self
         }
     }
+
+    #[tactic(auto, using(crate::proofs::Joined::least_at_before, crate::proofs::Joined::least_at_behind))]
+    fn combine(self, after: LeastAt<T>) -> LeastAt<T> {
+        if is_better(after.some, self.some, is_less(after.number, self.number)) {
+            after
+        } else {
+            self
+        }
+    }
 }
 
 /// The first of the greatest cells, with its position.
@@ -305,6 +392,15 @@ impl<T: Elem> Accumulator<T> for GreatestAt<T> {
                 number: cell,
                 position,
             }
+        } else {
+            self
+        }
+    }
+
+    #[tactic(auto, using(crate::proofs::Joined::greatest_at_before, crate::proofs::Joined::greatest_at_behind))]
+    fn combine(self, after: GreatestAt<T>) -> GreatestAt<T> {
+        if is_better(after.some, self.some, is_less(self.number, after.number)) {
+            after
         } else {
             self
         }

@@ -8,8 +8,8 @@ use crate::accumulator::Accumulator;
 use crate::source::Source;
 use xr_types::Elem;
 
-// The accumulator with one more cell of the source.
-fn with_cell<T: Elem, A: Accumulator<T>, S: Source<T>>(
+/// The accumulator with one more cell of the source.
+pub fn with_cell<T: Elem, A: Accumulator<T>, S: Source<T>>(
     one: A,
     position: u64,
     source: S,

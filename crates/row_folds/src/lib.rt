@@ -9,12 +9,17 @@ mod folded;
 mod folds;
 mod kinds;
 mod leaf;
+mod lists;
 mod outcome;
+mod positions;
+mod room;
 mod rows;
 mod running;
 mod scans;
 mod sizes;
 mod source;
+mod strip;
+mod windows;
 
 pub use folds::fold;
 pub use scans::scan;

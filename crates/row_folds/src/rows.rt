@@ -1,11 +1,12 @@
 //! The accumulators of all rows of a fold's result.
-ghost use Rattle.std.specs.Prelude.{◌≡◌, [], length, replicate, IfOk};
+ghost use Rattle.std.specs.Prelude.{◌≡◌, ◌≤◌, [], length, replicate, IfOk};
 ghost use Rattle.xr_types.specs.Points.{size};
-ghost use Rattle.xr_arrays.specs.Nodes.{gathered};
+ghost use Rattle.xr_arrays.specs.Nodes.{gathered, most_node_cells};
 ghost use Rattle.row_folds.specs.Rows.{read_from, Absorbs, IsFolding, AreFolds};
 
 use crate::absorb::absorb;
 use crate::accumulator::Accumulator;
+use crate::room::room_for;
 use crate::sizes::points;
 use crate::source::Source;
 use std::alloc::{AllocError, Global};
@@ -18,15 +19,22 @@ fn absorb_all<T: Elem, A: Accumulator<T>, S: Source<T>>(
     shape: &[u64],
     sizes: &[u64],
     source: S,
+    folds: &mut [A],
+    width: usize,
+    empty: A,
 )
     requires folding { IsFolding feeds.now shape.now sizes.now (length (S.cells source)) }
+    requires folds { length folds.old ≤ most_node_cells }
+    requires empty { A.Is empty [] }
     requires rows { length rows.old ≡ size sizes.now }
     ensures { Absorbs A.Is rows.old rows.new 0 sizes.now (λ p. gathered 0 feeds.now shape.now p (read_from (S.cells source) 0 shape.now)) }
 {
     if points(shape) == 0 {
         return;
     }
-    absorb(rows, 0, 0, feeds, shape, sizes, source, 0);
+    absorb(
+        rows, 0, 0, feeds, shape, sizes, source, 0, folds, width, empty,
+    );
 }
 
 // So many equal accumulators.
@@ -55,6 +63,17 @@ pub fn folded_rows<T: Elem, A: Accumulator<T>, S: Source<T>>(
     ensures { IfOk result (λ v. AreFolds A.Is v.items feeds.now shape.now sizes.now (S.cells source)) }
 {
     let mut rows = starts(alloc, start, points(sizes) as usize)?;
-    absorb_all(&mut rows, feeds, shape, sizes, source);
+    let room = room_for(feeds, shape);
+    let mut folds = starts(alloc, start, room.folds as usize)?;
+    absorb_all(
+        &mut rows,
+        feeds,
+        shape,
+        sizes,
+        source,
+        &mut folds,
+        room.width as usize,
+        start,
+    );
     Ok(rows)
 }

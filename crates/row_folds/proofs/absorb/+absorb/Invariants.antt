@@ -1,6 +1,5 @@
-use Rattle.std.proofs.Common.{length, ◌+◌, ◌*◌, ◌∷◌, drop, take, flat_map}
+use Rattle.std.proofs.Common.{length, ◌∷◌, drop, take, flat_map}
 use Rattle.std.specs.List.{range_with_len}
-use Rattle.xr_types.specs.Points.{size}
 use Rattle.xr_arrays.specs.FeedPositions.{listed}
 use Rattle.xr_arrays.specs.Nodes.{gathered}
 use Rattle.row_folds.specs.Rows.{read_from, Absorbs}

@@ -1,4 +1,4 @@
-use Rattle.std.proofs.Common.{◌∙◌, ap, map, sym, subst}
+use Rattle.std.proofs.Common.{◌∙◌, ap, sym, subst}
 use Rattle.std.specs.List.{All}
 use Rattle.xr_types.specs.Kinds.{InRange}
 use Rattle.xr_arrays.specs.Arrays.{kind_of, wide}

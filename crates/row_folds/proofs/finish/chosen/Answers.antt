@@ -1,4 +1,4 @@
-use Rattle.std.proofs.Common.{◌∙◌, map, ap, length}
+use Rattle.std.proofs.Common.{◌∙◌, map, length}
 use Rattle.std.specs.List.{zip}
 use Rattle.plan_core.proofs.Takes.{if_ok}
 use Rattle.row_folds.specs.declared.accumulator.Present.{Present}

@@ -1,4 +1,4 @@
-use Rattle.std.proofs.Common.{◌≡◌, ◌∙◌, arith, ap, subst, length, map, IfSome}
+use Rattle.std.proofs.Common.{◌≡◌, arith, ap, subst, length, map, IfSome}
 use Rattle.std.specs.List.{zip}
 use Rattle.xr_arrays.specs.Arrays.{cell}
 use Rattle.row_folds.specs.Rows.{IsFolding}

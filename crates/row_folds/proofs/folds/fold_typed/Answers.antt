@@ -1,4 +1,4 @@
-use Rattle.std.proofs.Common.{◌≡◌, ◌∙◌, pos, map, ap, sym, refl, option_map}
+use Rattle.std.proofs.Common.{◌∙◌, pos, map, ap, refl, option_map}
 use Rattle.xr_arrays.specs.declared.typed.Cells.TheVariants.{Bool, Char, Int8, Int16, Int32, Int64, UInt8, UInt16, UInt32, UInt64}
 use Rattle.xr_arrays.specs.Nodes.{folded}
 use Rattle.plan_core.proofs.Arrangements.{parts_of}

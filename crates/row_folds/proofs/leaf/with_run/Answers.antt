@@ -1,4 +1,4 @@
-use Rattle.std.proofs.Common.{◌≡◌, ◌+◌, ◌++◌, ◌∷◌, ℕ, ℤ, List, [], get_or, flat_map, Option, None, subst, sym, ap, ◌∙◌, append_assoc}
+use Rattle.std.proofs.Common.{◌+◌, ◌++◌, ◌∷◌, ℕ, ℤ, List, [], get_or, flat_map, Option, None, subst, ap, ◌∙◌, append_assoc}
 use Rattle.std.specs.List.{range_with_len}
 use Rattle.row_folds.proofs.Ways.{range_step}
 use Rattle.row_folds.proofs.leaf.with_run.Goals as goal

@@ -1,5 +1,4 @@
-use Rattle.std.proofs.Common.{◌≡◌, arith, length}
-use Rattle.xr_types.specs.Points.{size}
+use Rattle.std.proofs.Common.{arith, length}
 use Rattle.row_folds.proofs.Results.{nothing_absorbed}
 use Rattle.row_folds.proofs.rows.absorb_all.Goals as goal
 

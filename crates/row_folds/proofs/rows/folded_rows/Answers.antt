@@ -1,4 +1,4 @@
-use Rattle.std.proofs.Common.{◌≡◌, ◌≤◌, ◌++◌, ◌∙◌, arith, length, take, drop, sym, ap, subst}
+use Rattle.std.proofs.Common.{◌≡◌, ◌∙◌, arith, length, sym, ap, subst}
 use Rattle.row_folds.specs.Rows.{AreFolds}
 use Rattle.row_folds.proofs.Results.{all_absorbed, all_written}
 use Rattle.row_folds.proofs.rows.folded_rows.Goals as goal

@@ -1,9 +1,7 @@
-use Rattle.std.proofs.Common.{◌≡◌, ◌<◌, ◌+ℤ◌, ◌∙◌, ◌++◌, ◌∷◌, [], None, pos, refl, sym, ap, subst, arith, rules, length, drop, get_or, eqb, cond, nat_lt, ◌-◌, ◌/◌, ◌%◌, ◌*◌, SFits, List, ℤ, ℕ}
+use Rattle.std.proofs.Common.{◌<◌, ◌+ℤ◌, ◌∙◌, ◌++◌, ◌∷◌, [], None, pos, refl, sym, ap, subst, arith, rules, get_or, cond, nat_lt, ◌-◌, ◌%◌, SFits, List, ℤ}
 use Rattle.std.specs.Int.{int_wrap, w64}
-use Rattle.std.proofs.lemmas.Int.{to_z-of_z, ints}
-use Rattle.xr_types.specs.Points.{size, place}
-use Rattle.xr_arrays.specs.Folds.{sum_of}
-use Rattle.plan_core.specs.Rows.{those}
+use Rattle.std.proofs.lemmas.Int.{to_z-of_z}
+use Rattle.xr_types.specs.Points.{size}
 use Rattle.plan_core.proofs.Tabs.{place_below}
 use Rattle.row_folds.specs.Rows.{or_number}
 use Rattle.row_folds.proofs.SumsTo.{axis_some, row_here, block_here, sums_more, before_is, counted}

@@ -1,4 +1,4 @@
-use Rattle.std.proofs.Common.{◌≡◌, ◌∙◌, arith, ap, subst, length, IfSome}
+use Rattle.std.proofs.Common.{◌≡◌, arith, ap, subst, length, IfSome}
 use Rattle.row_folds.proofs.Sources.{masked_length}
 use Rattle.row_folds.proofs.scans.scan_slice.Goals as goal
 

@@ -1,4 +1,4 @@
-use Rattle.std.proofs.Common.{◌||◌, ◌&&◌, not, ap}
+use Rattle.std.proofs.Common.{◌&&◌, not, ap}
 use Rattle.row_folds.proofs.Steps.{all_more}
 use Rattle.row_folds.proofs.accumulator.AllNonzeroAccumulator.with.Goals as goal
 

@@ -1,4 +1,4 @@
-use Rattle.std.proofs.Common.{◌||◌, ◌&&◌, not, ap}
+use Rattle.std.proofs.Common.{◌||◌, ap}
 use Rattle.row_folds.proofs.Steps.{any_more}
 use Rattle.row_folds.proofs.accumulator.AnyNonzeroAccumulator.with.Goals as goal
 

@@ -1,4 +1,4 @@
-use Rattle.std.proofs.Common.{◌≡◌, ℤ, pos, Bool, true, false, ◌+ℤ◌, SFits, ◌∙◌, refl, rules}
+use Rattle.std.proofs.Common.{◌≡◌, pos, Bool, true, false, ◌+ℤ◌, SFits, ◌∙◌, refl, rules}
 use Rattle.std.specs.Int.{int_wrap, w64}
 use Rattle.std.proofs.lemmas.Int.{to_z-of_z}
 use mir.Val.{bool_byte}

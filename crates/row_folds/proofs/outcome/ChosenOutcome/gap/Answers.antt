@@ -1,5 +1,4 @@
-use Rattle.std.proofs.Common.{pos, ◌<◌, ◌∙◌, arith, rules, sym, ap, length, get_or}
-use Rattle.plan_core.specs.Arrangements.{filling, gap}
+use Rattle.std.proofs.Common.{pos, ◌∙◌, arith}
 use Rattle.row_folds.specs.Rows.{shown}
 use Rattle.row_folds.proofs.Results.{zipped_long, zipped_gap}
 use Rattle.row_folds.proofs.outcome.ChosenOutcome.gap.Goals as goal

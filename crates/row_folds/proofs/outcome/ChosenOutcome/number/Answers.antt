@@ -1,5 +1,5 @@
-use Rattle.std.proofs.Common.{◌<◌, ◌∙◌, arith, rules, sym, ap, length, get_or}
-use Rattle.plan_core.specs.Arrangements.{filling, gap}
+use Rattle.std.proofs.Common.{◌<◌, ◌∙◌, arith, rules, sym, ap, length}
+use Rattle.plan_core.specs.Arrangements.{filling}
 use Rattle.row_folds.specs.Rows.{shown}
 use Rattle.row_folds.proofs.Results.{zipped_long, zipped_at}
 use Rattle.row_folds.proofs.outcome.ChosenOutcome.number.Goals as goal

@@ -2,7 +2,7 @@ use Rattle.std.proofs.Common.{◌<◌, ◌-◌, ◌^◌, ◌∙◌, ap, sym, sub
 use Rattle.std.specs.List.{range_with_len}
 use Rattle.std.proofs.lemmas.List.FromFn.{length-range_with_len, get_or-range_with_len}
 use Rattle.xr_arrays.specs.FeedPositions.{listed}
-use Rattle.row_folds.proofs.absorb.nth.Goals as goal
+use Rattle.row_folds.proofs.positions.nth.Goals as goal
 
 pub overflow_add-result : goal.overflow_add-result
 overflow_add-result c =
