@@ -7,3 +7,4 @@ pub mod Placed
 pub mod Reversed
 pub mod Found
 pub mod Seen
+pub mod Columns

@@ -11,7 +11,7 @@ use Rattle.cdf_reader.proofs.Capped.{ordered, mul_right}
 past : (n : ℕ) (bytes : List ℕ) → length bytes ≤ n → drop n bytes ≡ []
 past n bytes le = nil_from_length (drop n bytes) (omega (arith, length-drop n bytes))
 
-drop_same : (m n : ℕ) (bytes : List ℕ) → length bytes ≤ most_bytes → capped m ≡ capped n → drop m bytes ≡ drop n bytes
+pub drop_same : (m n : ℕ) (bytes : List ℕ) → length bytes ≤ most_bytes → capped m ≡ capped n → drop m bytes ≡ drop n bytes
 drop_same m n bytes short e =
     elim (ordered (suc most_bytes) m) [
       | inl large ↦ past m bytes (omega arith) ∙ sym (past n bytes (omega arith))
@@ -57,7 +57,7 @@ front_within bytes begin n =
 add_capped : (b x y : ℕ) → capped x ≡ capped y → capped (b + x) ≡ capped (b + y)
 add_capped b x y e = omega arith
 
-capped_twice : (b x : ℕ) → capped (capped (b + capped x)) ≡ capped (b + x)
+pub capped_twice : (b x : ℕ) → capped (capped (b + capped x)) ≡ capped (b + x)
 capped_twice b x = omega arith
 
 range_more : (a n : ℕ) → range_with_len a (suc n) ≡ range_with_len a n ++ (a + n) ∷ []

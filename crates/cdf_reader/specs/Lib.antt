@@ -5,3 +5,5 @@ pub mod Sizes
 pub mod Together
 pub mod Fewest
 pub mod Heads
+pub mod Strips
+pub mod Gathered

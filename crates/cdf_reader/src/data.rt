@@ -18,6 +18,18 @@ pub(crate) struct Places<'a> {
     pub distance: u64,
 }
 
+/// The bytes from a place on.
+pub(crate) fn rest_at(bytes: &[u8], begin: u64) -> &[u8]
+    ensures { result.now ≡ drop begin bytes.now }
+{
+    let begin = begin as usize;
+    if begin > bytes.len() {
+        return &[];
+    }
+    let (_, rest) = bytes.split_at(begin);
+    rest
+}
+
 // The bytes of the file from a place on, as many as there are.
 fn front_at(bytes: &[u8], begin: u64, n: u64) -> &[u8]
     ensures front { result.now ≡ take n (drop begin bytes.now) }
@@ -36,9 +48,9 @@ fn front_at(bytes: &[u8], begin: u64, n: u64) -> &[u8]
     front
 }
 
-// The bytes of the file from a place on, as many as there are, shared with the file's.
+/// The bytes of the file from a place on, as many as there are, shared with the file's.
 #[tactic(auto, using(crate::proofs::Placed::front_within))]
-fn shared_front_at(bytes: &Bytes, begin: u64, n: u64) -> Result<Bytes, AllocError>
+pub(crate) fn shared_front_at(bytes: &Bytes, begin: u64, n: u64) -> Result<Bytes, AllocError>
     ensures front { IfOk result (λ front. front ≡ take n (drop begin bytes.now)) }
     ensures short { length bytes.now < 2 ^ 64 }
 {

@@ -1,10 +1,12 @@
 //! A file without its values.
-ghost use Rattle.std.specs.Prelude.{◌≡◌, ◌≤◌, length, take, drop, false, IfOk};
+ghost use Rattle.std.specs.Prelude.{◌≡◌, ◌≤◌, length, map, take, drop, false, IfOk};
 ghost use Rattle.xr_files.specs.Files.{most_bytes, head_size, is_record_var};
 ghost use Rattle.cdf_reader.specs.Heads.{var_seen};
 
 use crate::data::{Places, fixed_values, raw_at, shared_fixed};
+use crate::gather::gather;
 use crate::sizes::distance_of;
+use crate::strips::strips_at;
 use bytes::Bytes;
 use std::alloc::{AllocError, Global};
 use xr_files::{CdfDim, VarHead};
@@ -61,4 +63,29 @@ pub fn copied_values(
         distance: distance_of(dims, head.vars.as_slice()),
     };
     raw_at(alloc, places, bytes, var)
+}
+
+/// The values of variables. Those that lie together are shared with the file's bytes, so that none is copied: those of a variable that
+/// is no record variable, and those of one that has the records to itself. All others are gathered from the records in one pass over
+/// them, into new memory.
+///
+/// # Errors
+/// Want of memory.
+pub fn gathered_values(
+    alloc: Global,
+    bytes: &Bytes,
+    head: &FileHead,
+    vars: &[&VarHead],
+) -> Result<Vec<Bytes>, AllocError>
+    requires { length bytes.now ≤ most_bytes }
+    ensures { IfOk result (λ raws. raws.items ≡ map (λ v. (var_seen bytes.now head.now v.now).raw) vars.now) }
+{
+    let dims = head.dims.as_slice();
+    let places = Places {
+        dims,
+        numrecs: head.numrecs,
+        distance: distance_of(dims, head.vars.as_slice()),
+    };
+    let strips = strips_at(alloc, places, vars)?;
+    gather(alloc, bytes, places.distance, strips.as_slice())
 }
