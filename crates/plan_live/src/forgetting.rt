@@ -8,10 +8,33 @@ use crate::mark::mark_inputs;
 use plan_core::Plan;
 use std::alloc::Global;
 use xr_arrays::{ArrayValue, Form, Node};
+use xr_types::DType;
 
-// Cells that have to be gained for each node of a plan before it is looked through, since a look goes over all its nodes. To
-// read so many cells takes some ten times as long as to look at a node and to copy it.
-const CELLS_A_NODE: u64 = 512;
+// Bytes of cells that have to be gained for each node of a plan before it is looked through, since a look goes over all its
+// nodes. To read so many takes some ten times as long as to look at a node and to copy it.
+const BYTES_A_NODE: u64 = 2_048;
+
+// Bytes of a position, and of a node's number, where a node has lists of them.
+const BYTES_A_POSITION: u64 = 8;
+
+// Bytes of a cell.
+fn width(kind: DType) -> u64 {
+    match kind {
+        DType::Bool | DType::Char | DType::Int8 | DType::UInt8 => 1,
+        DType::Int16 | DType::UInt16 => 2,
+        DType::Int32 | DType::UInt32 => 4,
+        DType::Int64 | DType::UInt64 => 8,
+    }
+}
+
+// The bytes of an array's cells. No array of a plan has more than such a number counts.
+fn bytes_of(cells: &ArrayValue) -> u64 {
+    let mut bytes = width(cells.kind());
+    for n in cells.shape() {
+        bytes = bytes.saturating_mul(*n);
+    }
+    bytes
+}
 
 // The cells of a source.
 fn source(node: &Node) -> Option<&ArrayValue> {
@@ -30,35 +53,30 @@ fn source(node: &Node) -> Option<&ArrayValue> {
     }
 }
 
-// How many cells an array has. No array of a plan has more than such a number counts.
-fn size(cells: &ArrayValue) -> u64 {
-    let mut size = 1u64;
-    for n in cells.shape() {
-        size = size.saturating_mul(*n);
-    }
-    size
-}
-
-// The cells that stand in a node.
-fn held_cells(node: &Node) -> u64 {
+// The bytes of the cells that stand in a node.
+fn held_bytes(node: &Node) -> u64 {
     match source(node) {
-        Some(cells) => size(cells),
+        Some(cells) => bytes_of(cells),
         None => 0,
     }
 }
 
-// The cells and the positions that a copy of a node takes in new memory.
-fn copied_cells(node: &Node) -> u64 {
+fn bytes_at(positions: usize) -> u64 {
+    BYTES_A_POSITION.saturating_mul(positions as u64)
+}
+
+// The bytes that a copy of a node takes in new memory, beside those of each node.
+fn copied_bytes(node: &Node) -> u64 {
     match node {
         Node::Source { cells } => match cells.form() {
-            Form::Typed(_) => size(cells),
+            Form::Typed(_) => bytes_of(cells),
             Form::Stored(_) => 0,
         },
-        Node::Take { from, .. } => from.as_slice().len() as u64,
+        Node::Take { from, .. } => bytes_at(from.as_slice().len()),
         Node::Reorder { .. } => 0,
         Node::Widen { .. } => 0,
         Node::Fold { .. } => 0,
-        Node::Concat { inputs, .. } => inputs.as_slice().len() as u64,
+        Node::Concat { inputs, .. } => bytes_at(inputs.as_slice().len()),
         Node::Unary { .. } => 0,
         Node::Binary { .. } => 0,
         Node::Choose { .. } => 0,
@@ -67,22 +85,22 @@ fn copied_cells(node: &Node) -> u64 {
     }
 }
 
-// Cells for which it pays to go over so many nodes.
-fn cells_for(nodes: usize) -> u64 {
-    CELLS_A_NODE.saturating_mul(nodes as u64)
+// Bytes for which it pays to go over so many nodes.
+fn bytes_for(nodes: usize) -> u64 {
+    BYTES_A_NODE.saturating_mul(nodes as u64)
 }
 
 /// What a plan has gained since it was last looked through.
 #[derive(Clone, Copy)]
 pub struct Gains {
     seen: usize,
-    cells: u64,
+    bytes: u64,
 }
 
 impl Gains {
     /// Those of an empty plan.
     pub fn new() -> Gains {
-        Gains { seen: 0, cells: 0 }
+        Gains { seen: 0, bytes: 0 }
     }
 
     /// Counts the nodes that came since the last call, and says whether the plan has gained so many cells that it is time to
@@ -90,28 +108,28 @@ impl Gains {
     pub fn is_time(&mut self, plan: &Plan) -> bool {
         let nodes = plan.nodes();
         for at in self.seen..nodes.len() {
-            self.cells = self.cells.saturating_add(held_cells(&nodes[at]));
+            self.bytes = self.bytes.saturating_add(held_bytes(&nodes[at]));
         }
         self.seen = nodes.len();
-        if self.cells < cells_for(nodes.len()) {
+        if self.bytes < bytes_for(nodes.len()) {
             return false;
         }
-        self.cells = 0;
+        self.bytes = 0;
         true
     }
 }
 
-// Whether the sources that aren't live have more cells than a new plan copies, and so many that it pays to make it.
+// Whether the cells of sources that aren't live take more than a new plan copies, and so much that it pays to make it.
 fn pays(nodes: &[Node], live: &[bool]) -> bool
     requires { length live.now ≡ length nodes.now }
 {
     let mut idle = 0u64;
-    let mut copied = cells_for(nodes.len());
+    let mut copied = bytes_for(nodes.len());
     for at in 0..nodes.len() {
         if live[at] {
-            copied = copied.saturating_add(copied_cells(&nodes[at]));
+            copied = copied.saturating_add(copied_bytes(&nodes[at]));
         } else {
-            idle = idle.saturating_add(held_cells(&nodes[at]));
+            idle = idle.saturating_add(held_bytes(&nodes[at]));
         }
     }
     copied <= idle
