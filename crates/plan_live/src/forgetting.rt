@@ -111,7 +111,7 @@ impl Gains {
             self.bytes = self.bytes.saturating_add(held_bytes(&nodes[at]));
         }
         self.seen = nodes.len();
-        if self.bytes < bytes_for(nodes.len()) {
+        if self.bytes <= bytes_for(nodes.len()) {
             return false;
         }
         self.bytes = 0;
