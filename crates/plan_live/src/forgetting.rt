@@ -17,6 +17,10 @@ const BYTES_A_NODE: u64 = 2_048;
 // Bytes of a position, and of a node's number, where a node has lists of them.
 const BYTES_A_POSITION: u64 = 8;
 
+// What a variable of a file is reckoned at, however small it is: as long as it stands, so do the bytes of the whole file, of
+// which it doesn't know how many there are.
+const LEAST_OF_A_FILE: u64 = 32_768;
+
 // Bytes of a cell.
 fn width(kind: DType) -> u64 {
     match kind {
@@ -53,10 +57,18 @@ fn source(node: &Node) -> Option<&ArrayValue> {
     }
 }
 
-// The bytes of the cells that stand in a node.
+// The bytes that a source holds: those of its cells, or roughly those of its file.
+fn source_bytes(cells: &ArrayValue) -> u64 {
+    match cells.form() {
+        Form::Typed(_) => bytes_of(cells),
+        Form::Stored(_) => bytes_of(cells).max(LEAST_OF_A_FILE),
+    }
+}
+
+// The bytes that a node holds.
 fn held_bytes(node: &Node) -> u64 {
     match source(node) {
-        Some(cells) => bytes_of(cells),
+        Some(cells) => source_bytes(cells),
         None => 0,
     }
 }
