@@ -559,6 +559,18 @@ def each_kind_of_call_of_a_large_write_fails_in_turn(room):
 
 
 @test("trace")
+def want_of_memory_is_told_before_a_write_and_a_fault_of_the_storage_in_it(room):
+    os.symlink("b.nc", room.path("l.nc"))
+    fault = (STORAGE, b"", b"xrs: storage fault\n")
+    for kind, wanted in ((("readlink", "l.nc"), (4, b"", b"xrs: out of memory\n")), (("write", ".xrs"), fault), (("rename", ".xrs"), fault)):
+        room.put("b.nc")
+        at_call, seen = at_one(kind, 0, lambda: errno.ENOMEM)
+        end = calls_of(room, 'open_dataset("a.nc").to_netcdf("l.nc")', "l.nc", at_call)
+        assert seen and end[:3] == wanted, (kind, end[:3])
+        assert room.read("b.nc") == OLD and not room.beside(), kind
+
+
+@test("trace")
 def a_new_file_that_cant_be_removed_is_left_and_the_old_one_stays(room):
     room.put("b.nc")
     end = calls_of(room, 'open_dataset("a.nc").to_netcdf("b.nc")', "b.nc", lambda call: errno.EIO if call.name in ("fsync", "unlink") else None)
@@ -593,6 +605,41 @@ def each_call_of_a_read_fails_in_turn(room):
                 assert end[:3] == sound[:3], (kind, which, end[:3])
             else:
                 failed(Ran(*end[:3]))
+
+
+def moves_bytes(call):
+    return call.name in ("read", "write", "pread")
+
+
+@test("trace")
+def devices_that_move_one_byte_a_call_change_no_answer(room):
+    text = 'a = open_dataset("a.nc")\nprint(a)\na.to_netcdf("b.nc")\nprint(a["v"].sum())\nprint(no)'
+    sound = room.run(text)
+    assert sound.status == 1 and sound.out.endswith(b"6\n") and sound.err == b"xrs: statement 5: F1 unknown name no\n", sound
+    os.remove(room.path("b.nc"))
+    end = calls_of(room, text, "s.xrs", lambda call: tracing.ONE_BYTE if moves_bytes(call) else None)
+    assert Ran(*end[:3]) == sound and room.read("b.nc") == room.new and not room.beside()
+    written = sum(call.name == "write" for call in end.calls)
+    assert written == len(sound.out) + len(sound.err) + len(room.new), written
+
+
+@test("trace")
+def calls_that_a_signal_interrupts_are_made_again(room):
+    text = 'a = open_dataset("a.nc")\nprint(a)\na.to_netcdf("b.nc")\nprint(no)'
+    sound = room.run(text)
+    assert sound.status == 1 and sound.out and sound.err == b"xrs: statement 4: F1 unknown name no\n", sound
+    os.remove(room.path("b.nc"))
+    again = set()
+
+    def interrupted(call):
+        # (each call fails once, and is then made)
+        if not moves_bytes(call) or kind_of(call) in again:
+            again.discard(kind_of(call))
+            return None
+        again.add(kind_of(call))
+        return errno.EINTR
+    end = calls_of(room, text, "s.xrs", interrupted)
+    assert Ran(*end[:3]) == sound and room.read("b.nc") == room.new and not room.beside()
 
 
 # ---- files that change meanwhile
@@ -675,6 +722,100 @@ def what_is_no_file_to_read(room):
         failed(room.run(f'print(open_dataset("{name}"))'))
     ran = subprocess.run([room.program, "no.xrs"], cwd=room.folder, capture_output=True, timeout=SECONDS)
     assert ran.returncode == 2, ran
+
+
+def little_memory(size):
+    return lambda: resource.setrlimit(resource.RLIMIT_AS, (size, size))
+
+
+@test("memory")
+def vast_files_are_too_large_and_are_not_read(room):
+    # (no bytes of it are on the disk)
+    with open(room.path("vast.nc"), "wb") as vast:
+        vast.truncate(1 << 42)
+    ran = room.run('print(open_dataset("vast.nc"))', preexec_fn=little_memory(64 << 20))
+    assert ran == Ran(1, b"", b"xrs: statement 1: F24 bad file: TooLarge at 0\n"), ran
+    ran = subprocess.run([room.program, "vast.nc"], cwd=room.folder, capture_output=True, timeout=SECONDS, preexec_fn=little_memory(64 << 20))
+    assert (ran.returncode, ran.stdout, ran.stderr) == (2, b"", b"xrs: line 0: too many\n"), ran
+
+
+@test()
+def files_and_scripts_of_the_greatest_size_are_taken(room):
+    text = 'print(open_dataset("a.nc")["v"].sum())\n#'
+    for more in (0, 1):
+        with open(room.path("a.nc"), "r+b") as file:
+            file.truncate((1 << 28) + more)
+        room.put("s.xrs", (text + "." * ((1 << 20) - len(text))).encode())
+        ran = subprocess.run([room.program, "s.xrs"], cwd=room.folder, capture_output=True, timeout=SECONDS)
+        wanted = (1, b"", b"xrs: statement 1: F24 bad file: TooLarge at 0\n") if more else (0, b"DataArray v () int64\n6\n", b"")
+        assert (ran.returncode, ran.stdout, ran.stderr) == wanted, ran
+    room.put("s.xrs", room.read("s.xrs") + b".")
+    ran = subprocess.run([room.program, "s.xrs"], cwd=room.folder, capture_output=True, timeout=SECONDS)
+    assert (ran.returncode, ran.stdout, ran.stderr) == (2, b"", b"xrs: line 0: too many\n"), ran
+
+
+@test()
+def endless_files_are_too_large(room):
+    assert room.run('print(open_dataset("/dev/zero"))') == Ran(1, b"", b"xrs: statement 1: F24 bad file: TooLarge at 0\n")
+    ran = subprocess.run([room.program, "/dev/zero"], cwd=room.folder, capture_output=True, timeout=SECONDS)
+    assert (ran.returncode, ran.stdout, ran.stderr) == (2, b"", b"xrs: line 0: too many\n"), ran
+
+
+def one_variable(name, dim, size):
+    """A classic file of one variable of type int over one dimension, all of whose cells are 0."""
+    header = b"CDF\x01" + struct.pack(">4i", 0, 10, 1, 1) + dim + bytes(3) + struct.pack(">i", size)
+    header += struct.pack(">5i", 0, 0, 11, 1, 1) + name + bytes(3) + struct.pack(">6i", 1, 0, 0, 0, 4, 4 * size)
+    return header + struct.pack(">i", len(header) + 4) + bytes(4 * size)
+
+
+@test("memory")
+def nothing_is_computed_of_a_value_that_is_too_large(room):
+    # (its cells would take 256 MiB)
+    room.put("p.nc", one_variable(b"p", b"i", 8192))
+    room.put("q.nc", one_variable(b"q", b"j", 8192))
+    text = 'p = open_dataset("p.nc")["p"]\nq = open_dataset("q.nc")["q"]\nprint((p.isel(i=slice(2)) + q.isel(j=slice(2))).sum())\nr = p + q'
+    ran = room.run(text, preexec_fn=little_memory(64 << 20))
+    assert ran == Ran(1, b"DataArray - () int64\n0\n", b"xrs: statement 4: F22 too large\n"), ran
+
+
+def with_shared_labels(count, size):
+    """A classic file of so many indexes of bytes, whose values are the same bytes of the file."""
+    names = [b"d%03d" % i for i in range(count)]
+    dims = b"".join(struct.pack(">i4si", 4, name, size) for name in names)
+    front = b"CDF\x01" + struct.pack(">3i", 0, 10, count) + dims + struct.pack(">4i", 0, 0, 11, count)
+    begin = len(front) + 36 * count
+    vars_ = b"".join(struct.pack(">i4s7i", 4, name, 1, i, 0, 0, 1, size, begin) for i, name in enumerate(names))
+    return front + vars_ + (bytes(range(251)) * (size // 251 + 1))[:size]
+
+
+@test()
+def labels_that_share_their_bytes(room):
+    room.put("b.nc", with_shared_labels(40, 300))
+    ran = room.run('print(open_dataset("b.nc").isel(d000=[299], d039=[0]))')
+    labels = " ".join(str(i % 251 - 256 * (i % 251 > 127)) for i in range(300))
+    wanted = [f"dim d{i:03}: {1 if i in (0, 39) else 300}\n" for i in range(40)]
+    wanted += [f"coord d{i:03} int8 (d{i:03}): {'48' if i == 0 else '0' if i == 39 else labels}\n" for i in range(40)]
+    assert ran == Ran(0, "".join(["Dataset\n", *wanted]).encode(), b""), ran
+
+
+@test("memory")
+def labels_that_want_more_memory_than_there_is(room):
+    # (a list of these labels takes 256 MiB, and each index has one of its own)
+    room.put("big.nc", with_shared_labels(12, 1 << 25))
+    ran = room.run('open_dataset("a.nc").to_netcdf("b.nc")\nprint(open_dataset("big.nc"))', preexec_fn=little_memory(1 << 30))
+    assert ran == Ran(4, b"", b"xrs: out of memory\n"), ran
+    assert room.read("b.nc") == room.new and not room.beside()
+
+
+@test()
+def a_file_that_would_be_too_large_is_not_written(room):
+    # (its values alone take 256 MiB)
+    room.put("b.nc")
+    room.put("p.nc", one_variable(b"p", b"i", 8192))
+    room.put("q.nc", one_variable(b"q", b"j", 4096))
+    ran = room.run('p = open_dataset("p.nc")["p"].astype("int64")\nr = (p + open_dataset("q.nc")["q"]).rename("r")\nr.to_netcdf("b.nc")')
+    assert ran == Ran(1, b"", b"xrs: statement 3: F22 too large\n"), ran
+    assert room.read("b.nc") == OLD and not room.beside()
 
 
 @test("user")
@@ -794,6 +935,12 @@ def can_mount():
         return False
 
 
+def can_limit_memory(program):
+    """Whether a program may run in little memory; one that is built with checks takes far more addresses than it uses."""
+    ran = subprocess.run([program], capture_output=True, preexec_fn=little_memory(64 << 20))
+    return ran.returncode == 2
+
+
 def main():
     top = tempfile.mkdtemp()
     os.chmod(top, 0o755)
@@ -801,7 +948,7 @@ def main():
         # (the ordinary user need not be able to read where the program lies)
         program = shutil.copy(sys.argv[1], os.path.join(top, "xrs"))
         os.chmod(program, 0o755)
-        can = {"root": os.geteuid() == 0, "user": True, "trace": tracing.works(), "mount": can_mount()}
+        can = {"root": os.geteuid() == 0, "user": True, "trace": tracing.works(), "mount": can_mount(), "memory": can_limit_memory(program)}
         only, passed, wrong, skipped = sys.argv[2:], 0, 0, []
         for number, (name, needs, function) in enumerate(TESTS):
             if only and not any(word in name for word in only):

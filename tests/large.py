@@ -64,6 +64,14 @@ def jobs():
     yield "a variable over very many dimensions isn't loaded", 'print(open_dataset("many.nc"))', 0, "Dataset\nskipped v\n", ""
     names, _ = as_many(lambda i: f'"k{i}"')
     yield "the first of many names isn't there", f"{BARE}b = a.drop_vars([{names}])", 1, "", "xrs: statement 2: F2 no variable k0\n"
+    labels, count = as_many(str)
+    labelled = 'a = DataArray([1, 2], dims=["x"], coords={"x": [1, 2]})\n'
+    yield "many new labels are filled", f"{labelled}print(a.reindex(x=[{labels}], fill_value=3).sum())", 0, f"DataArray - () int64\n{3 * count - 3}\n", ""
+    places, count = as_many(lambda i: "1")
+    yield "one label is selected many times", f"{labelled}print(a.sel(x=[{places}]).sum())", 0, f"DataArray - () int64\n{count}\n", ""
+    yield "one position is selected many times", f"{labelled}print(a.isel(x=[{places}]).sum())", 0, f"DataArray - () int64\n{2 * count}\n", ""
+    parts, count = as_many(lambda i: "a", 2_000)
+    yield "many arrays are put end to end", f'{labelled}print(concat([{parts}], "x").sum())', 0, f"DataArray - () int64\n{3 * count}\n", ""
     entries, count = as_many(lambda i: f'"k{i:06}": 1', KEYWORDS)
     lines = "".join(f"coord k{i:06} int64 (): 1\n" for i in range(count))
     yield "an array is written out with many coordinates", f'print(DataArray([1], dims=["x"], coords={{{entries}}}))', 0, f"DataArray - (x: 1) int64\n1\n{lines}", ""

@@ -1,5 +1,5 @@
 """Small files of few names, made at random so that rules meet: labels, coordinates, texts, truth values, times, fill numbers of several
-types, records or none, and widths at which writing is refused.
+types, records or none, and widths at which writing is refused; and files whose variables share their bytes.
 """
 import classic
 import writing
@@ -87,3 +87,20 @@ def made(random_):
             vars_.append(writing.Var(name, dims, type_, cells_for(random_, type_, count), attrs_for(random_, type_, types)))
     attrs = random_.choice([[], [], [coordinates(random_)], [writing.text_attr("title", b"made")], [numbers_attr(random_, "n", random_.choice(types), 2)]])
     return writing.spelled(version, sizes, records, attrs, vars_, most=1 << 62)
+
+
+def overlapping(random_):
+    """The bytes of a file whose indexes and other variables begin at the same byte, or a few bytes from it."""
+    version = random_.choice([1, 2, 5])
+    types = [it for it in (NEW if version == 5 else OLD) if it not in (FLOAT, DOUBLE)]
+    sizes = {d: random_.choice([2, 2, 2, 3, 4]) for d in DIMS[:random_.randrange(2, 6)]}
+    records = random_.choice([None, None, list(sizes)[0]])
+    dims = [[name] for name in sizes] + [dims_for(random_, "", sizes, records) for _ in range(random_.randrange(3))]
+    alike = random_.choice([None, None, random_.choice(types)])
+    vars_ = []
+    for name, over in zip([*sizes, *NAMES], dims):
+        type_ = alike or random_.choice(types)
+        cells = cells_for(random_, type_, writing.product(sizes[d] for d in over))
+        vars_.append(writing.Var(name, over, type_, cells, attrs_for(random_, type_, types) if random_.random() < 0.3 else []))
+    steps = random_.choice([[0], [0, 0, 1], [0, 1, 2, 4, 8]])
+    return writing.spelled(version, sizes, records, [], vars_, begins=lambda places: [min(places) + random_.choice(steps) for _ in places])

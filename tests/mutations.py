@@ -1,5 +1,6 @@
 #!/usr/bin/env python3
-"""Changes the files of the corpus at random, and others that it makes, and opens them with the program.
+"""Changes the files of the corpus at random, and others that it makes, some of them with variables and labels that share their bytes, and
+opens them with the program.
 
     mutations.py PROGRAM [--count N] [--seed S] [--keep FOLDER]
 
@@ -108,9 +109,11 @@ CHANGES = [with_a_byte, with_a_bit, with_a_number, with_a_number, with_a_step, w
 
 
 def mutation(random_, files):
-    part, others = random_.choice(["whole", "whole", "edited", "made"]), list(files.values())
+    part, others = random_.choice(["whole", "whole", "edited", "made", "overlapping"]), list(files.values())
     if part == "made":
         name, data, changes = "one that was made", made_files.made(random_), random_.choice([0, 0, 0, 1])
+    elif part == "overlapping":
+        name, data, changes = "one whose values overlap", made_files.overlapping(random_), random_.choice([0, 0, 0, 1])
     else:
         name = random_.choice([name for name in sorted(files) if name.startswith(part)])
         data, changes = files[name], random_.choice([1, 1, 1, 1, 2, 3, 5])

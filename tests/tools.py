@@ -29,6 +29,16 @@ r.to_netcdf("records.nc", format="NETCDF3_CLASSIC", unlimited_dims="t")
 DataArray([True, False], dims=["x"], name="b").to_netcdf("truths.nc", format="NETCDF3_CLASSIC")
 DataArray([4000000000, -1], dims=["x"], name="v").to_netcdf("wide.nc")
 DataArray([65534, 0], dims=["x"], name="v", dtype="uint16").to_netcdf("unsigned.nc")
+k = DataArray([True, False], dims=["x"], name="b").to_dataset()
+k["i1"] = DataArray([-128, 127], dims=["x"], dtype="int8")
+k["i2"] = DataArray([-32768, 32767], dims=["x"], dtype="int16")
+k["i4"] = DataArray([-2147483648, 2147483647], dims=["x"], dtype="int32")
+k["i8"] = DataArray([-9000000000000000001, 9223372036854775807], dims=["x"], dtype="int64")
+k["u1"] = DataArray([128, 254], dims=["x"], dtype="uint8")
+k["u2"] = DataArray([32768, 65534], dims=["x"], dtype="uint16")
+k["u4"] = DataArray([2147483648, 4294967294], dims=["x"], dtype="uint32")
+k["u8"] = DataArray([9223372036854775808, 18000000000000000001], dims=["x"], dtype="uint64")
+k.to_netcdf("kinds.nc")
 """
 
 # The numbers of each variable of each file.
@@ -45,10 +55,19 @@ WRITTEN = {
 WRITTEN_IN_5 = {
     "wide.nc": {"v": [4000000000, -1]},
     "unsigned.nc": {"v": [65534, 0]},
+    # (no number is one that stands for a missing cell by itself, nor is the same as one of those in a float, in which `ncmpidump` compares them)
+    "kinds.nc": {
+        "b": [1, 0], "i1": [-128, 127], "i2": [-32768, 32767], "i4": [-2147483648, 2147483647], "i8": [-9000000000000000001, 9223372036854775807],
+        "u1": [128, 254], "u2": [32768, 65534], "u4": [2147483648, 4294967294], "u8": [9223372036854775808, 18000000000000000001],
+    },
 }
 READ_5 = {"ncdump", "ncvalidator", "ncmpidump", "netCDF4"}
 # The types that dumps have to name.
-TYPES_IN_5 = {"wide.nc": "int64 v(", "unsigned.nc": "ushort v("}
+TYPES_IN_5 = {
+    "wide.nc": ["int64 v("],
+    "unsigned.nc": ["ushort v("],
+    "kinds.nc": ["byte b(", "byte i1(", "short i2(", "int i4(", "int64 i8(", "ubyte u1(", "ushort u2(", "uint u4(", "uint64 u8("],
+}
 
 # How a library of Python gives a variable's numbers.
 LIBRARIES = {
@@ -60,7 +79,7 @@ LIBRARIES = {
 
 def by_dump(tool, path, names):
     ran = subprocess.run([tool, path], capture_output=True, text=True)
-    if ran.returncode != 0 or TYPES_IN_5.get(os.path.basename(path), "") not in ran.stdout:
+    if ran.returncode != 0 or not all(f"\t{it}" in ran.stdout for it in TYPES_IN_5.get(os.path.basename(path), [])):
         return None
     values = ran.stdout[ran.stdout.index("data:"):]
     found = {name: re.search(rf"\b{name} =\s*([^;]*);", values) for name in names}

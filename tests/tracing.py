@@ -24,8 +24,8 @@ Call = collections.namedtuple("Call", "name path thread")
 End = collections.namedtuple("End", "status out err calls")
 
 # What a call may be answered with in place of a number of an error: the end of the program, or that it waits until another
-# thread makes a call that is told, or ends. (A thread that is alone doesn't wait.)
-END_ALL, WAIT = "end all", "wait"
+# thread makes a call that is told, or ends (a thread that is alone doesn't wait), or that a read or a write moves one byte at most.
+END_ALL, WAIT, ONE_BYTE = "end all", "wait", "one byte"
 
 _c = ctypes.CDLL(None, use_errno=True)
 _c.ptrace.restype = ctypes.c_long
@@ -117,6 +117,10 @@ def _follow(child, at_call):
                         waiting.append(thread)
                         continue
                     answer = None
+                if answer == ONE_BYTE:
+                    registers.rdx = min(registers.rdx, 1)
+                    _ptrace(SET_REGISTERS, thread, ctypes.addressof(registers))
+                    answer = None
                 if answer is not None:
                     # (no call has this number, so nothing is done)
                     registers.orig_rax = (1 << 64) - 1
@@ -136,7 +140,7 @@ def _follow(child, at_call):
 
 def run(words, folder, at_call, prepare=lambda: None):
     """Runs the words in the folder. At each call of CALLS `at_call` is asked with it, and answers None, or the number of the
-    error with which the call fails, undone, or END_ALL, or WAIT. `prepare` is done in the child before."""
+    error with which the call fails, undone, or END_ALL, WAIT or ONE_BYTE. `prepare` is done in the child before."""
     out, err = os.memfd_create("out"), os.memfd_create("err")
     child = os.fork()
     if child == 0:

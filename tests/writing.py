@@ -197,9 +197,9 @@ def places_of(vars_, rooms, in_records, at, record_at):
     return places
 
 
-def spelled(version, sizes, records, attrs, vars_, most=classic.MOST_BYTES):
+def spelled(version, sizes, records, attrs, vars_, most=classic.MOST_BYTES, begins=lambda places: places):
     """The bytes of dimensions, one of them maybe the record dimension, attributes and variables. Refused where they, or those from one
-    record to the next, are more than `most`."""
+    record to the next, are more than `most`. The header has for each variable the place that `begins` makes of where its values are."""
     count = sizes.get(records, 0)
     in_records = [var for var in vars_ if records in var.dims[:1]]
     slabs = [classic.WIDTHS[var.type] * product(sizes[d] for d in var.dims if d != records) for var in vars_]
@@ -219,7 +219,7 @@ def spelled(version, sizes, records, attrs, vars_, most=classic.MOST_BYTES):
     unless(record_at + count * distance <= most, TOO_LARGE)
     raws = [value_bytes(var.type, [var.fills[0] if n is None else n for n in var.cells]) for var in vars_]
     parts = [(var, raw, slab, room) for var, raw, slab, room in zip(vars_, raws, slabs, rooms)]
-    data = header(places_of(vars_, rooms, in_records, at, record_at))
+    data = header(begins(places_of(vars_, rooms, in_records, at, record_at)))
     data += b"".join(filled_up(var, raw, room) for var, raw, _, room in parts if var not in in_records)
     for r in range(count):
         data += b"".join(filled_up(var, raw[r * slab:(r + 1) * slab], room) for var, raw, slab, room in parts if var in in_records)

@@ -38,6 +38,21 @@ high_bound UInt64 = omega (arith, ints)
 
 pub ruleset kind_bounds = (low_bound, high_bound)
 
+-- a kind with negative numbers has none above those of the widest one with a sign
+pub signed_high : (t : DType) → low t <ℤ pos 0 → high t ≤ℤ pos 9223372036854775807
+signed_high Bool less = absurd (omega (arith, ints))
+signed_high Char less = absurd (omega (arith, ints))
+signed_high Int8 less = omega (arith, ints)
+signed_high Int16 less = omega (arith, ints)
+signed_high Int32 less = omega (arith, ints)
+signed_high Int64 less = omega (arith, ints)
+signed_high UInt8 less = absurd (omega (arith, ints))
+signed_high UInt16 less = absurd (omega (arith, ints))
+signed_high UInt32 less = absurd (omega (arith, ints))
+signed_high UInt64 less = absurd (omega (arith, ints))
+
+pub ruleset kind_signs = (low_bound, high_bound, signed_high)
+
 -- what a kind leaves of a result that the code computed in 128 bits
 pub wrapped : {X : Type 0} (of : ℤ → X) (number : X → ℤ) (wraps : ℤ → ℤ) (law : (n : ℤ) → number (of n) ≡ wraps n) (f : ℤ → ℤ → ℤ) (x y a b : ℤ) (r : X) → x ≡ a → y ≡ b → SFits w128 x → SFits w128 y → SFits w128 (f x y)
     → r ≡ of (to_z w128 (of_z w128 (f (to_z w128 (of_z w128 x)) (to_z w128 (of_z w128 y))))) → number r ≡ wraps (f a b)

@@ -1,3 +1,4 @@
 pub mod Bounds
 pub mod Made
 mod Products
+pub mod Rounding

@@ -1,11 +1,12 @@
 //! The operations on the numbers of cells.
-ghost use Rattle.std.specs.Prelude.{◌≡◌, ◌<◌, ◌*ℤ◌, Some, None};
+ghost use Rattle.std.specs.Prelude.{◌≡◌, ◌<◌, ◌*ℤ◌, ◌≤ℤ◌, Some, None, pos, negsuc, true, false};
 ghost use Rattle.std.specs.Int.{int_wrap, w128};
+ghost use Rattle.xr_types.specs.Kinds.{low, high};
 ghost use Rattle.xr_arrays.specs.Elements.{elem};
 ghost use Rattle.xr_types.specs.declared.operation.OpKind.TheVariants.{Add, Subtract, Multiply, FloorDivide, Remainder, Negate, Invert, Equal, NotEqual, Less, LessEqual};
 ghost use Rattle.strided_block.specs.Typed.{truth};
 
-use crate::division::{floor_or_zero, opposite, rest_or_zero, turned};
+use crate::division::{floor_signed, floor_unsigned, opposite, rest_signed, rest_unsigned, turned};
 use xr_types::Elem;
 
 /// The sum, as the kind leaves it.
@@ -39,12 +40,27 @@ pub fn product<T: Elem>(x: T, y: T) -> T
     T::wrap_from(wrapped_product(x.widen(), y.widen()))
 }
 
+// Whether a type's kind has negative numbers. The compiler knows it of each type, so that no test is left in a loop.
+#[tactic(auto, using(crate::proofs::Bounds::kind_signs))]
+fn is_signed<T: Elem>() -> bool
+    ensures signed { result ≡ true → (negsuc 9223372036854775807 ≤ℤ low T.kind) × (high T.kind ≤ℤ pos 9223372036854775807) }
+    ensures unsigned { result ≡ false → (pos 0 ≤ℤ low T.kind) × (high T.kind ≤ℤ pos 18446744073709551615) }
+{
+    T::least().widen() < 0
+}
+
 /// The quotient rounded down, as the kind leaves it, and 0 for a divisor of 0.
 #[tactic(auto, using(crate::proofs::Bounds::kind_bounds))]
 pub fn quotient<T: Elem>(x: T, y: T) -> T
     ensures { Some (T.number result) ≡ elem FloorDivide T.kind (Some (T.number x)) (Some (T.number y)) }
 {
-    T::wrap_from(floor_or_zero(x.widen(), y.widen()))
+    let dividend = x.widen();
+    let divisor = y.widen();
+    if is_signed::<T>() {
+        T::wrap_from(floor_signed(dividend, divisor))
+    } else {
+        T::wrap_from(floor_unsigned(dividend, divisor))
+    }
 }
 
 /// What is left by whole multiples of the divisor, and 0 for a divisor of 0.
@@ -52,7 +68,13 @@ pub fn quotient<T: Elem>(x: T, y: T) -> T
 pub fn remainder<T: Elem>(x: T, y: T) -> T
     ensures { Some (T.number result) ≡ elem Remainder T.kind (Some (T.number x)) (Some (T.number y)) }
 {
-    T::wrap_from(rest_or_zero(x.widen(), y.widen()))
+    let dividend = x.widen();
+    let divisor = y.widen();
+    if is_signed::<T>() {
+        T::wrap_from(rest_signed(dividend, divisor))
+    } else {
+        T::wrap_from(rest_unsigned(dividend, divisor))
+    }
 }
 
 /// The negated number, as the kind leaves it.

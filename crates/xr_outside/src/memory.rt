@@ -1,5 +1,5 @@
 //! A store and a sink in memory, for tests.
-ghost use Rattle.std.specs.Prelude.{◌≡◌, ◌≢◌, ◌+◌, ◌^◌, ◌<◌, ◌≤◌, [], true, false, length, option_map, Ok, Err, IsOk, IfOk, OnOk};
+ghost use Rattle.std.specs.Prelude.{◌≡◌, ◌≢◌, ◌+◌, ◌^◌, ◌<◌, ◌≤◌, [], true, false, length, option_map, Ok, Err, IsOk, IfOk, OnOk, OnErr};
 ghost use Rattle.xr_types.specs.Names.{are_distinct};
 ghost use Rattle.xr_outside.specs.Outside.{PutIs, OthersSame, Counted, GetCounted, GotIs, IsWithin, Takes, IsCount};
 ghost use Rattle.xr_outside.specs.PutLog.{found_in};
@@ -126,7 +126,7 @@ impl Store for MemStore {
     }
 
     // Beside the clauses of the trait: a call that isn't listed as failing succeeds where there is room enough, and a listed
-    // one fails.
+    // one fails. One that fails takes none of the room.
     fn put(&mut self, name: &TextBytes, bytes: &[u8]) -> Result<(), StoreFailed>
         ensures here { PutIs bytes.now (files_of self.old name.now) (files_of self.new name.now) result }
         ensures others { OthersSame name.now (files_of self.old) (files_of self.new) }
@@ -135,6 +135,7 @@ impl Store for MemStore {
         ensures succeeds { is_listed self.old.failing.items (next_call self.old.calls) ≡ false → length name.now + length bytes.now ≤ self.old.kept.room → IsOk result }
         ensures listed { is_listed self.old.failing.items (next_call self.old.calls) ≡ true → Fails self.old.faults self.new.faults result }
         ensures room { OnOk result (self.new.kept.room + (length name.now + length bytes.now) ≡ self.old.kept.room) }
+        ensures spared { OnErr result (self.new.kept.room ≡ self.old.kept.room) }
         ensures failing { self.new.failing.items ≡ self.old.failing.items }
         ensures calls { self.new.calls ≡ next_call self.old.calls }
     {
@@ -197,7 +198,7 @@ impl Sink for MemSink {
     ghost faults = { λ s. s.faults };
 
     // Beside the clauses of the trait: a call that isn't listed as failing takes the whole piece where there is room for it,
-    // and a listed one fails.
+    // and a listed one fails. One that fails takes none of the room.
     fn put(&mut self, bytes: &[u8]) -> Result<usize, SinkFailed>
         ensures takes { Takes bytes.now (bytes_of self.old) (bytes_of self.new) result }
         ensures count { IsCount bytes.now result }
@@ -206,6 +207,7 @@ impl Sink for MemSink {
         ensures succeeds { is_listed self.old.failing.items (next_call self.old.calls) ≡ false → length bytes.now ≤ self.old.kept.room → result ≡ Ok (length bytes.now) }
         ensures listed { is_listed self.old.failing.items (next_call self.old.calls) ≡ true → Fails self.old.faults self.new.faults result }
         ensures room { IfOk result (λ n. self.new.kept.room + n ≡ self.old.kept.room) }
+        ensures spared { OnErr result (self.new.kept.room ≡ self.old.kept.room) }
         ensures failing { self.new.failing.items ≡ self.old.failing.items }
         ensures calls { self.new.calls ≡ next_call self.old.calls }
     {

@@ -169,30 +169,69 @@ fn write_whole<R: Disk + Threads, B: Buf + Drop>(
     write_beside(rt, names, place, old, bytes)
 }
 
-// Writes a file where the name leads. A link that isn't to a name, as those of open files are, leads to no place where a
-// new file could stand.
+// Where the bytes of a name go.
+#[derive(Drop)]
+enum Goal {
+    // Into what stands there, which is a device or a pipe.
+    Through,
+    // In the place of the file of this name, or of none.
+    Here(Option<Metadata>),
+    // In the place of the file at the path to which the name leads, or of none.
+    There(String, Option<Metadata>),
+}
+
+// Where the bytes of a name go. A link that isn't to a name, as those of open files are, leads to no place where a new file
+// could stand.
+fn goal_of<R: Files>(rt: &R, alloc: Global, name: &str) -> io::Result<Goal> {
+    let stands = match fs::metadata(rt, name) {
+        Ok(known) if !known.is_file() => return Ok(Goal::Through),
+        Ok(_) => true,
+        Err(e) if e.kind() == ErrorKind::NotFound && !name.is_empty() => false,
+        Err(e) => return Err(e),
+    };
+    match led_to(rt, alloc, name)? {
+        None => Ok(Goal::Here(old_at(rt, name)?)),
+        Some(place) => {
+            let old = old_at(rt, place.as_str())?;
+            if stands && old.is_none() {
+                return Err(Error::from(ErrorKind::NotFound));
+            }
+            Ok(Goal::There(place, old))
+        }
+    }
+}
+
+// Writes the bytes where they go. It takes no memory.
+fn write_to<R: Disk + Threads, B: Buf + Drop>(
+    rt: &R,
+    names: &mut NewNames,
+    name: &str,
+    goal: Goal,
+    bytes: B,
+) -> io::Result<()> {
+    match goal {
+        Goal::Through => write_through(rt, name, bytes),
+        Goal::Here(old) => write_whole(rt, names, name, old, bytes),
+        Goal::There(place, old) => write_whole(rt, names, place.as_str(), old, bytes),
+    }
+}
+
+// Writes a file where the name leads. Memory is wanted only before anything is written.
 fn write_file<R: Disk + Threads, B: Buf + Drop>(
     rt: &R,
     alloc: Global,
     names: &mut NewNames,
     name: &str,
     bytes: B,
-) -> io::Result<()> {
-    let stands = match fs::metadata(rt, name) {
-        Ok(known) if !known.is_file() => return write_through(rt, name, bytes),
-        Ok(_) => true,
-        Err(e) if e.kind() == ErrorKind::NotFound && !name.is_empty() => false,
-        Err(e) => return Err(e),
+) -> Result<(), StoreFault> {
+    let goal = match goal_of(rt, alloc, name) {
+        Ok(goal) => goal,
+        Err(e) if e.kind() == ErrorKind::OutOfMemory => return Err(StoreFault::NoMemory),
+        Err(_) => return Err(StoreFault::Failed),
     };
-    match led_to(rt, alloc, name)? {
-        None => write_whole(rt, names, name, old_at(rt, name)?, bytes),
-        Some(place) => {
-            let old = old_at(rt, place.as_str())?;
-            if stands && old.is_none() {
-                return Err(Error::from(ErrorKind::NotFound));
-            }
-            write_whole(rt, names, place.as_str(), old, bytes)
-        }
+    match write_to(rt, names, name, goal, bytes) {
+        Ok(()) => Ok(()),
+        Err(_) => Err(StoreFault::Failed),
     }
 }
 
@@ -242,7 +281,8 @@ impl<'a, R: Disk + Threads> Store for FileStore<'a, R> {
         let faults = self.faults;
         match write_file(self.rt, alloc, &mut self.names, name.as_str(), pieces) {
             Ok(()) => Ok(()),
-            Err(_) => {
+            Err(StoreFault::NoMemory) => Err(StoreFault::NoMemory),
+            Err(StoreFault::Failed) => {
                 self.faults = faults.saturating_add(1);
                 Err(StoreFault::Failed)
             }

@@ -1,18 +1,26 @@
-use Rattle.std.proofs.Common.{◌≡◌, ◌-ℤ◌, ◌<ℤ◌, pos, neg_ℤ, ap, sym, ◌∙◌, arith, to_z, of_z}
-use Rattle.std.proofs.lemmas.Int.{ints, to_z-of_z}
-use lib.Signed.{lt_z}
-use Rattle.std.specs.Int.{int_rem_euclid}
+use Rattle.std.proofs.Common.{arith}
 use mir.Val.{SFits}
-use mir.Syntax.{w64}
-use Rattle.elem_kernel.proofs.Bounds.{rest_turned, negative}
+use mir.Syntax.{w64, w128}
+use Rattle.elem_kernel.proofs.Rounding.{product_in, product_is, rest_here, rest_and_divisor}
 use Rattle.elem_kernel.proofs.division.rest_long.Goals as goal
 
-pub returns-else-y-gt0 : goal.returns-else-y-gt0
-returns-else-y-gt0 c =
-    let x = c.args.x in let y = c.args.y in let r = c.rem_euclid-else-y-gt0.result in
-    let fits : SFits w64 r = record { sfits = c.rem_euclid-else-y-gt0.type_inv } in
-    let nx : to_z w64 (of_z w64 (pos 0 -ℤ to_z w64 (of_z w64 x))) ≡ neg_ℤ x = omega (arith, ints) in
-    let ny : to_z w64 (of_z w64 (pos 0 -ℤ to_z w64 (of_z w64 y))) ≡ neg_ℤ y = omega (arith, ints) in
-    let nr : to_z w64 (of_z w64 (pos 0 -ℤ to_z w64 (of_z w64 r))) ≡ neg_ℤ r = omega (arith, ints) in
-    let below : y <ℤ pos 0 = negative y (ap (lt_z (pos 0)) (sym (to_z-of_z w64 y c.ranges.y)) ∙ c.if-y-gt0.false) c.requires.some in
-    nr ∙ ap neg_ℤ (c.rem_euclid-else-y-gt0.ensures.value ∙ (λ i. int_rem_euclid (nx i) (ny i))) ∙ rest_turned x y below
+pub overflow_mul-left : goal.overflow_mul-left
+overflow_mul-left c =
+    let x = c.args.x in let y = c.args.y in let l = c.from-left.result in let d = c.from-divisor.result in
+    let fx : SFits w64 x = c.ranges.x in let fy : SFits w64 y = c.ranges.y in
+    let fl : SFits w128 l = record { sfits = c.from-left.type_inv } in let fd : SFits w128 d = record { sfits = c.from-divisor.type_inv } in
+    product_in w64 w128 x y l d fx fy c.from-left.ensures c.from-divisor.ensures fl fd (omega arith)
+
+pub returns-then-left-divisor-lt0 : goal.returns-then-left-divisor-lt0
+returns-then-left-divisor-lt0 c =
+    let x = c.args.x in let y = c.args.y in let l = c.from-left.result in let d = c.from-divisor.result in
+    let fx : SFits w64 x = c.ranges.x in let fy : SFits w64 y = c.ranges.y in
+    let fl : SFits w128 l = record { sfits = c.from-left.type_inv } in let fd : SFits w128 d = record { sfits = c.from-divisor.type_inv } in
+    rest_and_divisor w64 w128 x y l d _ fx fy c.requires.some c.from-left.ensures c.from-divisor.ensures fl fd (product_is w64 w128 x y l d fx fy c.from-left.ensures c.from-divisor.ensures fl fd (omega arith)) c.if-left-divisor-lt0.true (omega arith)
+
+pub returns-else-left-divisor-lt0 : goal.returns-else-left-divisor-lt0
+returns-else-left-divisor-lt0 c =
+    let x = c.args.x in let y = c.args.y in let l = c.from-left.result in let d = c.from-divisor.result in
+    let fx : SFits w64 x = c.ranges.x in let fy : SFits w64 y = c.ranges.y in
+    let fl : SFits w128 l = record { sfits = c.from-left.type_inv } in let fd : SFits w128 d = record { sfits = c.from-divisor.type_inv } in
+    rest_here w64 w128 x y l _ fx fy c.requires.some c.from-left.ensures fl (product_is w64 w128 x y l d fx fy c.from-left.ensures c.from-divisor.ensures fl fd (omega arith)) c.if-left-divisor-lt0.false

@@ -8,13 +8,24 @@ use Rattle.xr_arrays.specs.Elements.{floor_quotient, unless_zero}
 use Rattle.elem_kernel.proofs.Bounds.{wrapped_one, rest_stays}
 use Rattle.elem_kernel.proofs.number.remainder.Goals as goal
 
-pub returns : goal.returns
-returns g c =
+pub returns-then-is_signed : goal.returns-then-is_signed
+returns-then-is_signed g c =
     let value : ℤ → ℤ → ℤ = λ m n. unless_zero n (m -ℤ n *ℤ floor_quotient m n) in
-    let fx : SFits w128 c.widen.result = record { sfits = c.widen.type_inv } in
-    let fy : SFits w128 c.widen-2.result = record { sfits = c.widen-2.type_inv } in
-    let fits : SFits w128 c.rest_or_zero.result = record { sfits = c.rest_or_zero.type_inv } in
-    let range : InRange g.T.Elem.kind (g.T.Elem.number c.args.y) = (subst (λ n. low g.T.Elem.kind ≤ℤ n) c.widen-2.ensures.value c.widen-2.ensures.from, subst (λ n. n ≤ℤ high g.T.Elem.kind) c.widen-2.ensures.value c.widen-2.ensures.to) in
-    ap Some (wrapped_one g.T.Elem.of g.T.Elem.number (wrap_to g.T.Elem.kind) g.met.T.Elem.number_of c.rest_or_zero.result _ c.wrap_from.result fits
-    (c.rest_or_zero.ensures ∙ (λ i. value (to_z-of_z w128 c.widen.result fx i) (to_z-of_z w128 c.widen-2.result fy i)) ∙ (λ i. value (c.widen.ensures.value i) (c.widen-2.ensures.value i))) c.wrap_from.ensures
+    let fx : SFits w128 c.widen-dividend.result = record { sfits = c.widen-dividend.type_inv } in
+    let fy : SFits w128 c.widen-divisor.result = record { sfits = c.widen-divisor.type_inv } in
+    let fits : SFits w128 c.rest_signed.result = record { sfits = c.rest_signed.type_inv } in
+    let range : InRange g.T.Elem.kind (g.T.Elem.number c.args.y) = (subst (λ n. low g.T.Elem.kind ≤ℤ n) c.widen-divisor.ensures.value c.widen-divisor.ensures.from, subst (λ n. n ≤ℤ high g.T.Elem.kind) c.widen-divisor.ensures.value c.widen-divisor.ensures.to) in
+    ap Some (wrapped_one g.T.Elem.of g.T.Elem.number (wrap_to g.T.Elem.kind) g.met.T.Elem.number_of c.rest_signed.result _ c.wrap_from.result fits
+    (c.rest_signed.ensures ∙ (λ i. value (to_z-of_z w128 c.widen-dividend.result fx i) (to_z-of_z w128 c.widen-divisor.result fy i)) ∙ (λ i. value (c.widen-dividend.ensures.value i) (c.widen-divisor.ensures.value i))) c.wrap_from.ensures
+    ∙ rest_stays g.T.Elem.kind (g.T.Elem.number c.args.x) (g.T.Elem.number c.args.y) range)
+
+pub returns-else-is_signed : goal.returns-else-is_signed
+returns-else-is_signed g c =
+    let value : ℤ → ℤ → ℤ = λ m n. unless_zero n (m -ℤ n *ℤ floor_quotient m n) in
+    let fx : SFits w128 c.widen-dividend.result = record { sfits = c.widen-dividend.type_inv } in
+    let fy : SFits w128 c.widen-divisor.result = record { sfits = c.widen-divisor.type_inv } in
+    let fits : SFits w128 c.rest_unsigned.result = record { sfits = c.rest_unsigned.type_inv } in
+    let range : InRange g.T.Elem.kind (g.T.Elem.number c.args.y) = (subst (λ n. low g.T.Elem.kind ≤ℤ n) c.widen-divisor.ensures.value c.widen-divisor.ensures.from, subst (λ n. n ≤ℤ high g.T.Elem.kind) c.widen-divisor.ensures.value c.widen-divisor.ensures.to) in
+    ap Some (wrapped_one g.T.Elem.of g.T.Elem.number (wrap_to g.T.Elem.kind) g.met.T.Elem.number_of c.rest_unsigned.result _ c.wrap_from-else-is_signed.result fits
+    (c.rest_unsigned.ensures ∙ (λ i. value (to_z-of_z w128 c.widen-dividend.result fx i) (to_z-of_z w128 c.widen-divisor.result fy i)) ∙ (λ i. value (c.widen-dividend.ensures.value i) (c.widen-divisor.ensures.value i))) c.wrap_from-else-is_signed.ensures
     ∙ rest_stays g.T.Elem.kind (g.T.Elem.number c.args.x) (g.T.Elem.number c.args.y) range)
