@@ -178,6 +178,8 @@ def both(make):
     return [job for masked in (False, True) for job in make(masked)]
 
 
+# Files that a script opens one after the other, of 10 million cells each.
+DECADES = {f"a{k:02}.nc": lambda path, k=k: grid(path, by=31 + k, first=1000 * k, times=1000) for k in range(12)}
 # Months of 2.8 million cells, and small files of a thousand: as many as a statement opens, but for some.
 MONTHS = {f"a{k:02}.nc": lambda path, k=k: grid(path, by=31 + k, first=279 * k, times=279) for k in range(12)}
 SMALL_FILES = {f"a{k:03}.nc": lambda path, k=k: grid(path, by=31 + k, first=10 * k, times=10, y=range(10), x=range(10)) for k in range(200)}
@@ -240,6 +242,9 @@ JOBS = [
              tools=[sh("cdo -s -O -b F64 gridboxsum,2,2 a.nc n.nc")]),
         over("cells one time later", A, "a", "a.shift(time=1, fill_value=0).sum()", masked=m),
     ]),
+    Job("a file opened 40 times under one name, its sum", A, opened("a" * 40, False) + "print(a.sum())\n", inside=opened_by_xarray("a" * 40, False, False) + "answer = int(a.sum())"),
+    Job("12 files one after the other, each summed", DECADES, "".join(f'a = open_dataset("{n}")["v"].sum()\nprint(a)\n' for n in DECADES),
+        inside=f'for n in {list(DECADES)}:\n    a = xarray.open_dataset(n, decode_times=False, mask_and_scale=False, engine="scipy")["v"].sum()\n    answer = int(a)'),
     *[together(f"{what} end to end, written", files, 'concat(FILES, "time")', 'xarray.concat(FILES, "time", "minimal", "minimal", "equals")',
                [sh(f"ncrcat -O -h {names} n.nc"), sh(f"cdo -s -O cat {names} n.nc")])
       for what, files, names in (("12 files of months", MONTHS, "a??.nc"), ("200 small files", SMALL_FILES, "a???.nc"))],

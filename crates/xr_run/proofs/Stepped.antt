@@ -35,6 +35,10 @@ leads_none ss from told before names none =
     subst (λ (m : Names). Leads ss from told before 0 m from before) (sym none)
     (record { text = []; text_is = λ t. sym (append-nil before); rest = rw zero-add refl; reached = reached_none (lines ss) (start from); puts = λ n p. p; keeps = λ n p. refl })
 
+-- names that stand for the same lead as far
+pub leads_same : (ss : List Statement) (from : Files) (told : Bool) (before : List ℕ) (i : ℕ) (names after : Names) (files : Files) (taken : List ℕ) → Leads ss from told before i names files taken → after ≡ names → Leads ss from told before i after files taken
+leads_same ss from told before i names after files taken so_far same = subst (λ (m : Names). Leads ss from told before i m files taken) (sym same) so_far
+
 here : (ss : List Statement) (i : ℕ) (s : Statement) → i < length ss → s ≡ get_or ss i s → lines (drop i ss) ≡ line_of s ∷ lines (drop (i + 1) ss)
 here ss i s lt e = rw add-one (ap (map line_of) (subst (λ y. drop i ss ≡ y ∷ drop (suc i) ss) (sym e) (drop-cons ss i s lt)))
 

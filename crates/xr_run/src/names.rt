@@ -5,8 +5,10 @@ ghost use Rattle.xr_runs.specs.Runs.{put, put_each};
 ghost use Rattle.xr_values.specs.Meaning.{meaning, IsValueIn};
 ghost use Rattle.xr_run.specs.Named.{names_of, AreNamesIn};
 
+use plan_core::Plan;
 use std::alloc::{AllocError, Global};
 use std::collections::BTreeMap;
+use values_live::forget_unnamed;
 use xr_types::TextBytes;
 use xr_values::Value;
 
@@ -52,6 +54,15 @@ impl NameMap {
             Ok(_) => Ok(()),
             Err(_) => Err(AllocError),
         }
+    }
+
+    /// Lets the plan give up the cells that no name reaches, where this pays. Where memory runs out, the plan stays as it is.
+    pub(crate) fn forget_others(&self, alloc: Global, plan: &mut Plan)
+        requires { AreNamesIn plan.old self.now }
+        ensures same { names_of plan.new self.now ≡ names_of plan.old self.now }
+        ensures inside { AreNamesIn plan.new self.now }
+    {
+        forget_unnamed(alloc, plan, &self.values);
     }
 
     /// Lets each name stand for the value at its place, one after another.

@@ -5,11 +5,13 @@ ghost use Rattle.xr_syntax.specs.Syntax.{line_of};
 ghost use Rattle.xr_runs.specs.Runs.{run_from, start};
 ghost use Rattle.xr_run.specs.Broken.{Left};
 ghost use Rattle.xr_run.specs.Ends.{Ends, IsNamedEnd, StatementsKeep, StatusTallied, Untouched, status_of};
+ghost use Rattle.xr_run.specs.Named.{names_of, AreNamesIn};
 
 use crate::names::NameMap;
 use crate::step::step;
 use crate::stopped::Stopped;
 use plan_core::Plan;
+use plan_live::Gains;
 use plan_whole::Whole;
 use std::alloc::Global;
 use std::thread::Threads;
@@ -26,6 +28,17 @@ fn status_of(stopped: Stopped, number: u32) -> Status
         Stopped::Refused(fault) => Status::Refused(number, fault),
         Stopped::Storage => Status::Storage,
         Stopped::NoMemory => Status::NoMemory,
+    }
+}
+
+// Once the plan has gained much, it gives up what no name reaches. All names stand for what they stood for.
+fn forget_others(alloc: Global, names: &NameMap, plan: &mut Plan, gains: &mut Gains)
+    requires { AreNamesIn plan.old names.now }
+    ensures same { names_of plan.new names.now ≡ names_of plan.old names.now }
+    ensures inside { AreNamesIn plan.new names.now }
+{
+    if gains.is_time(plan) {
+        names.forget_others(alloc, plan);
     }
 }
 
@@ -52,13 +65,14 @@ pub(crate) fn run_statements<R: Threads + Sync, S: Store, O: Sink>(
         plan: Plan::new(alloc),
         compute: Whole,
     };
+    let mut gains = Gains::new();
     for (i, statement) in statements.iter().enumerate() {
         // No script has more statements than such a number counts.
         let Ok(number) = u32::try_from(i + 1) else {
             return Status::NoMemory;
         };
         match step(rt, alloc, statement, &mut names, store, out, &mut cx) {
-            Ok(()) => {}
+            Ok(()) => forget_others(alloc, &names, &mut cx.plan, &mut gains),
             Err(stopped) => return status_of(stopped, number),
         }
     }

@@ -1,6 +1,6 @@
 use Rattle.std.proofs.Common.{◌≡◌, ◌+◌, ◌∙◌, subst, sym, refl, Bool, rules, arith}
 use Rattle.std.specs.Prelude.{IsTrue}
-use Rattle.xr_run.proofs.Stepped.{left_broken, left_so_far, leads_none, leads_more, leads_stopped, leads_all, keeps_more, tallied_stopped}
+use Rattle.xr_run.proofs.Stepped.{left_broken, left_so_far, leads_none, leads_more, leads_same, leads_stopped, leads_all, keeps_more, tallied_stopped}
 use Rattle.xr_run.proofs.run_statements.run_statements.Goals as goal
 
 pub loop-i-init : goal.loop-i-init
@@ -35,10 +35,12 @@ loop-i-preserved g c = record {
   out_tells = c.step.ensures.out_tells ∙ c.loop-i.invariant.out_tells;
   store_faults = c.in-Ok-step.ensures.tallied.0 ∙ c.loop-i.invariant.store_faults;
   out_faults = c.in-Ok-step.ensures.tallied.1 ∙ c.loop-i.invariant.out_faults;
-  inside = c.step.ensures.inside;
+  inside = c.forget_others.ensures.inside;
   leads = λ s.
       let told = subst (λ (b : Bool). IsTrue b) (sym c.loop-i.invariant.store_tells) s in
-      leads_more c.args.statements.now _ _ _ _ c.loop-i.i _ _ _ _ _ _ c.index-statements-i.result (c.loop-i.invariant.leads s) c.loop-i-test.true c.index-statements-i.is c.loop-i.invariant.out_tells (c.step.ensures.keeps told) (c.in-Ok-step.ensures.step told);
+      leads_same c.args.statements.now _ _ _ (c.loop-i.i + 1) _ _ _ _
+      (leads_more c.args.statements.now _ _ _ _ c.loop-i.i _ _ _ _ _ _ c.index-statements-i.result (c.loop-i.invariant.leads s) c.loop-i-test.true c.index-statements-i.is c.loop-i.invariant.out_tells (c.step.ensures.keeps told) (c.in-Ok-step.ensures.step told))
+      c.forget_others.ensures.same;
 }
 
 pub returns-clause-ends : goal.returns-clause-ends
