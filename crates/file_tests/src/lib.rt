@@ -5,6 +5,8 @@
 #[cfg(test)]
 mod definitions;
 #[cfg(test)]
+mod gathering;
+#[cfg(test)]
 mod outside;
 #[cfg(test)]
 mod reading;

@@ -1,11 +1,13 @@
 //! Times the reader of classic files, for `bench/reader.py`: `reader_times JOB FILE TIMES` prints the least of so many
 //! times, in nanoseconds, and a number that depends on what was read. `head` walks the header, `read` gives the file
-//! with its values, and `open` reads the bytes from the disk first.
+//! with its values, a variable after the other, `values` the values of all variables together, as a dataset is opened,
+//! and `open` does so too and reads the bytes from the disk first.
 #![tactic(auto)]
 
 use anyhow::{Context, Result};
-use cdf_reader::{read, read_head};
-use std::alloc::Global;
+use bytes::Bytes;
+use cdf_reader::{gathered_values, read, read_head};
+use std::alloc::{AllocError, Global};
 use std::rt::{Clock, Files};
 use std::time::Instant;
 use std::{env, fs};
@@ -15,25 +17,48 @@ use std::{env, fs};
 enum Job {
     Head,
     Read,
+    Values,
+}
+
+// How many bytes of values a file has that is read whole, or none where memory or the file fails.
+fn read_bytes(alloc: Global, bytes: &Bytes) -> u64 {
+    let Ok(file) = read(alloc, bytes.as_slice()) else {
+        return 0;
+    };
+    let mut total: u64 = 0;
+    for var in file.vars.as_slice() {
+        total = total.saturating_add(var.raw.len() as u64);
+    }
+    total
+}
+
+// The same of the values alone, which are gathered together.
+fn value_bytes(alloc: Global, bytes: &Bytes) -> u64 {
+    let Ok(head) = read_head(alloc, bytes.as_slice()) else {
+        return 0;
+    };
+    let Ok(vars) = head.vars.as_slice().iter().collect::<Vec<_>>(alloc) else {
+        return 0;
+    };
+    let Ok(values) = gathered_values(alloc, bytes, &head, vars.as_slice()) else {
+        return 0;
+    };
+    let mut total: u64 = 0;
+    for raw in &values {
+        total = total.saturating_add(raw.len() as u64);
+    }
+    total
 }
 
 // How many bytes of values were read, or how many variables the header lists, or none of a file that is damaged.
-fn work(alloc: Global, job: &Job, bytes: &[u8]) -> u64 {
+fn work(alloc: Global, job: &Job, bytes: &Bytes) -> u64 {
     match job {
-        Job::Head => match read_head(alloc, bytes) {
+        Job::Head => match read_head(alloc, bytes.as_slice()) {
             Ok(head) => head.vars.as_slice().len() as u64,
             Err(_) => 0,
         },
-        Job::Read => match read(alloc, bytes) {
-            Ok(file) => {
-                let mut total: u64 = 0;
-                for var in file.vars.as_slice() {
-                    total = total.saturating_add(var.raw.as_slice().len() as u64);
-                }
-                total
-            }
-            Err(_) => 0,
-        },
+        Job::Read => read_bytes(alloc, bytes),
+        Job::Values => value_bytes(alloc, bytes),
     }
 }
 
@@ -42,7 +67,7 @@ fn least<C: Clock>(
     alloc: Global,
     times: u32,
     job: &Job,
-    bytes: &[u8],
+    bytes: &Bytes,
 ) -> Result<(u128, u64)> {
     let mut least = u128::MAX;
     let mut number = 0;
@@ -64,8 +89,8 @@ fn opened<C: Clock + Files + AllocGlobal>(
     let mut number = 0;
     for _ in 0..times {
         let start = Instant::now(rt)?;
-        let bytes = fs::read(rt, path)?;
-        number = work(alloc, &Job::Read, bytes.as_slice());
+        let bytes = Bytes::from_vec(fs::read(rt, path)?).map_err(AllocError::from)?;
+        number = work(alloc, &Job::Values, &bytes);
         least = least.min(start.elapsed(rt)?.as_nanos());
     }
     Ok((least, number))
@@ -81,9 +106,13 @@ fn main(rt: HostRuntime) -> Result<()> {
     let (least, number) = match job.as_str() {
         "open" => opened(&rt, alloc, times, path.as_str())?,
         word => {
-            let bytes = fs::read(&rt, path.as_str())?;
-            let job = if word == "head" { Job::Head } else { Job::Read };
-            least(&rt, alloc, times, &job, bytes.as_slice())?
+            let bytes = Bytes::from_vec(fs::read(&rt, path.as_str())?).map_err(AllocError::from)?;
+            let job = match word {
+                "head" => Job::Head,
+                "read" => Job::Read,
+                _ => Job::Values,
+            };
+            least(&rt, alloc, times, &job, &bytes)?
         }
     };
     println!(rt; "{least} {number}")?;

@@ -21,3 +21,4 @@ pub mod Rows
 pub mod Spelled
 pub mod TruthCells
 pub mod UnitTexts
+pub mod Found

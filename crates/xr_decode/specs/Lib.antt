@@ -4,3 +4,4 @@ pub mod Listed
 pub mod Readable
 pub mod Roles
 pub mod Stored
+pub mod Sought

@@ -18,6 +18,7 @@ mod place;
 mod role;
 mod shapes;
 mod skip;
+mod sought;
 mod stored;
 mod text;
 mod times;

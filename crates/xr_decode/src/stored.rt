@@ -1,10 +1,12 @@
 //! A file as it is decoded, with the values of its variables where they lie.
-ghost use Rattle.std.specs.Prelude.{◌≡◌, ◌≤◌, ◌++◌, length, map, take, All, IfOk};
+ghost use Rattle.std.specs.Prelude.{◌≡◌, ◌≤◌, ◌++◌, length, map, take, All, IfOk, IfSome};
 ghost use Rattle.xr_files.specs.Files.{most_bytes};
 ghost use Rattle.cdf_reader.specs.Heads.{file_seen, var_seen};
 ghost use Rattle.xr_decode.specs.Readable.{IsReadable};
+ghost use Rattle.xr_decode.specs.Sought.{values_seen};
 ghost use Rattle.xr_decode.specs.Stored.{AreBytes, HoldsBytes};
 
+use crate::sought::{found_in, next_found};
 use crate::values::Values;
 use bytes::Bytes;
 use cdf_reader::{FileHead, is_record, shared_values};
@@ -146,15 +148,20 @@ fn file_vars<'a>(alloc: Global, vars: &'a [CdfVar]) -> Result<Vec<StoredVar<'a>>
     Ok(stored)
 }
 
-// The values of a variable of a head, where they lie in the bytes of its file.
+// The values of a variable of a head: those that were found, or else where they lie in the bytes of its file.
 fn values_of<'a>(
     bytes: &'a Bytes,
     head: &'a FileHead,
     var: &'a VarHead,
+    found: Option<Bytes>,
 ) -> Result<Values<'a>, AllocError>
-    requires { length bytes.now ≤ most_bytes }
+    requires short { length bytes.now ≤ most_bytes }
+    requires found { IfSome found (λ raw. raw ≡ values_seen bytes.now head.now var.now) }
     ensures { IfOk result (λ v. v ≡ (var_seen bytes.now head.now var.now).raw) }
 {
+    if let Some(raw) = found {
+        return Ok(Values::together(raw));
+    }
     if is_record(head.dims.as_slice(), var.dims.as_slice()) {
         return Ok(Values::in_records(bytes, head, var));
     }
@@ -167,11 +174,13 @@ fn head_var<'a>(
     bytes: &'a Bytes,
     head: &'a FileHead,
     var: &'a VarHead,
+    found: Option<Bytes>,
 ) -> Result<StoredVar<'a>, AllocError>
-    requires { length bytes.now ≤ most_bytes }
+    requires short { length bytes.now ≤ most_bytes }
+    requires found { IfSome found (λ raw. raw ≡ values_seen bytes.now head.now var.now) }
     ensures { IfOk result (λ v. v ≡ var_seen bytes.now head.now var.now) }
 {
-    let values = values_of(bytes, head, var)?;
+    let values = values_of(bytes, head, var, found)?;
     Ok(StoredVar::new(
         &var.name,
         var.dims.as_slice(),
@@ -192,9 +201,11 @@ fn head_vars<'a>(
     ensures bytes { IfOk result (λ v. All HoldsBytes v.items) }
 {
     let heads = head.vars.as_slice();
+    let mut found = found_in(alloc, bytes, head)?;
     let mut stored = Vec::with_capacity(alloc, heads.len())?;
     for head_of_var in heads {
-        let var = head_var(bytes, head, head_of_var)?;
+        let values = next_found(head, head_of_var, &mut found);
+        let var = head_var(bytes, head, head_of_var, values)?;
         var.holds_bytes();
         stored.push(var)?;
     }
