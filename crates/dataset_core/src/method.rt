@@ -17,7 +17,9 @@ ghost use Rattle.dataset_core.specs.Assigned.{method_told, FollowsValue};
 use crate::cells::{cell_method, cumsum, is_cell_method};
 use crate::choice::choice_of;
 use crate::coords::assign_coords;
-use crate::frames::{assign_attrs, chunk, drop_vars, isel, reindex, rename, sel, to_dataset, transpose};
+use crate::frames::{
+    assign_attrs, chunk, drop_vars, isel, reindex, rename, sel, to_dataset, transpose,
+};
 use crate::grouped::{end_cell, fold, grouping};
 use crate::moves::{diff, roll, shift};
 use plan_core::{Compute, Plan};
