@@ -9,6 +9,7 @@ ghost use Rattle.xr_defs.specs.Parts.{dropped_of_array as left_of_array, dropped
 ghost use Rattle.xr_defs.specs.Selecting.{isel_array as selected_array, isel_set as selected_set};
 ghost use Rattle.xr_operations.specs.Selection.{sel_array as labelled_array, sel_set as labelled_set};
 ghost use Rattle.xr_relations.specs.Reindexing.{reindex_array as relabelled_array, reindex_set as relabelled_set};
+ghost use Rattle.xr_chunks.specs.Chunks.{chunk_array as cut_array, chunk_set as cut_set};
 ghost use Rattle.plan_core.specs.Plans.{Grows};
 ghost use Rattle.xr_values.specs.Meaning.{meaning, given, IsValueIn};
 ghost use Rattle.xr_indexing.specs.Taken.{keywords};
@@ -17,6 +18,7 @@ ghost use Rattle.dataset_core.specs.Answers.{AnswersValue, array_told, set_told}
 use crate::held::{array_value, set_value};
 use plan_core::Plan;
 use std::alloc::Global;
+use xr_chunking::{chunked, set_chunked};
 use xr_indexing::{isel_array, isel_set};
 use xr_parts::{
     array_with_attrs, dropped_of_array, dropped_of_set, renamed, set_with_attrs, transposed,
@@ -216,6 +218,32 @@ pub(crate) fn to_dataset(
     match on {
         Value::Array(array) => {
             let answer = xr_parts::to_dataset(alloc, array, args)?;
+            Ok(set_value(alloc, answer)?)
+        }
+        _ => Err(CallFault::Refused(Fault::WrongKind)),
+    }
+}
+
+/// `chunk(x=..)`.
+#[tactic(auto, using(plan_core::proofs::Plans::grows_by_none, plan_core::proofs::Added::adds_none, xr_arguments::proofs::Variants::is_array, xr_arguments::proofs::Variants::is_set, xr_arguments::proofs::Inside::held_array, xr_arguments::proofs::Inside::held_set, xr_values::proofs::Meaning::meaning_out), unfolding(xr_runs::specs::Calls::of_both))]
+pub(crate) fn chunk(
+    alloc: Global,
+    plan: &mut Plan,
+    on: &Value,
+    args: &Args,
+) -> Result<Value, CallFault>
+    requires { IsValueIn plan.old on.now }
+    ensures answers { AnswersValue plan.new result (of_both (λ a. cut_array a (given plan.old args.now)) (λ s. cut_set s (given plan.old args.now)) (meaning plan.old on.now)) }
+    ensures grows { Grows plan.old plan.new }
+    ensures room { IfOk result (λ v. AddsAtMost plan.old plan.new (room (portions (meaning plan.old on.now) ++ portions (meaning plan.new v)))) }
+{
+    match on {
+        Value::Array(array) => {
+            let answer = chunked(alloc, plan, array, args)?;
+            Ok(array_value(alloc, answer)?)
+        }
+        Value::Set(set) => {
+            let answer = set_chunked(alloc, plan, set, args)?;
             Ok(set_value(alloc, answer)?)
         }
         _ => Err(CallFault::Refused(Fault::WrongKind)),

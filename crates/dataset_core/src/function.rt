@@ -6,19 +6,21 @@ ghost use Rattle.xr_arrays.specs.Added.{AddsAtMost};
 ghost use Rattle.xr_defs.specs.Room.{portions, room, Portion};
 ghost use Rattle.xr_defs.specs.Building.{data_array};
 ghost use Rattle.xr_runs.specs.Calls.{function_over_values, uncomputed_function as uncomputed};
+ghost use Rattle.xr_chunks.specs.Demo.{demo as demo_set_of};
 ghost use Rattle.plan_core.specs.Plans.{Grows};
 ghost use Rattle.xr_values.specs.Meaning.{given, meaning, IsValueIn, AreArgsIn};
 ghost use Rattle.xr_building.specs.Written.{array_written};
-ghost use Rattle.dataset_core.specs.Answers.{AnswersValue, array_told};
+ghost use Rattle.dataset_core.specs.Answers.{AnswersValue, array_told, set_told};
 ghost use Rattle.dataset_core.specs.Assigned.{array_followed, function_told, FollowsValue};
 
 use crate::choice::choice;
-use crate::held::array_value;
+use crate::held::{array_value, set_value};
 use crate::slice::slice_given;
 use plan_core::{Compute, Plan};
 use std::alloc::Global;
 use std::thread::Threads;
 use xr_building::array_written_out;
+use xr_demo::demo;
 use xr_reindexing::times;
 use xr_types::{CallFault, DeepCopy, Fault, TextBytes};
 use xr_values::{Args, Cx, Value};
@@ -43,6 +45,16 @@ fn written_out<R: Threads + Sync, C: Compute>(
     Ok(array_value(alloc, array)?)
 }
 
+// `demo(n)`.
+fn demonstration(alloc: Global, plan: &mut Plan, args: &Args) -> Result<Value, CallFault>
+    ensures answers { AnswersValue plan.new result (set_told (demo_set_of (given plan.old args.now))) }
+    ensures grows { Grows plan.old plan.new }
+    ensures room { IfOk result (λ v. (p : Portion) → AddsAtMost plan.old plan.new (room (p ∷ portions (meaning plan.new v)))) }
+{
+    let set = demo(alloc, plan, args)?;
+    Ok(set_value(alloc, set)?)
+}
+
 // Those that compute no cells at once.
 #[tactic(auto, using(plan_core::proofs::Plans::grows_by_none, plan_core::proofs::Added::adds_none, crate::proofs::Making::inside_answer, crate::proofs::Making::beside_one), unfolding(xr_runs::specs::Calls::uncomputed_function))]
 fn uncomputed_function(
@@ -63,6 +75,8 @@ fn uncomputed_function(
         times(alloc, args)
     } else if name.as_str() == "where" {
         choice(alloc, plan, args)
+    } else if name.as_str() == "demo" {
+        demonstration(alloc, plan, args)
     } else {
         Err(CallFault::Refused(Fault::UnknownName(name.deep_copy(alloc)?)))
     }
@@ -70,7 +84,7 @@ fn uncomputed_function(
 
 /// The value of a call of a function other than `open_dataset`: `DataArray(data, dims, coords, name, dtype)`, an array that
 /// the script writes out, `slice(..)`, whose one to three ends and step are plain arguments, `times(units, LIST, calendar)`, times as
-/// labels, and `where(cond, x, y)`, the choice between two arrays or literals.
+/// labels, `where(cond, x, y)`, the choice between two arrays or literals, and `demo(n)`, a dataset of any length.
 ///
 /// # Errors
 /// `UnknownName` for any other function; then those of the function. Where cells that the call needs are declined, it is that:

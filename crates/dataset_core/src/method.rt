@@ -17,7 +17,9 @@ ghost use Rattle.dataset_core.specs.Assigned.{method_told, FollowsValue};
 use crate::cells::{cell_method, cumsum, is_cell_method};
 use crate::choice::choice_of;
 use crate::coords::assign_coords;
-use crate::frames::{assign_attrs, drop_vars, isel, reindex, rename, sel, to_dataset, transpose};
+use crate::frames::{
+    assign_attrs, chunk, drop_vars, isel, reindex, rename, sel, to_dataset, transpose,
+};
 use crate::grouped::{end_cell, fold, grouping};
 use crate::moves::{diff, roll, shift};
 use plan_core::{Compute, Plan};
@@ -236,14 +238,16 @@ fn uncomputed_method(
         rename(alloc, plan, on, args)
     } else if called == "to_dataset" {
         to_dataset(alloc, plan, on, args)
+    } else if called == "chunk" {
+        chunk(alloc, plan, on, args)
     } else {
         method_on_cells(alloc, plan, on, name, args)
     }
 }
 
 /// The value of a call of a method: `isel`, `sel`, `reindex`, `drop_vars`, `assign_coords`, `assign_attrs`, `cumsum`, `shift`,
-/// `roll`, `diff` and reductions of arrays and datasets, `groupby`, `resample`, `rolling` and `coarsen` of them and the methods of the
-/// groups, and `transpose`, `rename`, `to_dataset`, `isnull`, `notnull`, `astype`,
+/// `roll`, `diff`, `chunk` and reductions of arrays and datasets, `groupby`, `resample`, `rolling` and `coarsen` of them and the
+/// methods of the groups, and `transpose`, `rename`, `to_dataset`, `isnull`, `notnull`, `astype`,
 /// `fillna`, `where`, `argmin` and `argmax` of arrays.
 ///
 /// # Errors

@@ -16,3 +16,4 @@ mod ReductionRows
 mod SelectionRows
 mod MoveRows
 mod ReindexRows
+mod ChunkRows

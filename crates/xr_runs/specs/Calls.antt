@@ -32,6 +32,8 @@ use Rattle.xr_relations.specs.Times.{times_given}
 use Rattle.xr_combination.specs.Combine.{combine_called}
 use Rattle.xr_combination.specs.Concat.{concat_called}
 use Rattle.xr_combination.specs.Merge.{merge_called}
+use Rattle.xr_chunks.specs.Chunks.{chunk_array, chunk_set}
+use Rattle.xr_chunks.specs.Demo.{demo}
 use Rattle.xr_defs.specs.Meanings.{Value, Truth, Number, Text, Array, Set, GroupedArray, GroupedSet, Given}
 use Rattle.xr_defs.specs.Arguments.{wrong, unfit, as_text, slice_given}
 
@@ -61,6 +63,7 @@ uncomputed_function name g =
     if bytes_eq name (codes "slice") then slice_given g
     else if bytes_eq name (codes "times") then times_given g
     else if bytes_eq name (codes "where") then (where_called g >>= λ a. Ok (Array a))
+    else if bytes_eq name (codes "demo") then (demo g >>= λ s. Ok (Set s))
     else Err (UnknownName name)
 
 -- a function that takes no file: those, and the one that computes the arrays that become coordinates
@@ -178,6 +181,7 @@ uncomputed_method v name g =
     else if bytes_eq name (codes "assign_attrs") then of_both (array_with_attrs g) (set_with_attrs g) v
     else if bytes_eq name (codes "rename") then of_array (λ a. renamed a g >>= λ b. Ok (Array b)) v
     else if bytes_eq name (codes "to_dataset") then of_array (λ a. to_dataset a g >>= λ s. Ok (Set s)) v
+    else if bytes_eq name (codes "chunk") then of_both (λ a. chunk_array a g) (λ s. chunk_set s g) v
     else method_on_cells v name g
 
 -- those, and the one that computes the arrays that become coordinates
