@@ -1,5 +1,6 @@
 #!/usr/bin/env python3
-"""Runs scripts with lists and names as many as a script has room for, and with 20,000 keywords or keys in one call.
+"""Runs scripts with lists and names as many as a script has room for, with 20,000 keywords or keys in one call, and with 10,000
+aligned values.
 
     large.py PROGRAM
 
@@ -15,6 +16,7 @@ import tempfile
 MOST_BYTES = 1 << 20
 SECONDS = 60
 KEYWORDS = 20_000
+ALIGNED = 10_000
 BARE = 'a = DataArray([1, 2], dims=["x"])\n'
 SET = BARE + 'd = a.to_dataset(name="v")\n'
 
@@ -75,6 +77,10 @@ def jobs():
     entries, count = as_many(lambda i: f'"k{i:06}": 1', KEYWORDS)
     lines = "".join(f"coord k{i:06} int64 (): 1\n" for i in range(count))
     yield "an array is written out with many coordinates", f'print(DataArray([1], dims=["x"], coords={{{entries}}}))', 0, f"DataArray - (x: 1) int64\n1\n{lines}", ""
+    names, _ = as_many(lambda i: "p", ALIGNED)
+    values, _ = as_many(lambda i: "a", ALIGNED)
+    labelled = 'a = DataArray([1, 2], dims=["x"], coords={"x": [1, 2]})\n'
+    yield "many arrays are aligned", f'{labelled}{names} = align({values})\nprint(p.sum())', 0, "DataArray - () int64\n3\n", ""
 
 
 def main():

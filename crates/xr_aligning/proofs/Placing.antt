@@ -1,10 +1,10 @@
 -- Values over joined axes, added to a plan one after the other.
-use Rattle.std.proofs.Common.{◌≡◌, ◌≤◌, ◌<◌, ◌-◌, ℤ, List, [], ◌∷◌, ◌++◌, length, map, get_or, take, drop, Option, Result, Ok, Err, arith, refl, sym, ap, subst, ◌∙◌, append_assoc}
-use Rattle.std.specs.Prelude.{OnOk}
+use Rattle.std.proofs.Common.{◌≡◌, ℤ, List, [], ◌∷◌, ◌++◌, map, All, Option, refl, sym, ap, subst, ◌∙◌, append_assoc}
 use Rattle.std.specs.List.{AllByRecursion}
-use Rattle.std.proofs.lemmas.List.{append-nil}
-use Rattle.std.proofs.lemmas.List.Elements.{All-nil, All-cons}
+use Rattle.std.proofs.lemmas.List.{append-nil, map-append}
+use Rattle.std.proofs.lemmas.List.Elements.{All-nil, All-cons, All-head, All-tail, All-append}
 use Rattle.plan_core.specs.Plans.{Grows}
+use Rattle.plan_core.proofs.Plans.{grows_by_none, grows_on}
 use Rattle.xr_arrays.specs.declared.node.Node.{Node}
 use Rattle.xr_defs.specs.Meanings as of
 use Rattle.xr_values.specs.declared.value.Value.{Value}
@@ -13,7 +13,6 @@ use Rattle.xr_values.proofs.Grown.{array_kept, dataset_kept, stays_array, stays_
 use Rattle.xr_values.proofs.Meaning.{meaning_kept, stays_value}
 use Rattle.xr_aligning.specs.Aligned.{ArePlaced}
 use Rattle.xr_aligning.specs.Coming.{come, fitted_by, labelled_in, IsLabelledIn, IsReady}
-use Rattle.xr_aligning.proofs.Firsts.{each_rest, whole_list}
 use Rattle.xr_aligning.specs.declared.coming.Coming.{Coming}
 use Rattle.xr_aligning.specs.declared.labelled.Labelled.{Labelled}
 use Rattle.xr_aligning.specs.declared.labelled.Labelled.TheVariants as labelled
@@ -27,36 +26,55 @@ module _ (old new : List Node) (grows : Grows old new) where
   same_labelled (labelled.Array a) is = ap of.Array (array_kept old new a.now grows is)
   same_labelled (labelled.Set s) is = ap of.Set (dataset_kept old new s.now grows is)
 
-  pub stay_ready : (ms : List Coming) → AllByRecursion (IsReady old) ms → AllByRecursion (IsReady new) ms
-  stay_ready [] all = tt
-  stay_ready (m ∷ ms) all = (record { comes = all.0.comes; here = stays_labelled m.on all.0.here; loose = all.0.loose; keep = all.0.keep }, stay_ready ms all.1)
+  now_ready : (m : Coming) → IsReady old m → IsReady new m
+  now_ready m ready = record { comes = ready.comes; here = stays_labelled m.on ready.here; loose = ready.loose; keep = ready.keep }
 
-  same_come : (fill : Option ℤ) (ms : List Coming) → AllByRecursion (IsReady old) ms → map (come new fill) ms ≡ map (come old fill) ms
-  same_come fill [] all = refl
-  same_come fill (m ∷ ms) all = (λ i. fitted_by m.joined fill (same_labelled m.on all.0.here i) ∷ same_come fill ms all.1 i)
+  same_come : (fill : Option ℤ) (m : Coming) → IsReady old m → come new fill m ≡ come old fill m
+  same_come fill m ready = ap (fitted_by m.joined fill) (same_labelled m.on ready.here)
 
-pub none_placed : (nodes : List Node) (fill : Option ℤ) (out vs : List Value) → vs ≡ out → ArePlaced nodes nodes fill [] out vs
-none_placed nodes fill out vs same = record { more = []; are = same ∙ sym (append-nil out); means = refl; inside = All-nil (IsValueIn nodes) }
+  values_kept : (vs : List Value) → All (IsValueIn old) vs → map (meaning new) vs ≡ map (meaning old) vs
+  values_kept [] inside = refl
+  values_kept (v ∷ vs) inside = (λ i. meaning_kept old new v grows (All-head (IsValueIn old) v vs inside) i ∷ values_kept vs (All-tail (IsValueIn old) v vs inside) i)
 
-pub one_placed : (old mid new : List Node) (fill : Option ℤ) (m : Coming) (ms : List Coming) (out next vs : List Value) (v : Value) → Grows old mid → Grows mid new → AllByRecursion (IsReady old) ms → meaning mid v ≡ come old fill m → IsValueIn mid v → next ≡ out ++ v ∷ []
-    → ArePlaced mid new fill ms next vs → ArePlaced old new fill (m ∷ ms) out vs
-one_placed old mid new fill m ms out next vs v first second ready means inside is rest = record {
-  more = v ∷ rest.more;
-  are = rest.are ∙ ap (λ us. us ++ rest.more) is ∙ append_assoc out (v ∷ []) rest.more;
-  means = (λ i. (meaning_kept mid new v second inside ∙ means) i ∷ (rest.means ∙ same_come old mid first fill ms ready) i);
-  inside = All-cons (IsValueIn new) v rest.more (stays_value mid new v second inside) rest.inside;
+  values_stay : (vs : List Value) → All (IsValueIn old) vs → All (IsValueIn new) vs
+  values_stay [] inside = All-nil (IsValueIn new)
+  values_stay (v ∷ vs) inside = All-cons (IsValueIn new) v vs (stays_value old new v grows (All-head (IsValueIn old) v vs inside)) (values_stay vs (All-tail (IsValueIn old) v vs inside))
+
+none_placed : (nodes : List Node) (fill : Option ℤ) (out : List Value) → ArePlaced nodes nodes fill [] out out
+none_placed nodes fill out = record { more = []; are = sym (append-nil out); means = refl; inside = All-nil (IsValueIn nodes) }
+
+-- one more behind those that are placed
+one_placed : (old mid new : List Node) (fill : Option ℤ) (ms : List Coming) (m : Coming) (out vs next : List Value) (v : Value) → Grows old mid → Grows mid new → IsReady old m → meaning new v ≡ come mid fill m → IsValueIn new v → next ≡ vs ++ v ∷ []
+    → ArePlaced old mid fill ms out vs → ArePlaced old new fill (ms ++ m ∷ []) out next
+one_placed old mid new fill ms m out vs next v first second ready means inside is so_far = record {
+  more = so_far.more ++ v ∷ [];
+  are = is ∙ ap (λ us. us ++ v ∷ []) so_far.are ∙ append_assoc out so_far.more (v ∷ []);
+  means = map-append (meaning new) so_far.more (v ∷ []) ∙ (λ i. (values_kept mid new second so_far.more so_far.inside ∙ so_far.means) i ++ (means ∙ same_come old mid first fill m ready) i ∷ []) ∙ sym (map-append (come old fill) ms (m ∷ []));
+  inside = All-append (IsValueIn new) so_far.more (v ∷ []) (values_stay mid new second so_far.more so_far.inside) (All-cons (IsValueIn new) v [] inside (All-nil (IsValueIn new)));
 }
 
-pub empty_placed : (nodes : List Node) (fill : Option ℤ) (ms : List Coming) (out : List Value) → length ms < 1 → ArePlaced nodes nodes fill ms out out
-empty_placed nodes fill [] out none = none_placed nodes fill out out refl
-empty_placed nodes fill (m ∷ ms) out none = absurd (omega arith)
+-- ---- so far
 
-pub more_placed : {E : Type 0} (r : Result (Unit {0}) E) (old mid new : List Node) (fill : Option ℤ) (ms : List Coming) (m : Coming) (out next vs : List Value) (v : Value) → 1 ≤ length ms → m ≡ get_or ms 0 m → Grows old mid → Grows mid new → AllByRecursion (IsReady old) ms → meaning mid v ≡ come old fill m
-    → IsValueIn mid v → next ≡ out ++ v ∷ [] → OnOk r (ArePlaced mid new fill (take (length ms - 1) (drop 1 ms)) next vs) → OnOk r (ArePlaced old new fill ms out vs)
-more_placed (Err e) old mid new fill ms m out next vs v some is first second ready means inside put rest = tt
-more_placed (Ok u) old mid new fill ms m out next vs v some is first second ready means inside put rest =
-    let parts = each_rest (IsReady old) ms m some is ready in
-    subst (λ ns. ArePlaced old new fill ns out vs) (sym (whole_list ms m some is)) (one_placed old mid new fill m (take (length ms - 1) (drop 1 ms)) out next vs v first second parts.1 means inside put rest)
+module _ (old : List Node) (fill : Option ℤ) (out : List Value) where
+  -- the values of the first so many are placed, and those that are still to come are ready
+  pub record IsOn (nodes : List Node) (before rest : List Coming) (vs : List Value) : Type 0 where
+    pub placed : ArePlaced old nodes fill before out vs
+    pub ready : AllByRecursion (IsReady old) rest
+    pub grows : Grows old nodes
 
-pub rest_ready : (old mid : List Node) (ms : List Coming) (m : Coming) → Grows old mid → 1 ≤ length ms → m ≡ get_or ms 0 m → AllByRecursion (IsReady old) ms → AllByRecursion (IsReady mid) (take (length ms - 1) (drop 1 ms))
-rest_ready old mid ms m grows some is ready = stay_ready old mid grows (take (length ms - 1) (drop 1 ms)) (each_rest (IsReady old) ms m some is ready).1
+  pub none_yet : (ms : List Coming) → AllByRecursion (IsReady old) ms → IsOn old [] ms out
+  none_yet ms ready = record { placed = none_placed old fill out; ready = ready; grows = grows_by_none old }
+
+  module _ (nodes : List Node) (before rest after : List Coming) (vs : List Value) (m : Coming) (split : rest ≡ m ∷ after) (on : IsOn nodes before rest vs) where
+    here : AllByRecursion (IsReady old) (m ∷ after)
+    here = subst (AllByRecursion (IsReady old)) split on.ready
+
+    pub ready_now : IsReady nodes m
+    ready_now = now_ready old nodes on.grows m here.0
+
+    pub next : (new : List Node) (upto : List Coming) (v : Value) (ws : List Value) → upto ≡ before ++ m ∷ [] → Grows nodes new → meaning new v ≡ come nodes fill m → IsValueIn new v → ws ≡ vs ++ v ∷ [] → IsOn new upto after ws
+    next new upto v ws is_upto g means inside is = record {
+      placed = subst (λ ms. ArePlaced old new fill ms out ws) (sym is_upto) (one_placed old nodes new fill before m out vs ws v on.grows g here.0 means inside is on.placed);
+      ready = here.1;
+      grows = grows_on old nodes new on.grows g;
+    }

@@ -57,14 +57,11 @@ fn push_values(
     ensures placed { OnOk result (ArePlaced plan.old plan.new fill coming.now out.old out.new) }
     ensures grows { Grows plan.old plan.new }
 {
-    match coming {
-        [] => Ok(()),
-        [one, rest @ ..] => {
-            let value = value_after(alloc, plan, fill, one)?;
-            out.push(value)?;
-            push_values(alloc, plan, out, fill, rest)
-        }
+    for one in coming {
+        let value = value_after(alloc, plan, fill, one)?;
+        out.push(value)?;
     }
+    Ok(())
 }
 
 // The values over their joined axes, once they join, a fill fits where it is needed, and none is too large.

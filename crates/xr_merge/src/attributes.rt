@@ -38,13 +38,10 @@ fn add_attrs(alloc: Global, out: &mut Items<DataArray>, value: &Value) -> Result
 fn push_attrs(alloc: Global, out: &mut Items<DataArray>, values: &[Value]) -> Result<(), AllocError>
     ensures { (nodes : List Node) → OnOk result (the_attrs out.new ≡ the_attrs out.old ++ sets_attrs (map (meaning nodes) values.now)) }
 {
-    match values {
-        [] => Ok(()),
-        [value, rest @ ..] => {
-            add_attrs(alloc, out, value)?;
-            push_attrs(alloc, out, rest)
-        }
+    for value in values {
+        add_attrs(alloc, out, value)?;
     }
+    Ok(())
 }
 
 /// The attributes that the datasets among these values have in common.
