@@ -14,27 +14,36 @@ import tempfile
 from driving import Driver
 
 MIB = 1 << 20
-CELLS = 6 * MIB
+# (What is larger than 32 MiB the C library hands back as soon as it is given up.)
+CELLS = 9 * MIB
 SIZE = 4 * CELLS
 SPARE = 24 * MIB
-OPENINGS, FILES = 40, 12
+CHUNK = 1 << 16
+OPENINGS, FILES = 20, 12
 
 
 def counted(name):
     return struct.pack(">i", len(name)) + name + bytes(-len(name) % 4)
 
 
-def with_cells(numbers, more=b""):
-    """A classic file with one variable `v` of ints over `x`; `more` is repeated behind the first numbers."""
-    cells = b"".join(struct.pack(">i", n) for n in numbers) + more
-    head = b"CDF\x01" + struct.pack(">3i", 0, 10, 1) + counted(b"x") + struct.pack(">3i", len(cells) // 4, 0, 0)
-    head += struct.pack(">2i", 11, 1) + counted(b"v") + struct.pack(">6i", 1, 0, 0, 0, 4, len(cells))
-    return head + struct.pack(">i", len(head) + 4) + cells
+def head_of(cells):
+    """The header of a classic file with one variable `v` of so many ints over `x`."""
+    head = b"CDF\x01" + struct.pack(">3i", 0, 10, 1) + counted(b"x") + struct.pack(">3i", cells, 0, 0)
+    head += struct.pack(">2i", 11, 1) + counted(b"v") + struct.pack(">6i", 1, 0, 0, 0, 4, 4 * cells)
+    return head + struct.pack(">i", len(head) + 4)
 
 
-def repeated(first, by):
-    """A file of the size above whose cells are `first` and then `by`, again and again, and their sum."""
-    return with_cells([first], struct.pack(">i", by) * (CELLS - 1)), first + by * (CELLS - 1)
+def write_repeated(path, first, by):
+    """Writes a file of the size above whose cells are `first` and then `by`, again and again, and returns their sum. It is written in
+    pieces, since the peak that the system tells of a program begins with what the process that starts it holds."""
+    piece, rest = struct.pack(">i", by) * CHUNK, CELLS - 1
+    with open(path, "wb") as f:
+        f.write(head_of(CELLS) + struct.pack(">i", first))
+        while rest:
+            count = min(rest, CHUNK)
+            f.write(piece[:4 * count])
+            rest -= count
+    return first + by * (CELLS - 1)
 
 
 def summed(total):
@@ -45,12 +54,9 @@ def jobs(driver):
     """Of each job its name, its script, what it has to print, and how many files it may hold."""
     totals = []
     for i in range(FILES):
-        data, total = repeated(1000 * i, i - 5)
-        totals.append(total)
-        with open(driver.path(f"f{i:02}.nc"), "wb") as f:
-            f.write(data)
+        totals.append(write_repeated(driver.path(f"f{i:02}.nc"), 1000 * i, i - 5))
     with open(driver.path("small.nc"), "wb") as f:
-        f.write(with_cells([1, 2, 3]))
+        f.write(head_of(3) + struct.pack(">3i", 1, 2, 3))
     again = 'a = open_dataset("f00.nc")["v"]\n' * OPENINGS
     yield "a file opened again and again under one name", again + "print(a.sum())\n", summed(totals[0]), 2
     yield "a dataset opened again and again under one name", 'd = open_dataset("f01.nc")\n' * OPENINGS + 'print(d["v"].sum())\n', summed(totals[1]), 2
@@ -70,6 +76,7 @@ def jobs(driver):
 def main():
     with tempfile.TemporaryDirectory() as folder:
         driver = Driver(sys.argv[1], folder)
+        os.chdir(folder)
         for name, script, text, files in jobs(driver):
             run = driver.run(script)
             most = (files * SIZE + SPARE) // 1024
