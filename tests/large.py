@@ -1,5 +1,5 @@
 #!/usr/bin/env python3
-"""Runs scripts with lists and names as many as a script has room for, with 20,000 keywords or keys in one call, and with 10,000
+"""Runs scripts with lists and names as many as a script has room for, with 20,000 keywords or keys in one call, and with 4,000
 aligned values.
 
     large.py PROGRAM
@@ -16,7 +16,7 @@ import tempfile
 MOST_BYTES = 1 << 20
 SECONDS = 60
 KEYWORDS = 20_000
-ALIGNED = 10_000
+ALIGNED = 4_000
 BARE = 'a = DataArray([1, 2], dims=["x"])\n'
 SET = BARE + 'd = a.to_dataset(name="v")\n'
 
