@@ -1,5 +1,5 @@
 -- Strips of arrays: so many cells in row order from a place on, as an array of one axis.
-use Rattle.std.specs.Prelude.{◌≡◌, ◌≤◌, ◌++◌, ℕ, true, List, [], ◌∷◌, take, drop, replicate, Option, Some, None}
+use Rattle.std.specs.Prelude.{◌≡◌, ◌≤◌, ◌++◌, ℕ, pos, true, List, [], ◌∷◌, take, drop, replicate, get_or, Option, Some, None, option_map}
 use Rattle.xr_types.specs.declared.kind.DType.{DType}
 use Rattle.xr_types.specs.declared.kind.DType.TheVariants as kinds
 use Rattle.xr_types.specs.declared.operation.OpKind.{OpKind}
@@ -26,6 +26,27 @@ cells_strip from n (UInt8 v) = UInt8 (take n (drop from v))
 cells_strip from n (UInt16 v) = UInt16 (take n (drop from v))
 cells_strip from n (UInt32 v) = UInt32 (take n (drop from v))
 cells_strip from n (UInt64 v) = UInt64 (take n (drop from v))
+
+-- ---- one cell so many times
+
+abbrev pub spread_cells : ℕ → Cells → Cells
+spread_cells n (Bool v) = Bool (replicate n (get_or v 0 0))
+spread_cells n (Char v) = Char (replicate n (get_or v 0 0))
+spread_cells n (Int8 v) = Int8 (replicate n (get_or v 0 (pos 0)))
+spread_cells n (Int16 v) = Int16 (replicate n (get_or v 0 (pos 0)))
+spread_cells n (Int32 v) = Int32 (replicate n (get_or v 0 (pos 0)))
+spread_cells n (Int64 v) = Int64 (replicate n (get_or v 0 (pos 0)))
+spread_cells n (UInt8 v) = UInt8 (replicate n (get_or v 0 0))
+spread_cells n (UInt16 v) = UInt16 (replicate n (get_or v 0 0))
+spread_cells n (UInt32 v) = UInt32 (replicate n (get_or v 0 0))
+spread_cells n (UInt64 v) = UInt64 (replicate n (get_or v 0 0))
+
+abbrev pub spread_mask : ℕ → Option (List ℕ) → Option (List ℕ)
+spread_mask n m = option_map (λ v. replicate n (get_or v 0 0)) m
+
+-- so many cells, each of which is an array's first
+abbrev pub spread : ℕ → Array → Array
+spread n a = record { kind = a.kind; shape = n ∷ []; cells = replicate n (get_or a.cells 0 None) }
 
 -- ---- strips one after the other
 
