@@ -14,6 +14,6 @@ mod strip;
 
 pub use arrays::{choose_cells, operate_one, operate_two};
 pub use collect::{Strips, collect_strips, strip_length};
-pub use operations::{binary, choose, unary};
+pub use operations::unary;
 pub use spreads::spread;
 pub use strip::strip_of;
