@@ -1,20 +1,24 @@
 -- Nodes that are pushed, and those that stay there.
-use Rattle.std.proofs.Common.{◌≡◌, ◌<◌, ◌≤◌, ℕ, ℤ, zero, suc, pos, true, List, [], ◌∷◌, length, map, zip, insert, get_or, Option, Some, None, Result, Ok, Err, sym, ap, subst, refl, ◌∙◌, arith, length-append}
+use Rattle.std.proofs.Common.{◌≡◌, ◌<◌, ◌≤◌, ℕ, ℤ, zero, suc, pos, Bool, true, false, ◌==◌, List, [], ◌∷◌, length, map, zip, insert, get_or, Option, Some, None, Result, Ok, Err, sym, ap, subst, refl, ◌∙◌, arith, length-append}
 use Rattle.std.specs.List.{All}
-use Rattle.std.specs.Prelude.{IfOk, MatchOption, OnErr, option_map}
+use Rattle.std.specs.Prelude.{IfOk, MatchOption, OnErr, option_map, if◌then◌else◌}
 use Rattle.std.proofs.lemmas.List.{get_or-map, length-map}
 use Rattle.std.proofs.lemmas.List.Elements.{All-from_get_or}
 use Rattle.xr_types.specs.Points.{size}
 use Rattle.xr_types.specs.declared.kind.DType.{DType}
-use Rattle.xr_types.specs.declared.kind.DType.TheVariants.{Bool, Int16}
+use Rattle.xr_types.specs.declared.kind.DType.TheVariants.{Bool as truths, Int16}
 use Rattle.xr_types.specs.declared.operation.OpKind.{OpKind}
 use Rattle.xr_types.specs.declared.operation.FoldKind.TheVariants.{Sum}
 use Rattle.xr_arrays.specs.declared.node.Feed.TheVariants as feed
 use Rattle.xr_arrays.specs.declared.node.Node.{Node}
 use Rattle.xr_arrays.specs.declared.node.Node.TheVariants.{Source, Widen, Unary, Binary, Choose, Fold}
-use Rattle.xr_arrays.specs.Arrays.{Array, cell, hidden, IsArray, IsCell}
+use Rattle.xr_arrays.specs.Arrays.{Array, cell, hidden, kind_of, wide, IsArray, IsCell}
+use Rattle.xr_arrays.specs.declared.typed.Cells.{Cells}
+use Rattle.xr_arrays.specs.declared.typed.Cells.TheVariants.{Int16 as short}
 use Rattle.xr_arrays.specs.Elements.{result_kind, takes_one, takes_two, Gives, Suits}
 use Rattle.xr_arrays.specs.Nodes.{node_value, value, values, most_node_cells, IsNode, Pushes}
+use Rattle.plan_core.proofs.Arrangements.{AreParts}
+use Rattle.plan_core.proofs.Concats.{parts_length}
 use Rattle.plan_core.proofs.Fitting.{binary_fits, choose_fits, fold_fits, source_fits, unary_fits, widen_fits}
 use Rattle.plan_core.proofs.Plans.{values-length}
 use Rattle.plan_columns.specs.Columns.{AreOperands, IsColumn, Keeps, Stands}
@@ -103,7 +107,7 @@ unary_stands old new t op kind n count place p a = record {
   kinded = ap (λ (v : Array). v.kind) p.stands;
 }
 
-pub choose_node : (nodes : List Node) (t : DType) (c m n count : ℕ) → count ≤ most_node_cells → Stands nodes (count ∷ []) Bool c → Stands nodes (count ∷ []) t m → Stands nodes (count ∷ []) t n → IsNode (values nodes) (Choose c m n)
+pub choose_node : (nodes : List Node) (t : DType) (c m n count : ℕ) → count ≤ most_node_cells → Stands nodes (count ∷ []) truths c → Stands nodes (count ∷ []) t m → Stands nodes (count ∷ []) t n → IsNode (values nodes) (Choose c m n)
 choose_node nodes t c m n count few test a b =
     let long = values-length nodes in
     let first = a.there in
@@ -143,9 +147,12 @@ operands_stay old new o keeps a = record {
 
 -- ---- arrays
 
+shown_or_not : (t : DType) (n : ℤ) (b : Bool) → IsCell t (Some n) → IsCell t (if b then Some n else None)
+shown_or_not t n true h = h
+shown_or_not t n false h = tt
+
 hidden_cell : (t : DType) (n : ℤ) (b : ℕ) → IsCell t (Some n) → IsCell t (cell (n, b))
-hidden_cell t n zero h = h
-hidden_cell t n (suc b) h = tt
+hidden_cell t n b h = shown_or_not t n (b == 0) h
 
 hidden_zip : (t : DType) (ns : List ℤ) (m : List ℕ) → ((k : ℕ) → k < length ns → IsCell t (Some (get_or ns k (pos 0)))) → All (IsCell t) (map cell (zip ns m))
 hidden_zip t [] m h k d lt = absurd (omega (arith, lt))
@@ -156,3 +163,13 @@ hidden_zip t (n ∷ ns) (b ∷ m) h (suc k) d lt = hidden_zip t ns m (λ i below
 hidden_range : (t : DType) (ns : List ℤ) (m : Option (List ℕ)) → ((k : ℕ) → k < length ns → IsCell t (Some (get_or ns k (pos 0)))) → All (IsCell t) (hidden ns m)
 hidden_range t ns None h = All-from_get_or (IsCell t) (map Some ns) None (λ k lt. let long = length-map ns Some in let below : k < length ns = omega (arith, lt, long) in subst (IsCell t) (sym (get_or-map Some ns k (pos 0) None below)) (h k below))
 hidden_range t ns (Some m) h = hidden_zip t ns m h
+
+-- an array whose cells are 16-bit numbers
+pub short_array : (a : Array) (x : Cells) (m : Option (List ℕ)) (v : List ℤ) → AreParts a x m → x ≡ short v → ((k : ℕ) (z : ℤ) → k < length v → IsCell Int16 (Some (get_or v k z))) → IsArray a
+short_array a x m v parts is h =
+    let kind : a.kind ≡ Int16 = parts.kind ∙ ap kind_of is in
+    let cells : a.cells ≡ hidden v m = parts.cells ∙ ap (λ c. hidden (wide c) m) is in
+    record {
+      whole = parts_length a x m parts;
+      range = subst (λ t. All (IsCell t) a.cells) (sym kind) (subst (All (IsCell Int16)) (sym cells) (hidden_range Int16 v m (λ k lt. h k (pos 0) lt)));
+    }
