@@ -1,15 +1,15 @@
 -- One cell so many times, as an array.
-use Rattle.std.proofs.Common.{◌≡◌, ◌<◌, ◌≤◌, ℕ, ℤ, zero, suc, pos, List, [], ◌∷◌, length, map, zip, replicate, get_or, refl, sym, ap, subst, ◌∙◌, arith}
-use Rattle.std.specs.Prelude.{Option, Some, None, MatchOption, ⊤, option_map}
+use Rattle.std.proofs.Common.{◌≡◌, ◌<◌, ℕ, ℤ, zero, suc, pos, List, [], ◌∷◌, length, map, zip, replicate, get_or, refl, sym, ap, subst, ◌∙◌, arith}
+use Rattle.std.specs.Prelude.{Option, Some, None, MatchOption, ⊤}
 use Rattle.std.proofs.lemmas.List.{length-replicate}
 use Rattle.std.proofs.lemmas.List.Elements.{All-get_or, All-replicate}
 use Rattle.xr_types.specs.Points.{size}
-use Rattle.xr_arrays.specs.Arrays.{Array, cell, hidden, kind_of, wide, InKind, IsArray}
+use Rattle.xr_arrays.specs.Arrays.{Array, cell, hidden, kind_of, wide, InKind}
 use Rattle.xr_arrays.specs.declared.typed.Cells.{Cells}
 use Rattle.xr_arrays.specs.declared.typed.Cells.TheVariants.{Bool, Char, Int8, Int16, Int32, Int64, UInt8, UInt16, UInt32, UInt64}
 use Rattle.cell_strips.specs.Rows.{count, number_at, byte_at, Covers, Parts}
 use Rattle.cell_strips.specs.Strips.{spread, spread_cells, spread_mask}
-use Rattle.cell_strips.proofs.Places.{count_is, seen_at}
+use Rattle.cell_strips.proofs.Places.{seen_at}
 use Rattle.cell_strips.proofs.Results.{AreOf}
 
 map_replicate : {X Y : Type 0} (g : X → Y) (n : ℕ) (x : X) → map g (replicate n x) ≡ replicate n (g x)

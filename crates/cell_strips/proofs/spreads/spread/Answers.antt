@@ -1,6 +1,5 @@
-use Rattle.std.proofs.Common.{◌∙◌, ap, subst, sym, option_map}
+use Rattle.std.proofs.Common.{◌∙◌, ap, option_map}
 use Rattle.xr_arrays.specs.Arrays.{Array}
-use Rattle.cell_strips.specs.Rows.{Parts}
 use Rattle.cell_strips.specs.Strips.{spread}
 use Rattle.cell_strips.proofs.OneCell.{has_one, mask_has_one, spread_here}
 use Rattle.cell_strips.proofs.spreads.spread.Goals as goal
