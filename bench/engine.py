@@ -3,15 +3,13 @@
 
     bench/engine.py [PROGRAM] [--times N]
 
-PROGRAM is the proved `engine_times`, and `plan_times` is taken where a proved build has left it, if it has; each job is run
-N times (seven by default) inside one process, ours and the peer's in turn three times over, and the least counts. A ratio
-above 1 says that the engine is that many times faster.
+PROGRAM is the proved `engine_times`; each job is run N times (seven by default) inside one process, ours and the
+peer's in turn three times over, and the least counts. A ratio above 1 says that the engine is that many times faster.
 Peers that aren't installed are left out, and the output says so. Debian has them as python3-numpy and python3-pandas.
 """
-import os
 import subprocess
 
-from setting import HERE, PYTHON, begin
+from setting import PYTHON, begin
 
 CELLS = "a = ((np.arange(n, dtype='i8') * 31) % 1009 - 504).astype('i4')"
 MASKED = CELLS + "\na = np.ma.MaskedArray(a, mask=np.arange(n) % 7 == 0)"
@@ -119,36 +117,6 @@ JOBS = [
     ("bins of months", "numpy, pandas", HOURS, "g = s.resample('MS').grouper; g.binlabels; g.group_info[0]"),
 ]
 
-SHORTS = """
-def spread(k, by):
-    x = ((k * by) % 1009 - 504).astype('i2')
-    x[x == 0] = 7
-    return x
-def ten(x, b):
-    for turn in range(10):
-        x = x + b if turn % 3 == 0 else x * np.int16(3) if turn % 3 == 1 else x - b
-    return x
-k = np.arange(n, dtype='i8')
-a, b = spread(k, 31), spread(k, 77)
-"""
-STORED_SHORTS = SHORTS + "a, b = a.astype('>i2'), b.astype('>i2')"
-MASKED_SHORTS = SHORTS + "m = k % 7 == 0; a, b = np.ma.MaskedArray(a, mask=m), np.ma.MaskedArray(b, mask=m)"
-STORED_MASKED_SHORTS = SHORTS + "a, b = (np.ma.masked_equal(x, 1).astype('>i2') for x in (a, b))"
-
-# jobs of `plan_times`: nodes of a plan over two arrays of 16-bit numbers
-FORMS = [("typed", SHORTS), ("stored", STORED_SHORTS), ("typed masked", MASKED_SHORTS), ("stored masked", STORED_MASKED_SHORTS)]
-PLANS = [
-    ("a + b", "a + b"),
-    ("(a + b).sum()", "(a + b).sum(dtype='i8')"),
-    ("ten operators", "ten(a, b)"),
-    ("(ten operators).sum()", "ten(a, b).sum(dtype='i8')"),
-    ("(a > b).sum()", "(a > b).sum(dtype='i8')"),
-    ("(a * 3 - b) // 2", "(a * np.int16(3) - b) // np.int16(2)"),
-    ("where(a > b, a, 0)", "np.ma.where(a > b, a, np.int16(0)) if isinstance(a, np.ma.MaskedArray) else np.where(a > b, a, np.int16(0))"),
-    ("where(a > b, a, 0).sum()", "(np.ma.where if isinstance(a, np.ma.MaskedArray) else np.where)(a > b, a, np.int16(0)).sum(dtype='i8')"),
-]
-PLAN_JOBS = [(f"{form} {job}", "numpy", before, code) for form, before in FORMS for job, code in PLANS]
-
 ROUNDS = 3
 SIZES = {job: [1_000_000] for job, packages, _, _ in JOBS if "pandas" in packages}
 
@@ -179,24 +147,15 @@ def ours(program, job, n, times):
     return int(ran.stdout.split()[0]) / 1e9
 
 
-def measure(program, jobs, sizes, times):
-    for job, packages, before, code in jobs:
-        for n in SIZES.get(job, sizes):
+def main():
+    program, times = begin("engine_times", 7)
+    for job, packages, before, code in JOBS:
+        for n in SIZES.get(job, [1 << 22, 1 << 25]):
             rounds = [(ours(program, job, n, times), peer(packages, before, code, n, times)) for _ in range(ROUNDS)]
             least = min(mine for mine, _ in rounds)
             theirs = min(theirs or 0 for _, theirs in rounds)
             line = f"{job}, {n} cells: {least * 1000:.2f} ms"
             print(line + (f"; {packages} {theirs * 1000:.2f} ms, ratio {theirs / least:.2f}" if theirs else f"; skipped, {packages} isn't installed"))
-
-
-def main():
-    program, times = begin("engine_times", 7)
-    measure(program, JOBS, [1 << 22, 1 << 25], times)
-    plans = os.path.join(HERE, "..", "crates", "plan_times", "out", "plan_times")
-    if os.path.exists(plans):
-        measure(plans, PLAN_JOBS, [33_000_000], times)
-    else:
-        print("skipped: the jobs of plan_times, which isn't built")
 
 
 main()

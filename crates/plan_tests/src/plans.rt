@@ -86,8 +86,8 @@ fn typed_numbers(alloc: Global, typed: &Typed) -> Result<Vec<Option<i128>>, Allo
     }
 }
 
-/// The cells of an array, as numbers or holes.
-pub(crate) fn numbers_of(alloc: Global, a: &ArrayValue) -> Result<Vec<Option<i128>>, AllocError>
+// The cells of an array, as numbers or holes.
+fn numbers_of(alloc: Global, a: &ArrayValue) -> Result<Vec<Option<i128>>, AllocError>
     ensures cells { IfOk result (λ v. v.items ≡ a.now.cells) }
     ensures range { IfOk result (λ v. All (IsCell a.now.kind) v.items) }
 {
@@ -230,8 +230,7 @@ fn sources(alloc: Global) -> Result<Plan, AllocError>
     Ok(plan)
 }
 
-/// The cells of a node, if there is memory.
-pub(crate) fn computed<R: Threads + Sync>(
+fn computed<R: Threads + Sync>(
     rt: &R,
     alloc: Global,
     plan: &Plan,
