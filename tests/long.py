@@ -3,7 +3,7 @@
 
     long.py PROGRAM
 
-Cells are computed in strips of 16,384, folded and searched in tables whose sizes go with their labels, and masks are counted by 240
+Cells are computed in strips of 4,096, folded and searched in tables whose sizes go with their labels, and masks are counted by 240
 bytes; the other tests have arrays of few cells. Here each has 70,001, or two dimensions of 263 and 271; there are 20,011 groups,
 20,000 texts, 70,071 bins, and 400 labels that a table would all keep at one place. Each value is worked out below by plain loops over Python's numbers, and printed by the program; files
 are read by the plain reader of classic.py. The last line is 'N the same, M differ'.

@@ -5,3 +5,4 @@ pub mod CellByCell
 pub mod EachCell
 pub mod Results
 pub mod StripLaws
+pub mod OneCell

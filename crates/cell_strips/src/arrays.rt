@@ -153,8 +153,8 @@ fn present(alloc: Global, shape: &[u64], a: &Typed) -> Result<ArrayValue, AllocE
     Ok(array(shape, Cells::Bool(truths), None))
 }
 
-/// An operation of one operand on each cell.
-pub(crate) fn operate_one(
+/// An operation of one operand on each cell, in one go: of a strip, or of an array as small as one.
+pub fn operate_one(
     alloc: Global,
     op: OpKind,
     kind: DType,
@@ -175,8 +175,8 @@ pub(crate) fn operate_one(
     }
 }
 
-/// An operation on the cells of two arrays.
-pub(crate) fn operate_two(
+/// An operation on the cells of two arrays, in one go.
+pub fn operate_two(
     alloc: Global,
     op: OpKind,
     a: &ArrayValue,
@@ -233,8 +233,8 @@ fn choose_typed(
     Ok(array(shape, cells, mask))
 }
 
-/// The cells of one array where a truth value is 1, and those of another where it is 0.
-pub(crate) fn choose_cells(
+/// The cells of one array where a truth value is 1, and those of another where it is 0, in one go.
+pub fn choose_cells(
     alloc: Global,
     cond: &ArrayValue,
     a: &ArrayValue,

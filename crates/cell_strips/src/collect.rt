@@ -1,5 +1,5 @@
 //! Arrays that come strip by strip.
-ghost use Rattle.std.specs.Prelude.{◌≡◌, ◌≤◌, ◌+◌, ◌++◌, ℕ, List, [], length, replicate, take, min, MatchOption, ⊤, Option, None, IfOk, option_map};
+ghost use Rattle.std.specs.Prelude.{◌≡◌, ◌<◌, ◌≤◌, ◌+◌, ◌++◌, ℕ, List, [], length, replicate, take, MatchOption, ⊤, Option, None, IfOk, option_map};
 ghost use Rattle.xr_types.specs.Points.{size};
 ghost use Rattle.xr_arrays.specs.Arrays.{Array, kind_of, wide, hidden, InKind, IsArray};
 ghost use Rattle.xr_arrays.specs.Nodes.{most_node_cells};
@@ -13,8 +13,10 @@ use stored_cells::as_typed;
 use xr_arrays::{ArrayValue, Cells};
 use xr_types::{DType, Elem, Items};
 
-// How many cells a strip has: few enough for the strips of some operands and their masks to stay in a processor's own memory.
-const STRIP: usize = 16_384;
+// How many cells a strip has: few enough for the strips of some operands and their masks to stay in a processor's own memory,
+// and to be laid each time where those before them lay: the C library hands memory back to the system, and takes it fresh from
+// there again, where more than 128 KiB at the end of its heap are free.
+const STRIP: usize = 4_096;
 
 /// What gives the strips of an array.
 pub trait Strips {
@@ -161,10 +163,12 @@ fn append(
     Ok(Collected { cells, mask })
 }
 
-fn least(a: usize, b: usize) -> usize
-    ensures { result ≡ min a b }
+/// How many cells the next strip has, where so many are left.
+pub fn strip_length(left: usize) -> usize
+    ensures inside { result ≤ left }
+    ensures some { 0 < left → 0 < result }
 {
-    if a < b { a } else { b }
+    if left < STRIP { left } else { STRIP }
 }
 
 // The cells so far, and those of the next strip.
@@ -210,7 +214,7 @@ fn collect_cells<S: Strips>(
     };
     let mut from = 0;
     'strips: while from < total {
-        let n = least(total - from, STRIP);
+        let n = strip_length(total - from);
         all = one_more(alloc, source, all, from, n, total)?;
         from += n;
     }

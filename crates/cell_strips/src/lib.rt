@@ -9,8 +9,11 @@ mod numbers;
 mod operations;
 mod rows;
 mod signs;
+mod spreads;
 mod strip;
 
-pub use collect::{Strips, collect_strips};
-pub use operations::{binary, choose, unary};
+pub use arrays::{choose_cells, operate_one, operate_two};
+pub use collect::{Strips, collect_strips, strip_length};
+pub use operations::unary;
+pub use spreads::spread;
 pub use strip::strip_of;

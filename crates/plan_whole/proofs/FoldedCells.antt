@@ -1,24 +1,22 @@
 -- A fold of cells in row order is the value of a node that folds.
-use Rattle.std.proofs.Common.{◌≡◌, ◌<◌, ◌≤◌, ◌+◌, ◌-◌, ◌^◌, ℕ, ℤ, List, [], ◌∷◌, ◌++◌, length, map, drop, get_or, min, Option, Some, None, refl, sym, ap, subst, ◌∙◌, arith, append_assoc, append-nil}
+use Rattle.std.proofs.Common.{◌≡◌, ◌<◌, ◌≤◌, ◌+◌, ℕ, ℤ, List, [], ◌∷◌, ◌++◌, length, map, drop, get_or, Option, Some, None, refl, sym, ap, ◌∙◌, arith, append_assoc, append-nil}
 use Rattle.std.specs.Int.{int_wrap, w64}
 use Rattle.std.specs.List.{range_with_len}
 use Rattle.std.proofs.lemmas.List.{drop_all}
-use Rattle.std.proofs.lemmas.List.FromFn.{map-range_with_len_more}
 use Rattle.xr_types.specs.Kinds.{wrap_to}
 use Rattle.xr_types.specs.declared.kind.DType.{DType}
-use Rattle.xr_types.specs.declared.operation.FoldKind.{FoldKind}
 use Rattle.xr_types.specs.declared.operation.FoldKind.TheVariants.{Sum}
-use Rattle.xr_types.specs.Points.{size, tab, place, IsPoint}
+use Rattle.xr_types.specs.Points.{size, tab}
 use Rattle.xr_arrays.specs.declared.node.Feed.{Feed}
 use Rattle.xr_arrays.specs.declared.node.Feed.TheVariants as feed
-use Rattle.xr_arrays.specs.Arrays.{Array, at, made, IsArray}
-use Rattle.xr_arrays.specs.Folds.{fold_of, folded_kind, sum_of, total_kind}
-use Rattle.xr_arrays.specs.Nodes.{folded, gathered, kept, AreFed, most_node_cells}
+use Rattle.xr_arrays.specs.Arrays.{Array, at, made}
+use Rattle.xr_arrays.specs.Folds.{fold_of, sum_of, total_kind}
+use Rattle.xr_arrays.specs.Nodes.{folded, gathered, kept}
 use Rattle.plan_core.specs.Rows.{those}
 use Rattle.plan_core.proofs.FoldRows.{those_pairs}
 use Rattle.plan_core.proofs.Steps.{first_at}
 use Rattle.plan_core.proofs.Tabs.{flat_same, map-flat, tab_read}
-use Rattle.plan_core.proofs.Valued.{fed_most, folded_is, made_is}
+use Rattle.plan_core.proofs.Valued.{made_is}
 use Rattle.plan_core.proofs.ElementRanges.{wrap_in}
 use Rattle.plan_whole.specs.Folded.{kept_one}
 use Rattle.plan_whole.proofs.EachCell.{are_those, AreThose}

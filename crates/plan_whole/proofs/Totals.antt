@@ -1,12 +1,14 @@
 -- Sums that were wrapped at 64 bits, as the kind of sums wraps them.
-use Rattle.std.proofs.Common.{◌≡◌, ℤ, pos, ◌+ℤ◌, ◌*ℤ◌, refl, sym, ap, ◌∙◌, arith}
+use Rattle.std.proofs.Common.{◌≡◌, ℕ, ℤ, pos, ◌+◌, ◌+ℤ◌, ◌*ℤ◌, List, [], ◌∷◌, ◌++◌, take, drop, Option, Some, None, refl, sym, ap, ◌∙◌, arith}
 use Rattle.std.specs.Int.{int_wrap, w64}
-use Rattle.std.proofs.lemmas.Int.{ints}
+use Rattle.std.proofs.lemmas.Int.{ints, int_wrap-add_left, int_wrap-add_right}
+use Rattle.std.proofs.Math.Seq.{take-add}
 use Rattle.xr_types.specs.Kinds.{count_of, wrap_to}
 use Rattle.xr_types.specs.declared.kind.DType.{DType}
 use Rattle.xr_types.specs.declared.kind.DType.TheVariants as kinds
 use Rattle.xr_types.proofs.Wrapping.{wrapped_is, wrapped_only}
-use Rattle.xr_arrays.specs.Folds.{total_kind}
+use Rattle.xr_arrays.specs.Folds.{sum_of, total_kind}
+use Rattle.plan_core.specs.Rows.{those}
 
 -- a kind of as many numbers as 64 bits have
 abbrev turn : ℤ
@@ -47,3 +49,23 @@ total_differs kinds.UInt8 e = cc
 total_differs kinds.UInt16 e = cc
 total_differs kinds.UInt32 e = cc
 total_differs kinds.UInt64 e = cc
+
+-- ---- sums of parts
+
+none_before : (n : ℤ) → n ≡ pos 0 +ℤ n
+none_before n = omega (arith, ints)
+
+one_before : (x a b : ℤ) → x +ℤ (a +ℤ b) ≡ (x +ℤ a) +ℤ b
+one_before x a b = omega (arith, ints)
+
+sum_both : (xs ys : List (Option ℤ)) → sum_of (those (xs ++ ys)) ≡ sum_of (those xs) +ℤ sum_of (those ys)
+sum_both [] ys = none_before (sum_of (those ys))
+sum_both (None ∷ xs) ys = sum_both xs ys
+sum_both (Some x ∷ xs) ys = ap (λ k. x +ℤ k) (sum_both xs ys) ∙ one_before x (sum_of (those xs)) (sum_of (those ys))
+
+-- the sum with the cells of one part more
+pub part_more : (xs : List (Option ℤ)) (f n : ℕ) (before part all : ℤ) → before ≡ int_wrap w64 (sum_of (those (take f xs))) → part ≡ int_wrap w64 (sum_of (those (take n (drop f xs)))) → all ≡ int_wrap w64 (before +ℤ part) → all ≡ int_wrap w64 (sum_of (those (take (f + n) xs)))
+part_more xs f n before part all is_before is_part is_all =
+    let a = sum_of (those (take f xs)) in
+    let b = sum_of (those (take n (drop f xs))) in
+    is_all ∙ (λ i. int_wrap w64 (is_before i +ℤ is_part i)) ∙ int_wrap-add_left w64 a (int_wrap w64 b) ∙ int_wrap-add_right w64 a b ∙ ap (int_wrap w64) (sym (sum_both (take f xs) (take n (drop f xs)))) ∙ ap (λ t. int_wrap w64 (sum_of (those t))) (sym (take-add f n xs))

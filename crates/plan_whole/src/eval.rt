@@ -1,15 +1,18 @@
 //! The value of a node from those of its inputs.
-ghost use Rattle.std.specs.Prelude.{◌≡◌, ◌<◌, [], length, All, IfOk};
-ghost use Rattle.xr_arrays.specs.Nodes.{value, node_of, AllFit};
+ghost use Rattle.std.specs.Prelude.{◌≡◌, ◌<◌, ◌≤◌, [], length, true, false, All, IfOk};
+ghost use Rattle.xr_types.specs.Points.{size};
+ghost use Rattle.xr_arrays.specs.Nodes.{value, node_of, folded, kept, most_node_cells, AllFit, AreFed};
 ghost use Rattle.plan_core.specs.Needs.{inputs_at, IsHeld, IsReady};
+ghost use Rattle.plan_needs.specs.Trees.{takes_in_strips, takes_strips, IsStrand, IsTree};
 
-use crate::fold::fold;
-use crate::inputs::{input, inputs};
-use arrangement::{concat, reorder, take, widen};
-use cell_strips::{binary, choose, unary};
+use crate::fold::{fold, sum_strips, sums_all};
+use crate::strips::{Tree, collect, computed_sizes, standing};
+use arrangement::{concat, points, reorder, take, widen};
+use plan_needs::{comes_in_strips, input, inputs};
 use row_folds::scan;
 use std::alloc::{AllocError, Global};
-use xr_arrays::{ArrayValue, Node};
+use xr_arrays::{ArrayValue, Feed, Node};
+use xr_types::FoldKind;
 
 // The value of a node whose inputs are held.
 fn value_of(
@@ -18,7 +21,8 @@ fn value_of(
     done: &[Option<ArrayValue>],
     node: &Node,
 ) -> Result<ArrayValue, AllocError>
-    requires { IsReady nodes.now done.now node.now }
+    requires ready { IsReady nodes.now done.now node.now }
+    requires whole { takes_strips node.now ≡ false }
     ensures { IfOk result (λ a. a ≡ node_of (value nodes.now) node.now) }
 {
     match node {
@@ -45,28 +49,6 @@ fn value_of(
             axis,
             size,
         } => widen(alloc, input(nodes, done, *id), *axis, *size),
-        Node::Unary {
-            op,
-            kind,
-            input: id,
-        } => unary(alloc, *op, *kind, input(nodes, done, *id)),
-        Node::Binary { op, a, b } => binary(
-            alloc,
-            *op,
-            input(nodes, done, *a),
-            input(nodes, done, *b),
-        ),
-        Node::Choose { cond, a, b } => choose(
-            alloc,
-            input(nodes, done, *cond),
-            input(nodes, done, *a),
-            input(nodes, done, *b),
-        ),
-        Node::Fold {
-            fold: kind,
-            input: id,
-            feeds,
-        } => fold(alloc, *kind, input(nodes, done, *id), feeds.as_slice()),
         // The fold is the sum: no other may be asked for.
         Node::Scan {
             input: id,
@@ -78,10 +60,58 @@ fn value_of(
             concat(alloc, &arrays, *axis)
         }
         Node::Chunk { input: id, .. } => input(nodes, done, *id).copy(alloc),
+        Node::Unary { .. } | Node::Binary { .. } => unreachable!(),
+        Node::Choose { .. } | Node::Fold { .. } => unreachable!(),
     }
 }
 
-/// The value of a node of a plan whose inputs are held.
+// The fold of a node whose cells come strip by strip: for the sum of all, no more than a strip of them is there at a time.
+fn fold_tree(
+    alloc: Global,
+    nodes: &[Node],
+    done: &[Option<ArrayValue>],
+    kind: FoldKind,
+    at: usize,
+    feeds: &[Feed],
+) -> Result<ArrayValue, AllocError>
+    requires tree { IsTree nodes.now done.now at }
+    requires feeds { length feeds.now ≡ length (value nodes.now at).shape }
+    requires fed { AreFed feeds.now (value nodes.now at).shape }
+    requires small { size (kept feeds.now (value nodes.now at).shape) ≤ most_node_cells }
+    ensures { IfOk result (λ b. b ≡ folded kind feeds.now (value nodes.now at)) }
+{
+    let sizes = computed_sizes(alloc, nodes, done, at)?;
+    let all = sums_all(alloc, kind, feeds, &sizes)?;
+    if all {
+        let count = points(&sizes) as usize;
+        return sum_strips(alloc, &Tree { nodes, done, at }, count);
+    }
+    let a = collect(alloc, nodes, done, at)?;
+    fold(alloc, kind, &a, feeds)
+}
+
+// The fold of a node whose cells may come strip by strip.
+fn fold_of(
+    alloc: Global,
+    nodes: &[Node],
+    done: &[Option<ArrayValue>],
+    kind: FoldKind,
+    at: usize,
+    feeds: &[Feed],
+) -> Result<ArrayValue, AllocError>
+    requires strand { IsStrand nodes.now done.now at }
+    requires feeds { length feeds.now ≡ length (value nodes.now at).shape }
+    requires fed { AreFed feeds.now (value nodes.now at).shape }
+    requires small { size (kept feeds.now (value nodes.now at).shape) ≤ most_node_cells }
+    ensures { IfOk result (λ b. b ≡ folded kind feeds.now (value nodes.now at)) }
+{
+    match standing(nodes, done, at) {
+        Some(a) => fold(alloc, kind, a, feeds),
+        None => fold_tree(alloc, nodes, done, kind, at, feeds),
+    }
+}
+
+/// The value of a node of a plan, where strips of its inputs can be computed, and its inputs are held unless it takes strips.
 pub fn compute(
     alloc: Global,
     nodes: &[Node],
@@ -90,8 +120,20 @@ pub fn compute(
 ) -> Result<ArrayValue, AllocError>
     requires fit { AllFit [] nodes.now }
     requires inside { at < length nodes.now }
-    requires held { All (IsHeld nodes.now done.now) (inputs_at nodes.now at) }
+    requires strands { All (IsStrand nodes.now done.now) (inputs_at nodes.now at) }
+    requires held { takes_in_strips nodes.now at ≡ false → All (IsHeld nodes.now done.now) (inputs_at nodes.now at) }
     ensures { IfOk result (λ a. a ≡ value nodes.now at) }
 {
-    value_of(alloc, nodes, done, &nodes[at])
+    if comes_in_strips(nodes, at) {
+        return collect(alloc, nodes, done, at);
+    }
+    let node = &nodes[at];
+    match node {
+        Node::Fold {
+            fold: kind,
+            input: id,
+            feeds,
+        } => fold_of(alloc, nodes, done, *kind, *id as usize, feeds.as_slice()),
+        _ => value_of(alloc, nodes, done, node),
+    }
 }

@@ -10,7 +10,8 @@ ghost use Rattle.plan_core.specs.Rows.{those};
 ghost use Rattle.plan_whole.specs.Folded.{kept_one};
 
 use crate::numbers::array_of;
-use crate::total::total;
+use crate::total::{total, total_strips};
+use cell_strips::Strips;
 use std::alloc::{AllocError, Global};
 use xr_arrays::{ArrayValue, Feed};
 use xr_types::{DType, FoldKind, Items, is_unsigned, wrap};
@@ -56,15 +57,31 @@ fn kept_sizes(alloc: Global, feeds: &[Feed], shape: &[u64]) -> Result<Vec<u64>, 
     Ok(sizes)
 }
 
-// Whether a fold that keeps axes of these sizes is the sum of all cells.
-fn sums_all(fold: FoldKind, sizes: &[u64]) -> bool
-    ensures sum { result ≡ true → fold ≡ Sum }
-    ensures all { result ≡ true → sizes.now ≡ [] }
+fn is_sum(fold: FoldKind) -> bool
+    ensures { result ≡ true → fold ≡ Sum }
 {
     match fold {
-        FoldKind::Sum => sizes.is_empty(),
+        FoldKind::Sum => true,
         _ => false,
     }
+}
+
+/// Whether a fold of an array with these sizes is the sum of all its cells.
+pub fn sums_all(
+    alloc: Global,
+    fold: FoldKind,
+    feeds: &[Feed],
+    shape: &[u64],
+) -> Result<bool, AllocError>
+    requires { length feeds.now ≡ length shape.now }
+    ensures sum { IfOk result (λ b. b ≡ true → fold ≡ Sum) }
+    ensures all { IfOk result (λ b. b ≡ true → kept feeds.now shape.now ≡ []) }
+{
+    if !is_sum(fold) {
+        return Ok(false);
+    }
+    let sizes = kept_sizes(alloc, feeds, shape)?;
+    Ok(sizes.as_slice().is_empty())
 }
 
 // The sum of all cells.
@@ -76,6 +93,28 @@ fn sum(alloc: Global, a: &ArrayValue) -> Result<ArrayValue, AllocError>
         total_kind(a.kind()),
         Items::new(alloc),
         &[Some(as_total(a.kind(), total(a)))],
+    )
+}
+
+/// The sum of all cells of an array that comes strip by strip. `count` is how many cells the array has.
+pub fn sum_strips<S: Strips>(
+    alloc: Global,
+    source: &S,
+    count: usize,
+) -> Result<ArrayValue, AllocError>
+    requires ready { S.Ready source.now }
+    requires array { IsArray (S.whole source.now) }
+    requires count { count ≡ size (S.whole source.now).shape }
+    ensures { IfOk result (λ b. b ≡ made (total_kind (S.whole source.now).kind) [] (λ p. Some (wrap_to (total_kind (S.whole source.now).kind) (sum_of (those (S.whole source.now).cells))))) }
+{
+    let none = source.strip(alloc, 0, 0)?;
+    let kind = none.kind();
+    let total = total_strips(alloc, source, count)?;
+    array_of(
+        alloc,
+        total_kind(kind),
+        Items::new(alloc),
+        &[Some(as_total(kind, total))],
     )
 }
 
@@ -93,8 +132,8 @@ pub fn fold(
     requires small { size (kept feeds.now a.now.shape) ≤ most_node_cells }
     ensures { IfOk result (λ b. b ≡ folded fold feeds.now a.now) }
 {
-    let sizes = kept_sizes(alloc, feeds, a.shape())?;
-    if sums_all(fold, &sizes) {
+    let all = sums_all(alloc, fold, feeds, a.shape())?;
+    if all {
         return sum(alloc, a);
     }
     row_folds::fold(alloc, fold, a, feeds)

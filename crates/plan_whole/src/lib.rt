@@ -1,11 +1,11 @@
-//! What computes the nodes of a plan one after the other, each as a whole array.
+//! What computes the nodes of a plan: those that serve one other node cell by cell come strip by strip, the others each as a
+//! whole array.
 #![tactic(auto)]
 
 mod eval;
 mod fold;
-mod inputs;
-mod mark;
 mod numbers;
+mod strips;
 mod total;
 mod whole;
 

@@ -1,11 +1,13 @@
 //! The sum of all cells of an array.
-ghost use Rattle.std.specs.Prelude.{◌≡◌, ◌==◌, ℤ, List, length, map, zip, Option, Some, None, IfSome, ◌+ℤ◌, ◌∷◌, option_map};
+ghost use Rattle.std.specs.Prelude.{◌≡◌, ◌==◌, ◌≤◌, ◌+◌, ℤ, List, length, map, zip, take, Option, Some, None, IfOk, IfSome, ◌+ℤ◌, ◌∷◌, option_map};
 ghost use Rattle.std.specs.Int.{int_wrap, w64};
 ghost use Rattle.xr_types.specs.Points.{size};
-ghost use Rattle.xr_arrays.specs.Arrays.{cell, hidden, wide};
+ghost use Rattle.xr_arrays.specs.Arrays.{cell, hidden, wide, IsArray};
 ghost use Rattle.xr_arrays.specs.Folds.{sum_of};
 ghost use Rattle.plan_core.specs.Rows.{those};
 
+use cell_strips::{Strips, strip_length};
+use std::alloc::{AllocError, Global};
 use stored_cells::sum;
 use xr_arrays::{ArrayValue, Cells, Form, StoredArray, TypedArray};
 use xr_types::{Elem, Items};
@@ -106,4 +108,39 @@ pub fn total(a: &ArrayValue) -> i64
         Form::Typed(array) => total_typed(array),
         Form::Stored(array) => total_stored(array),
     }
+}
+
+// The sum with the cells of the next strip.
+fn more_strip<S: Strips>(
+    alloc: Global,
+    source: &S,
+    so_far: i64,
+    from: usize,
+    n: usize,
+) -> Result<i64, AllocError>
+    requires ready { S.Ready source.now }
+    requires inside { from + n ≤ size (S.whole source.now).shape }
+    requires so_far { so_far ≡ int_wrap w64 (sum_of (those (take from (S.whole source.now).cells))) }
+    ensures { IfOk result (λ k. k ≡ int_wrap w64 (sum_of (those (take (from + n) (S.whole source.now).cells)))) }
+{
+    let strip = source.strip(alloc, from, n)?;
+    Ok(added(so_far, total(&strip)))
+}
+
+/// The sum of the cells that aren't missing of an array that comes strip by strip, wrapped at 64 bits. `count` is how many
+/// cells the array has.
+pub fn total_strips<S: Strips>(alloc: Global, source: &S, count: usize) -> Result<i64, AllocError>
+    requires ready { S.Ready source.now }
+    requires array { IsArray (S.whole source.now) }
+    requires count { count ≡ size (S.whole source.now).shape }
+    ensures { IfOk result (λ k. k ≡ int_wrap w64 (sum_of (those (S.whole source.now).cells))) }
+{
+    let mut sum = 0;
+    let mut from = 0;
+    'strips: while from < count {
+        let n = strip_length(count - from);
+        sum = more_strip(alloc, source, sum, from, n)?;
+        from += n;
+    }
+    Ok(sum)
 }

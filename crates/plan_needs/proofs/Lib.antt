@@ -1,0 +1,4 @@
+pub mod Marks
+pub mod Strands
+pub mod Ready
+pub mod Spreads
