@@ -62,6 +62,10 @@ JOBS = [
         ("cast", "np.copyto(w, a)"),
         ("line scan", "np.cumsum(a, dtype='i8', out=w)"),
     ]),
+    *((f"{job} by 7", "numpy", CELLS + "\no, d = np.zeros(n, 'i4'), np.int32(7)", code) for job, code in [
+        ("floor divide", "np.floor_divide(a, d, out=o)"),
+        ("remainder", "np.remainder(a, d, out=o)"),
+    ]),
     *((f"masked {job}", "numpy", MASKED_OPERANDS, code) for job, code in [
         ("add", "a + b"),
         ("multiply", "a * b"),

@@ -302,6 +302,12 @@ def table(program, folder):
         for op in ARITHMETIC + BITS + COMPARISONS:
             lines.append(f"print(a {op} b)")
             expected.append((f"{kind} {op}", of_numpy(["x", "y"], by_numpy(op, p, q), False)))
+        # By a literal each row has one divisor, whose quotients come from products.
+        for op in ("//", "%"):
+            for n in sorted({*some, 7, 10, *([-3, -10] if some[0] < 0 else [])}):
+                lines.append(f"print(a {op} ({n}))")
+                divided = by_numpy(op, numpy.array(some, dtype=kind), numpy.array(n, dtype=kind))
+                expected.append((f"{kind} {op} {n}", of_numpy(["x"], divided, False)))
         with numpy.errstate(all="ignore"):
             whole = "uint64" if kind.startswith("u") else "int64"
             v = numpy.array(some, dtype=kind)

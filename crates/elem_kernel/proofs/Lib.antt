@@ -1,4 +1,6 @@
 pub mod Bounds
+pub mod ByProducts
 pub mod Made
 mod Products
 pub mod Rounding
+pub mod Wholes

@@ -3,3 +3,4 @@ pub mod Masks
 pub mod Numbers
 pub mod Pairs
 pub mod Truths
+pub mod Reciprocals

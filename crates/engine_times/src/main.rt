@@ -5,6 +5,7 @@
 mod elements;
 mod folds;
 mod labels;
+mod literals;
 mod times;
 
 use anyhow::{Context, Result};
@@ -84,6 +85,9 @@ fn timed<C: Clock>(
                 times,
             )?;
             Ok((found, number))
+        }
+        "floor divide by 7" | "remainder by 7" => {
+            literals::timed(clock, alloc, job, cells, times)
         }
         "month" => times::field_timed(clock, alloc, Field::Month, cells, times),
         "day of year" => times::field_timed(clock, alloc, Field::DayOfYear, cells, times),
