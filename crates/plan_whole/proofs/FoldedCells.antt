@@ -1,7 +1,7 @@
 -- A fold of cells in row order is the value of a node that folds.
-use Rattle.std.proofs.Common.{◌≡◌, ◌<◌, ◌≤◌, ◌+◌, ℕ, ℤ, List, [], ◌∷◌, ◌++◌, length, map, drop, get_or, Option, Some, None, refl, sym, ap, ◌∙◌, arith, append_assoc, append-nil}
+use Rattle.std.proofs.Common.{◌≡◌, ◌<◌, ◌≤◌, ◌+◌, ℕ, ℤ, zero, suc, List, [], ◌∷◌, ◌++◌, length, map, drop, get_or, Option, Some, None, refl, sym, ap, subst, ◌∙◌, arith, append_assoc, append-nil}
 use Rattle.std.specs.Int.{int_wrap, w64}
-use Rattle.std.specs.List.{range_with_len}
+use Rattle.std.specs.List.{range_with_len, All}
 use Rattle.std.proofs.lemmas.List.{drop_all}
 use Rattle.xr_types.specs.Kinds.{wrap_to}
 use Rattle.xr_types.specs.declared.kind.DType.{DType}
@@ -9,7 +9,7 @@ use Rattle.xr_types.specs.declared.operation.FoldKind.TheVariants.{Sum}
 use Rattle.xr_types.specs.Points.{size, tab}
 use Rattle.xr_arrays.specs.declared.node.Feed.{Feed}
 use Rattle.xr_arrays.specs.declared.node.Feed.TheVariants as feed
-use Rattle.xr_arrays.specs.Arrays.{Array, at, made}
+use Rattle.xr_arrays.specs.Arrays.{Array, at, made, IsCell}
 use Rattle.xr_arrays.specs.Folds.{fold_of, sum_of, total_kind}
 use Rattle.xr_arrays.specs.Nodes.{folded, gathered, kept}
 use Rattle.plan_core.specs.Rows.{those}
@@ -67,3 +67,12 @@ pub total_here : (kind t u : DType) (a : Array) (x total : ℤ) (shape : List �
 total_here kind t u a x total shape cells is_kind is_t is_x is_u is_total is_shape is_cells =
     are_those (summed a.kind a.cells) kind shape cells (made_is (total_kind a.kind) [] (λ p. Some (wrap_to (total_kind a.kind) (sum_of (those a.cells)))) (λ p here. wrap_in (total_kind a.kind) (sum_of (those a.cells)))) (is_kind ∙ ap total_kind is_t) is_shape
     (is_cells ∙ ap (λ n. Some n ∷ []) (is_x ∙ (λ i. wrap_to (total_kind (is_u i)) (is_total i)) ∙ wrapped_again a.kind (sum_of (those a.cells))))
+
+one_in : (t : DType) (n : ℤ) → IsCell t (Some n) → All (IsCell t) (Some n ∷ [])
+one_in t n h zero d lt = h
+one_in t n h (suc k) d lt = absurd (omega (arith, lt))
+
+-- a sum is in the range of its kind
+pub total_in : (kind t : DType) (x y total : ℤ) → kind ≡ total_kind t → x ≡ wrap_to (total_kind t) total → y ≡ x → All (IsCell kind) (Some y ∷ [])
+total_in kind t x y total is_kind is_x is_y =
+    subst (λ k. All (IsCell k) (Some y ∷ [])) (sym is_kind) (subst (λ n. All (IsCell (total_kind t)) (Some n ∷ [])) (sym (is_y ∙ is_x)) (one_in (total_kind t) (wrap_to (total_kind t) total) (wrap_in (total_kind t) total)))

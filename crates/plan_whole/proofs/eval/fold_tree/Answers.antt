@@ -1,4 +1,4 @@
-use Rattle.std.proofs.Common.{◌≡◌, ◌≤◌, ◌∙◌, [], ap, sym, subst, arith, length, List}
+use Rattle.std.proofs.Common.{◌≡◌, ◌≤◌, ◌∙◌, [], ap, sym, arith, length}
 use Rattle.xr_types.specs.Points.{size}
 use Rattle.xr_arrays.specs.Nodes.{folded, kept, nothing, value, most_node_cells}
 use Rattle.xr_arrays.specs.declared.node.Node.TheVariants.{Source}
@@ -18,7 +18,7 @@ sum_strips-requires-clause-array c = value_is_array c.args.nodes.now c.args.at c
 pub sum_strips-requires-clause-count : goal.sum_strips-requires-clause-count
 sum_strips-requires-clause-count c =
     let small : size (value c.args.nodes.now c.args.at).shape ≤ most_node_cells = value_small c.args.nodes.now c.args.at (Source nothing) c.requires.tree.fit c.requires.tree.at_there in
-    let e : size c.deref-2.result.now ≡ size (value c.args.nodes.now c.args.at).shape = ap size (c.deref-2.ensures.value ∙ c.in_ok-sizes.ensures) in
+    let e : size c.deref-then-all.result.now ≡ size (value c.args.nodes.now c.args.at).shape = ap size (c.deref-then-all.ensures.value ∙ c.in_ok-sizes.ensures) in
     let p = c.points-count.ensures in
     omega (arith, small, e, p)
 

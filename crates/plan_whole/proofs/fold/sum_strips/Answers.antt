@@ -5,8 +5,11 @@ use Rattle.xr_types.specs.Kinds.{wrap_to}
 use Rattle.xr_arrays.specs.Arrays.{Array}
 use Rattle.xr_arrays.specs.Folds.{total_kind}
 use Rattle.plan_core.proofs.Takes.{if_ok}
-use Rattle.plan_whole.proofs.FoldedCells.{total_here}
+use Rattle.plan_whole.proofs.FoldedCells.{total_here, total_in}
 use Rattle.plan_whole.proofs.fold.sum_strips.Goals as goal
+
+pub array_of-requires-clause-range : goal.array_of-requires-clause-range
+array_of-requires-clause-range g c = total_in c.total_kind.result c.kind-kind.result c.as_total.result _ _ c.total_kind.ensures c.as_total.ensures (to_z-of_z w128 c.as_total.result (search rules))
 
 pub returns : goal.returns
 returns g c =
