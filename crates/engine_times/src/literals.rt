@@ -1,25 +1,23 @@
 //! Quotients and remainders of a row of cells by one divisor.
-ghost use Rattle.std.specs.Prelude.{◌≡◌, length};
-
 use anyhow::{Context, Result};
 use elem_kernel::Divisor;
 use std::alloc::Global;
 use std::rt::Clock;
 use std::time::Instant;
 
-fn divide(cells: &[i32], by: &Divisor<i32>, out: &mut [i32])
-    requires { length out.old ≡ length cells.now }
-    ensures { length out.new ≡ length cells.now }
-{
+fn divide(cells: &[i32], by: &Divisor<i32>, out: &mut [i32]) {
+    if out.len() != cells.len() {
+        return;
+    }
     for i in 0..cells.len() {
         out[i] = by.quotient(cells[i]);
     }
 }
 
-fn leave(cells: &[i32], by: &Divisor<i32>, out: &mut [i32])
-    requires { length out.old ≡ length cells.now }
-    ensures { length out.new ≡ length cells.now }
-{
+fn leave(cells: &[i32], by: &Divisor<i32>, out: &mut [i32]) {
+    if out.len() != cells.len() {
+        return;
+    }
     for i in 0..cells.len() {
         out[i] = by.remainder(cells[i]);
     }
