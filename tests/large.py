@@ -1,11 +1,12 @@
 #!/usr/bin/env python3
-"""Runs scripts with lists and names as many as a script has room for, with 20,000 keywords or keys in one call, and with 4,000
-aligned values.
+"""Runs scripts with lists and names as many as a script has room for, with 20,000 keywords or keys in one call, and with up to
+100,000 values in one call.
 
     large.py PROGRAM
 
 None may end by a signal or take more than a minute, and each has to print what is worked out here by hand. Keywords are
-compared with each other, so their time grows by the square of their count: that is why there are no more of them.
+compared with each other, so their time grows by the square of their count: that is why there are no more of them. So does that of
+values that are put together, whose names are looked up in each other; those that are aligned or refused take little.
 """
 import os
 import struct
@@ -16,7 +17,10 @@ import tempfile
 MOST_BYTES = 1 << 20
 SECONDS = 60
 KEYWORDS = 20_000
-ALIGNED = 4_000
+PUT_TOGETHER = 8_000
+MERGED = 16_000
+TILES = 4_000
+ALIGNED = 100_000
 BARE = 'a = DataArray([1, 2], dims=["x"])\n'
 SET = BARE + 'd = a.to_dataset(name="v")\n'
 
@@ -72,14 +76,28 @@ def jobs():
     places, count = as_many(lambda i: "1")
     yield "one label is selected many times", f"{labelled}print(a.sel(x=[{places}]).sum())", 0, f"DataArray - () int64\n{count}\n", ""
     yield "one position is selected many times", f"{labelled}print(a.isel(x=[{places}]).sum())", 0, f"DataArray - () int64\n{2 * count}\n", ""
+    parts, count = as_many(lambda i: "a", PUT_TOGETHER)
+    single = "a = DataArray(3, dims=[])\n"
+    yield "many arrays are put side by side", f'{single}print(concat([{parts}], "x").sum())', 0, f"DataArray - () int64\n{3 * count}\n", ""
     parts, count = as_many(lambda i: "a", 2_000)
     yield "many arrays are put end to end", f'{labelled}print(concat([{parts}], "x").sum())', 0, f"DataArray - () int64\n{3 * count}\n", ""
+    sets, count = as_many(lambda i: "d", MERGED)
+    single += 'd = a.to_dataset(name="v")\n'
+    yield "many datasets are merged", f'{single}print(merge([{sets}])["v"])', 0, "DataArray v () int64\n3\n", ""
+    sets, count = as_many(lambda i: "d", ALIGNED)
+    single = labelled + 'd = a.to_dataset(name="v")\n'
+    yield "many datasets at one place", f"{single}print(combine_by_coords([{sets}]))", 1, "", "xrs: statement 3: F15 conflicting values\n"
+    names = ", ".join(f"t{i}" for i in range(TILES))
+    labels = ", ".join(map(str, range(TILES)))
+    tiles = "".join(f"t{i} = d.isel(x=[{i}])\n" for i in range(TILES))
+    long = f'd = DataArray([{labels}], dims=["x"], coords={{"x": [{labels}]}}).to_dataset(name="v")\n'
+    total = TILES * (TILES - 1) // 2
+    yield "many tiles are combined", f'{long}{tiles}print(combine_by_coords([{names}])["v"].sum())', 0, f"DataArray v () int64\n{total}\n", ""
     entries, count = as_many(lambda i: f'"k{i:06}": 1', KEYWORDS)
     lines = "".join(f"coord k{i:06} int64 (): 1\n" for i in range(count))
     yield "an array is written out with many coordinates", f'print(DataArray([1], dims=["x"], coords={{{entries}}}))', 0, f"DataArray - (x: 1) int64\n1\n{lines}", ""
     names, _ = as_many(lambda i: "p", ALIGNED)
     values, _ = as_many(lambda i: "a", ALIGNED)
-    labelled = 'a = DataArray([1, 2], dims=["x"], coords={"x": [1, 2]})\n'
     yield "many arrays are aligned", f'{labelled}{names} = align({values})\nprint(p.sum())', 0, "DataArray - () int64\n3\n", ""
 
 

@@ -10,6 +10,8 @@ mod Limited
 mod Assigning
 mod Checked
 mod Firsts
+pub mod Loops
+mod Behind
 mod SetsAfter
 mod Kept
 mod Given

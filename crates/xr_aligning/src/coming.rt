@@ -70,14 +70,11 @@ fn push_coming<'a>(
     ensures labels { OnOk result (AllByRecursion (TakesLabels joined.now) out.old → AllByRecursion (TakesLabels joined.now) out.new) }
     ensures comes { (nodes : List Node) → OnOk result (AllByRecursion (IsLabelledIn nodes) values.now → AllByRecursion Comes out.old → AllByRecursion Comes out.new) }
 {
-    match values {
-        [] => Ok(()),
-        [value, rest @ ..] => {
-            let one = coming_to(alloc, joined, *value)?;
-            out.push(one)?;
-            push_coming(alloc, out, joined, rest)
-        }
+    for value in values {
+        let one = coming_to(alloc, joined, *value)?;
+        out.push(one)?;
     }
+    Ok(())
 }
 
 /// How values come to joined axes. A bare axis stays bare.

@@ -110,14 +110,11 @@ fn push_coords(
     requires { IsChange change.now }
     ensures { OnOk result (AllByRecursion (IsCoordinate change.now.own.now) coords.now → AreFitted change.now.joined.now change.now.fill change.now.own.now out.old coords.now out.new) }
 {
-    match coords {
-        [] => Ok(()),
-        [coord, rest @ ..] => {
-            let one = coord_after(alloc, change, coord)?;
-            out.push(one)?;
-            push_coords(alloc, out, change, rest)
-        }
+    for coord in coords {
+        let one = coord_after(alloc, change, coord)?;
+        out.push(one)?;
     }
+    Ok(())
 }
 
 /// Coordinates over joined axes.

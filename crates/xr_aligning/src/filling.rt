@@ -108,13 +108,10 @@ fn check_coords(
     requires coords { AllByRecursion (IsCoordinate change.now.own.now) coords.now }
     ensures { (nodes : List Node) → Answers (λ u. u) result (all_of (check_coord_by change.now.joined.now (option_map (λ v. meaning nodes v.now) fill.entry)) coords.now) }
 {
-    match coords {
-        [] => Ok(()),
-        [coord, rest @ ..] => {
-            check_coord(alloc, change, fill, coord)?;
-            check_coords(alloc, change, fill, rest)
-        }
+    for coord in coords {
+        check_coord(alloc, change, fill, coord)?;
     }
+    Ok(())
 }
 
 fn check_variable(
@@ -209,11 +206,8 @@ pub fn check_fills(
     requires { AllByRecursion Comes coming.now }
     ensures { (nodes others : List Node) → Answers (λ u. u) result (all_of (λ (m : OneComing). check_fill_by m.joined (option_map (λ v. meaning nodes v.now) fill.entry) (stands_for others m)) coming.now) }
 {
-    match coming {
-        [] => Ok(()),
-        [one, rest @ ..] => {
-            check_fill(alloc, one, fill)?;
-            check_fills(alloc, rest, fill)
-        }
+    for one in coming {
+        check_fill(alloc, one, fill)?;
     }
+    Ok(())
 }

@@ -42,14 +42,11 @@ fn push_labelled<'a>(out: &mut Items<Labelled<'a>>, values: &'a [Value]) -> Resu
     ensures means { (nodes : List Node) → OnOk result (map (labelled_in nodes) out.new ≡ map (labelled_in nodes) out.old ++ map (meaning nodes) values.now) }
     ensures inside { (nodes : List Node) → OnOk result (AllByRecursion (IsValueIn nodes) values.now → AllByRecursion (IsLabelledIn nodes) out.old → AllByRecursion (IsLabelledIn nodes) out.new) }
 {
-    match values {
-        [] => Ok(()),
-        [value, rest @ ..] => {
-            let one = labelled_of(value)?;
-            out.push(one)?;
-            push_labelled(out, rest)
-        }
+    for value in values {
+        let one = labelled_of(value)?;
+        out.push(one)?;
     }
+    Ok(())
 }
 
 /// The arrays and datasets that values are.
@@ -82,17 +79,14 @@ fn push_axes<'a>(out: &mut Items<&'a [Axis]>, values: &[Labelled<'a>]) -> Result
     ensures axes { OnOk result (map (λ v. v.now) out.new ≡ map (λ v. v.now) out.old ++ map own_axes values.now) }
     ensures few { OnOk result (All (λ v. All HasFew v.now) out.new) }
 {
-    match values {
-        [] => Ok(()),
-        [value, rest @ ..] => {
-            let axes = axes_of(*value);
-            if !have_few(axes) {
-                return Err(NoMemory);
-            }
-            out.push(axes)?;
-            push_axes(out, rest)
+    for value in values {
+        let axes = axes_of(*value);
+        if !have_few(axes) {
+            return Err(NoMemory);
         }
+        out.push(axes)?;
     }
+    Ok(())
 }
 
 /// The axes of the values, those of one name joined.

@@ -41,15 +41,12 @@ fn coords_within(alloc: Global, change: &Change<'_>, coords: &[Coord]) -> Result
     requires coords { AllByRecursion (IsCoordinate change.now.own.now) coords.now }
     ensures { (fill : Option ℤ) → IfOk result (λ b. b ≡ limits.are_within (map (fitted_coord change.now.joined.now fill) coords.now)) }
 {
-    match coords {
-        [] => Ok(true),
-        [coord, rest @ ..] => {
-            if !axes_within(alloc, change, coord.axes.as_slice())? {
-                return Ok(false);
-            }
-            coords_within(alloc, change, rest)
+    for coord in coords {
+        if !axes_within(alloc, change, coord.axes.as_slice())? {
+            return Ok(false);
         }
     }
+    Ok(true)
 }
 
 fn var_within(alloc: Global, change: &Change<'_>, var: &Variable) -> Result<bool, NoMemory>
@@ -125,24 +122,29 @@ fn is_coming_within(alloc: Global, coming: &Coming<'_>) -> Result<bool, NoMemory
     }
 }
 
+#[tactic(auto, unfolding(xr_types::specs::Results::unless))]
+fn check_size(alloc: Global, coming: &Coming<'_>) -> Result<(), CallFault>
+    requires { Comes coming.now }
+    ensures { (nodes : List Node) (fill : Option ℤ) → Answers (λ u. u) result (calls.check_size (come nodes fill coming.now)) }
+{
+    if !is_coming_within(alloc, coming)? {
+        return Err(CallFault::Refused(Fault::TooLarge));
+    }
+    Ok(())
+}
+
 /// Refuses values of which one would have more of any than an array or a dataset may have.
 ///
 /// # Errors
 /// `TooLarge`.
-#[tactic(auto, unfolding(xr_types::specs::Results::unless))]
 pub fn check_sizes(alloc: Global, coming: &[Coming<'_>]) -> Result<(), CallFault>
     requires { AllByRecursion Comes coming.now }
     ensures { (nodes : List Node) (fill : Option ℤ) → Answers (λ u. u) result (all_of (λ (m : OneComing). calls.check_size (come nodes fill m)) coming.now) }
 {
-    match coming {
-        [] => Ok(()),
-        [one, rest @ ..] => {
-            if !is_coming_within(alloc, one)? {
-                return Err(CallFault::Refused(Fault::TooLarge));
-            }
-            check_sizes(alloc, rest)
-        }
+    for one in coming {
+        check_size(alloc, one)?;
     }
+    Ok(())
 }
 
 // ---- datasets over axes whose labels they all take
@@ -198,11 +200,8 @@ pub fn check_fitted_sizes(alloc: Global, joined: &[Axis], sets: &[Dataset]) -> R
     requires { AllByRecursion (λ (s : ASet). IsFrame s.axes s.coords) sets.now }
     ensures { (nodes : List Node) (fill : Option ℤ) → AllByRecursion (λ (s : ASet). AllByRecursion (IsVarHere nodes s.axes) s.vars) sets.now → Answers (λ u. u) result (all_of limits.check_set (map (calls.fitted_set joined.now fill) (map (dataset_in nodes) sets.now))) }
 {
-    match sets {
-        [] => Ok(()),
-        [set, rest @ ..] => {
-            check_fitted_size(alloc, joined, set)?;
-            check_fitted_sizes(alloc, joined, rest)
-        }
+    for set in sets {
+        check_fitted_size(alloc, joined, set)?;
     }
+    Ok(())
 }

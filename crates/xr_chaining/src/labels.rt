@@ -55,17 +55,17 @@ pub(crate) fn number_kind(list: &LabelList) -> DType
 fn common_kind(kind: DType, others: &[&Labels]) -> Result<DType, CallFault>
     ensures { Answers (λ t. t) result (alignment.common_kind kind (alignment.listed (map (λ l. l.now) others.now))) }
 {
-    match others {
-        [] => Ok(kind),
-        [other, rest @ ..] => match &other.list {
-            LabelList::Numbers(own, _) => match promote(kind, *own) {
-                Some(both) => common_kind(both, rest),
-                None => Err(CallFault::Refused(Fault::WouldPromote)),
+    let mut common = kind;
+    for other in others {
+        match &other.list {
+            LabelList::Numbers(own, _) => match promote(common, *own) {
+                Some(both) => common = both,
+                None => return Err(CallFault::Refused(Fault::WouldPromote)),
             },
-            LabelList::Times(_, _) => common_kind(kind, rest),
-            LabelList::Texts(_) => common_kind(kind, rest),
-        },
+            LabelList::Times(_, _) | LabelList::Texts(_) => {}
+        }
     }
+    Ok(common)
 }
 
 // ---- numbers with a sign

@@ -61,13 +61,10 @@ fn check_over(
 fn push_attrs(alloc: Global, out: &mut Items<DataArray>, sets: &[Dataset]) -> Result<(), AllocError>
     ensures { (nodes : List Node) → OnOk result (the_attrs out.new ≡ the_attrs out.old ++ map (λ (s : of.Dataset). s.attrs) (map (dataset_in nodes) sets.now)) }
 {
-    match sets {
-        [] => Ok(()),
-        [set, rest @ ..] => {
-            out.push(with_attrs(alloc, &set.attrs)?)?;
-            push_attrs(alloc, out, rest)
-        }
+    for set in sets {
+        out.push(with_attrs(alloc, &set.attrs)?)?;
     }
+    Ok(())
 }
 
 fn common_attrs(alloc: Global, sets: &[Dataset]) -> Result<Items<Attr>, NoMemory>

@@ -67,14 +67,11 @@ fn push_called(alloc: Global, out: &mut Items<Dataset>, values: &[Value]) -> Res
     ensures opened { (nodes : List Node) → AllByRecursion (IsValueIn nodes) values.now → AllByRecursion (IsOpenIn nodes) out.old → OnOk result (AllByRecursion (IsOpenIn nodes) out.new) }
     ensures frames { (nodes : List Node) → AllByRecursion (IsValueIn nodes) values.now → AllByRecursion HasFrame out.old → OnOk result (AllByRecursion HasFrame out.new) }
 {
-    match values {
-        [] => Ok(()),
-        [value, rest @ ..] => {
-            let set = called(alloc, value)?;
-            out.push(set)?;
-            push_called(alloc, out, rest)
-        }
+    for value in values {
+        let set = called(alloc, value)?;
+        out.push(set)?;
     }
+    Ok(())
 }
 
 // Arrays as datasets of one variable.
@@ -138,14 +135,11 @@ fn push_nameless(alloc: Global, out: &mut Items<Dataset>, sets: &[Dataset]) -> R
     ensures are { (nodes : List Node) → OnOk result (map (dataset_in nodes) out.new ≡ map (dataset_in nodes) out.old ++ map nameless (map (dataset_in nodes) sets.now)) }
     ensures held { (nodes : List Node) → AreHeldIn nodes sets.now → AreHeldIn nodes out.old → OnOk result (AreHeldIn nodes out.new) }
 {
-    match sets {
-        [] => Ok(()),
-        [set, rest @ ..] => {
-            let one = nameless(alloc, set)?;
-            out.push(one)?;
-            push_nameless(alloc, out, rest)
-        }
+    for set in sets {
+        let one = nameless(alloc, set)?;
+        out.push(one)?;
     }
+    Ok(())
 }
 
 fn all_nameless(alloc: Global, sets: &[Dataset]) -> Result<Items<Dataset>, NoMemory>

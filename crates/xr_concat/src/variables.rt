@@ -52,13 +52,10 @@ fn push_attrs(
 ) -> Result<(), AllocError>
     ensures { (nodes : List ANode) → OnOk result (the_attrs out.new ≡ the_attrs out.old ++ map (λ (p : pieces.Piece). p.attrs) (map (members.piece_in nodes) (map (λ v. v.now) vars.now))) }
 {
-    match vars {
-        [] => Ok(()),
-        [var, rest @ ..] => {
-            out.push(with_attrs(alloc, &var.attrs)?)?;
-            push_attrs(alloc, out, rest)
-        }
+    for var in vars {
+        out.push(with_attrs(alloc, &var.attrs)?)?;
     }
+    Ok(())
 }
 
 fn all_attrs(alloc: Global, vars: &[&Variable]) -> Result<Items<Attr>, NoMemory>

@@ -1,6 +1,6 @@
 -- Datasets while the plan grows, and those that are fitted one after the other.
-use Rattle.std.proofs.Common.{◌≡◌, ◌∙◌, ◌<◌, ◌≤◌, ℕ, ℤ, List, [], ◌∷◌, ◌++◌, length, get_or, map, Option, Result, Ok, Err, arith, refl, sym, ap, subst, append_assoc}
-use Rattle.std.proofs.lemmas.List.{append-nil}
+use Rattle.std.proofs.Common.{◌≡◌, ◌∙◌, ℕ, ℤ, List, [], ◌∷◌, ◌++◌, map, Option, refl, sym, ap, subst, append_assoc}
+use Rattle.std.proofs.lemmas.List.{append-nil, map-append}
 use Rattle.std.specs.List.{AllByRecursion}
 use Rattle.plan_core.specs.Plans.{Grows}
 use Rattle.plan_core.proofs.Plans.{grown_value}
@@ -15,7 +15,7 @@ use Rattle.xr_values.specs.Stands.{dataset_in, variable_in, IsNodeOf}
 use Rattle.xr_values.proofs.Grown.{node_kept}
 use Rattle.xr_aligning.specs.Limits.{sizes_called}
 use Rattle.xr_aligning.specs.Sets.{IsVarHere}
-use Rattle.xr_joint.proofs.Firsts.{first_holds, others, whole}
+use Rattle.xr_aligning.proofs.Loops.{all_hold}
 use Rattle.xr_joint.specs.Fitting.{AreFittedSets, IsFittedSet, IsOpenIn}
 
 module _ (old new : List Node) (grows : Grows old new) where
@@ -54,13 +54,16 @@ module _ (joined : List Axis) (fill : Option ℤ) where
   pub none_fitted : (nodes : List Node) (out : List Dataset) → AreFittedSets nodes nodes joined fill [] out out
   none_fitted nodes out = record { more = []; are = sym (append-nil out); means = refl; inside = tt }
 
-  pub one_fitted : (old mid new : List Node) (s t : Dataset) (ss out next ts : List Dataset) → Grows old mid → Grows mid new → AllByRecursion (IsOpenIn old) ss → IsFittedSet old mid joined fill s t → next ≡ out ++ t ∷ []
-      → AreFittedSets mid new joined fill ss next ts → AreFittedSets old new joined fill (s ∷ ss) out ts
-  one_fitted old mid new s t ss out next ts first second opened made is rest = record {
-    more = t ∷ rest.more;
-    are = rest.are ∙ ap (λ os. os ++ rest.more) is ∙ append_assoc out (t ∷ []) rest.more;
-    means = (λ i. (open_same mid new second t made.inside ∙ made.is) i ∷ (rest.means ∙ ap (map (fitted_set joined fill)) (opens_same old mid first ss opened)) i);
-    inside = (open_kept mid new second t made.inside, rest.inside);
+  -- one more behind those that are fitted
+  pub one_fitted : (old mid new : List Node) (ss : List Dataset) (s t : Dataset) (out ts next : List Dataset) → Grows old mid → Grows mid new → IsOpenIn old s → IsFittedSet mid new joined fill s t → next ≡ ts ++ t ∷ []
+      → AreFittedSets old mid joined fill ss out ts → AreFittedSets old new joined fill (ss ++ s ∷ []) out next
+  one_fitted old mid new ss s t out ts next first second opened made pushed so_far = record {
+    more = so_far.more ++ t ∷ [];
+    are = pushed ∙ ap (λ us. us ++ t ∷ []) so_far.are ∙ append_assoc out so_far.more (t ∷ []);
+    means =
+        map-append (dataset_in new) so_far.more (t ∷ []) ∙ (λ i. (opens_same mid new second so_far.more so_far.inside ∙ so_far.means) i ++ (made.is ∙ ap (fitted_set joined fill) (open_same old mid first s opened)) i ∷ [])
+        ∙ sym (ap (map (fitted_set joined fill)) (map-append (dataset_in old) ss (s ∷ [])) ∙ map-append (fitted_set joined fill) (map (dataset_in old) ss) (dataset_in old s ∷ []));
+    inside = all_hold so_far.more (so_far.more ++ t ∷ []) t refl (IsOpenIn new) (opens_kept mid new second so_far.more so_far.inside) made.inside;
   }
 
   pub fitted_means : (old new : List Node) (ss out ts : List Dataset) → out ≡ [] → AreFittedSets old new joined fill ss out ts → map (dataset_in new) ts ≡ map (fitted_set joined fill) (map (dataset_in old) ss)
@@ -68,16 +71,3 @@ module _ (joined : List Axis) (fill : Option ℤ) where
 
   pub fitted_inside : (old new : List Node) (ss out ts : List Dataset) → out ≡ [] → AreFittedSets old new joined fill ss out ts → AllByRecursion (IsOpenIn new) ts
   fitted_inside old new ss out ts none all = subst (AllByRecursion (IsOpenIn new)) (sym (all.are ∙ ap (λ os. os ++ all.more) none)) all.inside
-
-  pub empty_fitted : (nodes : List Node) (ss out : List Dataset) → length ss < 1 → AreFittedSets nodes nodes joined fill ss out out
-  empty_fitted nodes [] out none = none_fitted nodes out
-  empty_fitted nodes (s ∷ ss) out none = absurd (omega arith)
-
-  pub first_fitted : (old mid new : List Node) (s t : Dataset) (ss out next ts : List Dataset) → 1 ≤ length ss → s ≡ get_or ss 0 s → Grows old mid → Grows mid new → AllByRecursion (IsOpenIn old) ss → IsFittedSet old mid joined fill s t → next ≡ out ++ t ∷ []
-      → AreFittedSets mid new joined fill (others ss) next ts → AreFittedSets old new joined fill ss out ts
-  first_fitted old mid new s t ss out next ts some is first second opened made pushed rest =
-      subst (λ rs. AreFittedSets old new joined fill rs out ts) (sym (whole ss s some is))
-      (one_fitted old mid new s t (others ss) out next ts first second (first_holds (IsOpenIn old) ss s some is opened).1 made pushed rest)
-
-pub rest_open : (old mid : List Node) (ss : List Dataset) (s : Dataset) → Grows old mid → 1 ≤ length ss → s ≡ get_or ss 0 s → AllByRecursion (IsOpenIn old) ss → AllByRecursion (IsOpenIn mid) (others ss)
-rest_open old mid ss s grows some is all = opens_kept old mid grows (others ss) (first_holds (IsOpenIn old) ss s some is all).1

@@ -22,7 +22,6 @@ use Rattle.xr_defs.specs.WellFormed.{AreSeen}
 use Rattle.xr_defs.specs.declared.value.Coord.{Coord}
 use Rattle.xr_forming.proofs.Apart.{busy_same}
 use Rattle.xr_forming.specs.Held.{Holds, HoldsContent, IsHeld}
-use Rattle.xr_joint.proofs.Firsts.{first_holds, others, whole}
 use Rattle.xr_joint.specs.Joint.{array_at, joint_in, parts_in, set_of, with_node, AllHeld, AllInside, AreOnes, ArePlaced, AreReady, IsInside, IsPlaced, IsReady}
 use Rattle.xr_joint.specs.declared.pieces.Joint.{Joint}
 use Rattle.xr_joint.specs.declared.pieces.JointVariable.{JointVariable}
@@ -52,17 +51,13 @@ put_new (w ∷ vs) v none = by (bytes_eq w.name v.name) none (put_new vs v)
 -- ---- while the plan grows
 
 module _ (old new : List Node) (grows : Grows old new) where
-  origin_inside : (o : Origin) → IsInside old o → IsInside new o
+  pub origin_inside : (o : Origin) → IsInside old o → IsInside new o
   origin_inside (origins.Node n) is = let long = grown-length old new grows in omega (arith, is)
   origin_inside (origins.Held a) is = is
 
   origin_same : (o : Origin) → IsInside old o → array_at new o ≡ array_at old o
   origin_same (origins.Node n) is = grown_value old new n grows is
   origin_same (origins.Held a) is = refl
-
-  pub inside_kept : (vs : List JointVariable) → AllInside old vs → AllInside new vs
-  inside_kept [] all = tt
-  inside_kept (v ∷ vs) all = (origin_inside v.cells all.0, inside_kept vs all.1)
 
   node_kept : (a : Array) (n : ℕ) → IsNodeFor old a n → IsNodeFor new a n
   node_kept a n is = let long = grown-length old new grows in let lt = is.inside in record { inside = omega arith; is = grown_value old new n grows is.inside ∙ is.is }
@@ -72,32 +67,28 @@ module _ (old new : List Node) (grows : Grows old new) where
 pub none_placed : (nodes : List Node) (out : List Variable) → ArePlaced nodes nodes [] out out
 none_placed nodes out = record { more = []; are = sym (append-nil out); each = tt }
 
-module _ (old mid new : List Node) (first : Grows old mid) (second : Grows mid new) where
-  ones_kept : (vs : List JointVariable) (ws : List Variable) → AllInside old vs → AreOnes mid new vs ws → AreOnes old new vs ws
-  ones_kept [] [] all ones = tt
-  ones_kept [] (w ∷ ws) all ones = absurd ones
-  ones_kept (v ∷ vs) [] all ones = absurd ones
-  ones_kept (v ∷ vs) (w ∷ ws) all ones = (record { is = ones.0.is; node = subst (λ (a : Array). IsNodeFor new a w.node) (origin_same old mid first v.cells all.0) ones.0.node }, ones_kept vs ws all.1 ones.1)
+ones_stay : (old mid new : List Node) → Grows mid new → (vs : List JointVariable) (ws : List Variable) → AreOnes old mid vs ws → AreOnes old new vs ws
+ones_stay old mid new grows [] [] ones = tt
+ones_stay old mid new grows [] (w ∷ ws) ones = absurd ones
+ones_stay old mid new grows (v ∷ vs) [] ones = absurd ones
+ones_stay old mid new grows (v ∷ vs) (w ∷ ws) ones = (record { is = ones.0.is; node = node_kept mid new grows (array_at old v.cells) w.node ones.0.node }, ones_stay old mid new grows vs ws ones.1)
 
-  pub one_placed : (v : JointVariable) (vs : List JointVariable) (w : Variable) (out next ws : List Variable) → AllInside old vs → IsPlaced old mid v w → next ≡ out ++ w ∷ [] → ArePlaced mid new vs next ws → ArePlaced old new (v ∷ vs) out ws
-  one_placed v vs w out next ws all one is rest = record {
-    more = w ∷ rest.more;
-    are = rest.are ∙ ap (λ os. os ++ rest.more) is ∙ append_assoc out (w ∷ []) rest.more;
-    each = (record { is = one.is; node = node_kept mid new second (array_at old v.cells) w.node one.node }, ones_kept vs rest.more all rest.each);
-  }
+one_behind : (old new : List Node) (vs : List JointVariable) (ws : List Variable) (v : JointVariable) (w : Variable) → AreOnes old new vs ws → IsPlaced old new v w → AreOnes old new (vs ++ v ∷ []) (ws ++ w ∷ [])
+one_behind old new [] [] v w ones one = (one, tt)
+one_behind old new [] (x ∷ ws) v w ones one = absurd ones
+one_behind old new (u ∷ vs) [] v w ones one = absurd ones
+one_behind old new (u ∷ vs) (x ∷ ws) v w ones one = (ones.0, one_behind old new vs ws v w ones.1 one)
 
-pub empty_placed : (nodes : List Node) (vs : List JointVariable) (out : List Variable) → length vs < 1 → ArePlaced nodes nodes vs out out
-empty_placed nodes [] out none = none_placed nodes out
-empty_placed nodes (v ∷ vs) out none = absurd (omega arith)
-
-pub first_placed : (old mid new : List Node) (v : JointVariable) (vs : List JointVariable) (w : Variable) (out next ws : List Variable) → 1 ≤ length vs → v ≡ get_or vs 0 v → Grows old mid → Grows mid new → AllInside old vs → IsPlaced old mid v w → next ≡ out ++ w ∷ []
-    → ArePlaced mid new (others vs) next ws → ArePlaced old new vs out ws
-first_placed old mid new v vs w out next ws some is first second all one pushed rest =
-    subst (λ us. ArePlaced old new us out ws) (sym (whole vs v some is))
-    (one_placed old mid new first second v (others vs) w out next ws (first_holds (λ (u : JointVariable). IsInside old u.cells) vs v some is all).1 one pushed rest)
-
-pub rest_inside : (old mid : List Node) (vs : List JointVariable) (v : JointVariable) → Grows old mid → 1 ≤ length vs → v ≡ get_or vs 0 v → AllInside old vs → AllInside mid (others vs)
-rest_inside old mid vs v grows some is all = inside_kept old mid grows (others vs) (first_holds (λ (u : JointVariable). IsInside old u.cells) vs v some is all).1
+-- one more behind those that are placed
+pub one_placed : (old mid new : List Node) (vs : List JointVariable) (v : JointVariable) (w : Variable) (out ws next : List Variable) → Grows old mid → Grows mid new → IsInside old v.cells → IsPlaced mid new v w → next ≡ ws ++ w ∷ []
+    → ArePlaced old mid vs out ws → ArePlaced old new (vs ++ v ∷ []) out next
+one_placed old mid new vs v w out ws next first second inside one pushed so_far =
+    let here = record { is = one.is; node = subst (λ (a : Array). IsNodeFor new a w.node) (origin_same old mid first v.cells inside) one.node } in
+    record {
+      more = so_far.more ++ w ∷ [];
+      are = pushed ∙ ap (λ us. us ++ w ∷ []) so_far.are ∙ append_assoc out so_far.more (w ∷ []);
+      each = one_behind old new vs so_far.more v w (ones_stay old mid new second vs so_far.more so_far.each) here;
+    }
 
 -- ---- a dataset of them
 

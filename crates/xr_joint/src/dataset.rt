@@ -110,14 +110,11 @@ fn push_placed(
     ensures placed { OnOk result (ArePlaced plan.old plan.new vars.now out.old out.new) }
     ensures grows { Grows plan.old plan.new }
 {
-    match vars {
-        [] => Ok(()),
-        [merged, rest @ ..] => {
-            let var = placed_variable(alloc, plan, merged)?;
-            put_new(alloc, out, var)?;
-            push_placed(alloc, plan, out, rest)
-        }
+    for merged in vars {
+        let var = placed_variable(alloc, plan, merged)?;
+        put_new(alloc, out, var)?;
     }
+    Ok(())
 }
 
 // ---- coordinates

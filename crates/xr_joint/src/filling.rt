@@ -47,11 +47,8 @@ pub fn check_fills(
     requires { AllByRecursion HasFrame sets.now }
     ensures { (nodes others : List Node) → Answers (λ u. u) result (all_of (pieces.check_fill axes.now (option_map (λ v. meaning nodes v.now) fill.entry)) (map (dataset_in others) sets.now)) }
 {
-    match sets {
-        [] => Ok(()),
-        [set, rest @ ..] => {
-            check_fill(alloc, axes, fill, set)?;
-            check_fills(alloc, axes, fill, rest)
-        }
+    for set in sets {
+        check_fill(alloc, axes, fill, set)?;
     }
+    Ok(())
 }

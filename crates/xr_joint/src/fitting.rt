@@ -62,14 +62,11 @@ fn push_fitted(
     ensures fitted { OnOk result (AreFittedSets plan.old plan.new joined.now fill sets.now out.old out.new) }
     ensures grows { Grows plan.old plan.new }
 {
-    match sets {
-        [] => Ok(()),
-        [set, rest @ ..] => {
-            let one = fitted(alloc, plan, joined, fill, set)?;
-            out.push(one)?;
-            push_fitted(alloc, plan, out, joined, fill, rest)
-        }
+    for set in sets {
+        let one = fitted(alloc, plan, joined, fill, set)?;
+        out.push(one)?;
     }
+    Ok(())
 }
 
 /// Datasets over their joined axes.

@@ -100,14 +100,11 @@ pub fn push_pieces<R: Threads + Sync>(
     requires placed { AllPlaced plan.now (map (λ v. v.now) vars.now) }
     ensures { OnOk result (map merged_piece out.new ≡ map merged_piece out.old ++ map (members.piece_in plan.now) (map (λ v. v.now) vars.now)) }
 {
-    match vars {
-        [] => Ok(()),
-        [var, rest @ ..] => {
-            let piece = piece_of(rt, alloc, plan, var)?;
-            out.push(piece)?;
-            push_pieces(rt, alloc, plan, out, rest)
-        }
+    for var in vars {
+        let piece = piece_of(rt, alloc, plan, var)?;
+        out.push(piece)?;
     }
+    Ok(())
 }
 
 /// Adds cells at hand as those that are compared.
@@ -118,19 +115,16 @@ pub fn push_held<'a>(
 ) -> Result<(), AllocError>
     ensures { OnOk result (map held_piece out.new ≡ map held_piece out.old ++ map merged_piece pieces.now) }
 {
-    match pieces {
-        [] => Ok(()),
-        [piece, rest @ ..] => {
-            let dims = piece.dims.deep_copy(alloc)?;
-            out.push(Held {
-                dims,
-                cells: &piece.cells,
-                masked: piece.masked,
-                attrs: &piece.attrs,
-            })?;
-            push_held(alloc, out, rest)
-        }
+    for piece in pieces {
+        let dims = piece.dims.deep_copy(alloc)?;
+        out.push(Held {
+            dims,
+            cells: &piece.cells,
+            masked: piece.masked,
+            attrs: &piece.attrs,
+        })?;
     }
+    Ok(())
 }
 
 /// A variable of cells at hand. Cells over other sizes than those of these axes, or missing ones that aren't masked, want memory: there

@@ -48,13 +48,10 @@ fn push_attrs(
 ) -> Result<(), AllocError>
     ensures { (nodes : List ANode) → OnOk result (the_attrs out.new ≡ the_attrs out.old ++ map (λ (p : pieces.Piece). p.attrs) (map (members.piece_in nodes) (map (λ v. v.now) vars.now))) }
 {
-    match vars {
-        [] => Ok(()),
-        [var, rest @ ..] => {
-            out.push(with_attrs(alloc, &var.attrs)?)?;
-            push_attrs(alloc, out, rest)
-        }
+    for var in vars {
+        out.push(with_attrs(alloc, &var.attrs)?)?;
     }
+    Ok(())
 }
 
 fn all_attrs(alloc: Global, vars: &[&Variable]) -> Result<Items<Attr>, NoMemory>
@@ -178,7 +175,6 @@ fn variable_merged<R: Threads + Sync>(
     Ok(merged)
 }
 
-#[tactic(auto, using(xr_merging::proofs::Each::behind_none, xr_merging::proofs::Each::behind_more, xr_merging::proofs::Each::behind_fault))]
 fn push_merged<R: Threads + Sync>(
     rt: &R,
     alloc: Global,
@@ -195,14 +191,11 @@ fn push_merged<R: Threads + Sync>(
     ensures answers { Answers (λ u. map (joint_in plan.now) out.new) result (behind (map (joint_in plan.now) out.old) (each_of (calls.variable_merged compat (map (dataset_in plan.now) sets.now)) names.now)) }
     ensures ready { OnOk result (AreReady plan.now axes.now out.new) }
 {
-    match names {
-        [] => Ok(()),
-        [name, rest @ ..] => {
-            let var = variable_merged(rt, alloc, plan, compat, axes, sets, name)?;
-            out.push(var)?;
-            push_merged(rt, alloc, plan, out, compat, axes, sets, rest)
-        }
+    for name in names {
+        let var = variable_merged(rt, alloc, plan, compat, axes, sets, name)?;
+        out.push(var)?;
     }
+    Ok(())
 }
 
 /// The data variables of these names, each one of those that have it, over these axes. The cells of variables that are compared are

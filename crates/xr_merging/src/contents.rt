@@ -50,15 +50,12 @@ fn push_attrs(
 ) -> Result<(), AllocError>
     ensures { OnOk result (the_attrs out.new ≡ the_attrs out.old ++ map (λ (d : ACoord). d.attrs) (filter (named_as coord.now) (map (λ c. c.now) coords.now))) }
 {
-    match coords {
-        [] => Ok(()),
-        [one, rest @ ..] => {
-            if one.name.is(&coord.name) {
-                out.push(with_attrs(alloc, &one.attrs)?)?;
-            }
-            push_attrs(alloc, out, coord, rest)
+    for one in coords {
+        if one.name.is(&coord.name) {
+            out.push(with_attrs(alloc, &one.attrs)?)?;
         }
     }
+    Ok(())
 }
 
 // The coordinate with the attributes that those of its name have in common.
@@ -81,15 +78,12 @@ fn joined_coord(alloc: Global, coord: &Coord, coords: &[&Coord]) -> Result<Coord
 fn all_hold(alloc: Global, content: &Content, coords: &[&Coord]) -> Result<bool, AllocError>
     ensures { IfOk result (λ b. b ≡ list_all (λ (c : ACoord). same_content content.now c.content) (map (λ c. c.now) coords.now)) }
 {
-    match coords {
-        [] => Ok(true),
-        [coord, rest @ ..] => {
-            if !same_content(alloc, content, &coord.content)? {
-                return Ok(false);
-            }
-            all_hold(alloc, content, rest)
+    for coord in coords {
+        if !same_content(alloc, content, &coord.content)? {
+            return Ok(false);
         }
     }
+    Ok(true)
 }
 
 fn may_stand(

@@ -77,7 +77,6 @@ fn coord_merged(
     Ok(of_cells(alloc, axes, name, merged)?)
 }
 
-#[tactic(auto, using(crate::proofs::Each::behind_none, crate::proofs::Each::behind_more, crate::proofs::Each::behind_fault))]
 fn push_merged(
     alloc: Global,
     out: &mut Items<Coord>,
@@ -88,14 +87,11 @@ fn push_merged(
 ) -> Result<(), CallFault>
     ensures { (nodes : List Node) → Answers (λ u. out.new) result (behind out.old (each_of (calls.coord_merged compat axes.now (map (dataset_in nodes) sets.now)) names.now)) }
 {
-    match names {
-        [] => Ok(()),
-        [name, rest @ ..] => {
-            let coord = coord_merged(alloc, compat, axes, sets, name)?;
-            out.push(coord)?;
-            push_merged(alloc, out, compat, axes, sets, rest)
-        }
+    for name in names {
+        let coord = coord_merged(alloc, compat, axes, sets, name)?;
+        out.push(coord)?;
     }
+    Ok(())
 }
 
 /// The coordinates of these names, each one of those that have it, over the axes of the result.

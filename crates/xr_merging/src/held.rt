@@ -52,9 +52,8 @@ pub(crate) fn push_held<'a>(
     ensures all { IfOk result (λ b. b ≡ calls.have_cells (map (λ c. c.now) coords.now)) }
     ensures held { IfOk result (λ b. b ≡ true → map held_piece out.new ≡ map held_piece out.old ++ flat_map coord_pieces (map (λ c. c.now) coords.now)) }
 {
-    match coords {
-        [] => Ok(true),
-        [coord, rest @ ..] => match &coord.content {
+    for coord in coords {
+        match &coord.content {
             Content::Cells(cells, masked) => {
                 let dims = names_of(alloc, coord.axes.as_slice())?;
                 out.push(Held {
@@ -63,12 +62,12 @@ pub(crate) fn push_held<'a>(
                     masked: *masked,
                     attrs: &coord.attrs,
                 })?;
-                push_held(alloc, out, rest)
             }
-            Content::Text(_) => Ok(false),
-            Content::Time(_, _) => Ok(false),
-        },
+            Content::Text(_) => return Ok(false),
+            Content::Time(_, _) => return Ok(false),
+        }
     }
+    Ok(true)
 }
 
 // ---- parts of all
@@ -81,14 +80,11 @@ fn push_in_order(
 ) -> Result<(), NoMemory>
     ensures { OnOk result (out.new ≡ out.old ++ map (pieces.in_order dims.now) (map held_piece held.now)) }
 {
-    match held {
-        [] => Ok(()),
-        [one, rest @ ..] => {
-            let cells = in_order(alloc, dims, one.dims.as_slice(), one.cells)?;
-            out.push(cells)?;
-            push_in_order(alloc, out, dims, rest)
-        }
+    for one in held {
+        let cells = in_order(alloc, dims, one.dims.as_slice(), one.cells)?;
+        out.push(cells)?;
     }
+    Ok(())
 }
 
 /// The cells of each over the dimensions of the first, in the order in which the first has them. Dimensions that are not those of the
@@ -109,13 +105,10 @@ pub fn in_first_order(alloc: Global, held: &[Held<'_>]) -> Result<Items<ArrayVal
 fn push_kinds(out: &mut Items<DType>, held: &[Held<'_>]) -> Result<(), AllocError>
     ensures { OnOk result (out.new ≡ out.old ++ pieces.kinds_of (map held_piece held.now)) }
 {
-    match held {
-        [] => Ok(()),
-        [one, rest @ ..] => {
-            out.push(one.cells.kind())?;
-            push_kinds(out, rest)
-        }
+    for one in held {
+        out.push(one.cells.kind())?;
     }
+    Ok(())
 }
 
 fn are_all_masked(held: &[Held<'_>]) -> bool
@@ -134,13 +127,10 @@ fn push_attrs(
 ) -> Result<(), AllocError>
     ensures { OnOk result (the_attrs out.new ≡ the_attrs out.old ++ map (λ (p : pieces.Piece). p.attrs) (map held_piece held.now)) }
 {
-    match held {
-        [] => Ok(()),
-        [one, rest @ ..] => {
-            out.push(with_attrs(alloc, one.attrs)?)?;
-            push_attrs(alloc, out, rest)
-        }
+    for one in held {
+        out.push(with_attrs(alloc, one.attrs)?)?;
     }
+    Ok(())
 }
 
 /// The attributes that all have in common.

@@ -66,7 +66,6 @@ impl NameMap {
     }
 
     /// Lets each name stand for the value at its place, one after another.
-    #[tactic(auto, using(crate::proofs::Puts::none_put, crate::proofs::Puts::no_value_put))]
     pub(crate) fn set_each(
         &mut self,
         alloc: Global,
@@ -76,15 +75,16 @@ impl NameMap {
         ensures ok { (nodes : List Node) → OnOk result (names_of nodes self.new ≡ put_each (names_of nodes self.old) names.now (map (meaning nodes) values.now)) }
         ensures inside { (nodes : List Node) → AreNamesIn nodes self.old → All (IsValueIn nodes) values.now → AreNamesIn nodes self.new }
     {
-        match names {
-            [] => Ok(()),
-            [name, names @ ..] => match values {
-                [] => Ok(()),
-                [value, values @ ..] => {
+        let mut rest = values;
+        for name in names {
+            match rest {
+                [] => return Ok(()),
+                [value, others @ ..] => {
                     self.set(alloc, name, value.copy(alloc)?)?;
-                    self.set_each(alloc, names, values)
+                    rest = others;
                 }
-            },
+            }
         }
+        Ok(())
     }
 }

@@ -1,4 +1,5 @@
 pub mod Firsts
+pub mod Loops
 pub mod Joined
 pub mod Turned
 pub mod There

@@ -55,14 +55,11 @@ fn push_all_others(
 ) -> Result<(), AllocError>
     ensures { (nodes : List Node) → OnOk result (out.new ≡ out.old ++ map (calls.other_axes dim.now) (map (dataset_in nodes) sets.now)) }
 {
-    match sets {
-        [] => Ok(()),
-        [set, rest @ ..] => {
-            let axes = other_axes(alloc, dim, set)?;
-            out.push(axes)?;
-            push_all_others(alloc, out, dim, rest)
-        }
+    for set in sets {
+        let axes = other_axes(alloc, dim, set)?;
+        out.push(axes)?;
     }
+    Ok(())
 }
 
 // Labels past those that can be looked up want memory.

@@ -217,15 +217,12 @@ fn push_attrs(
 ) -> Result<(), AllocError>
     ensures { OnOk result (the_attrs out.new ≡ the_attrs out.old ++ map (λ (d : ACoord). d.attrs) (filter (named_as coord.now) (map (λ c. c.now) coords.now))) }
 {
-    match coords {
-        [] => Ok(()),
-        [one, rest @ ..] => {
-            if one.name.is(&coord.name) {
-                out.push(with_attrs(alloc, &one.attrs)?)?;
-            }
-            push_attrs(alloc, out, coord, rest)
+    for one in coords {
+        if one.name.is(&coord.name) {
+            out.push(with_attrs(alloc, &one.attrs)?)?;
         }
     }
+    Ok(())
 }
 
 // The coordinate with the attributes that those of its name have in common.

@@ -86,13 +86,10 @@ fn push_parts(
 ) -> Result<(), AllocError>
     ensures { OnOk result (out.new ≡ out.old ++ parts_called name.now sets.now) }
 {
-    match sets {
-        [] => Ok(()),
-        [set, rest @ ..] => {
-            add_part(alloc, out, set, name)?;
-            push_parts(alloc, out, rest, name)
-        }
+    for set in sets {
+        add_part(alloc, out, set, name)?;
     }
+    Ok(())
 }
 
 /// The cells of the variables of a name, of each dataset that has one.

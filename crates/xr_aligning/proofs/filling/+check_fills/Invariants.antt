@@ -1,5 +1,0 @@
-use Rattle.std.proofs.Common.{length}
-use Rattle.xr_aligning.proofs.filling.+check_fills.Given as goal
-
-abbrev pub decreases-check_fills : goal.decreases-check_fills
-decreases-check_fills l = length l.coming.now

@@ -1,0 +1,26 @@
+use Rattle.std.proofs.Common.{◌∙◌, Err, ap, option_map, refl, sym}
+use Rattle.std.proofs.lemmas.List.{at_drop_all}
+use Rattle.std.proofs.lemmas.Result.{err_from_is_err_and}
+use Rattle.xr_types.specs.Results.{all_of}
+use Rattle.xr_values.specs.Meaning.{meaning}
+use Rattle.xr_aligning.specs.Coming.{check_fill_by, stands_for}
+use Rattle.xr_aligning.specs.declared.coming.Coming.{Coming}
+use Rattle.xr_aligning.proofs.Loops.{failed, passed}
+use Rattle.xr_aligning.proofs.filling.check_fills.Goals as goal
+
+pub returns-in_err-check_fill : goal.returns-in_err-check_fill
+returns-in_err-check_fill c = λ nodes others.
+    let told = err_from_is_err_and c.from_residual.result c.from_residual.ensures.1 in
+    failed c.args.coming.now c.loop-one.one-index c.one-item.result c.loop-one-test.true c.one-item.is (all_of (λ (m : Coming). check_fill_by m.joined (option_map (λ v. meaning nodes v.now) c.args.fill) (stands_for others m)))
+    (λ (m : Coming). check_fill_by m.joined (option_map (λ v. meaning nodes v.now) c.args.fill) (stands_for others m)) (λ m ms. refl) _
+    c.from_residual.result c.in_err-check_fill.field-0.0 (told.1 ∙ ap Err told.2) (c.in_err-check_fill.ensures nodes others) (c.loop-one.invariant nodes others)
+
+pub loop-one-preserved : goal.loop-one-preserved
+loop-one-preserved c = λ nodes others.
+    passed c.args.coming.now c.loop-one.one-index c.one-item.result c.loop-one-test.true c.one-item.is (all_of (λ (m : Coming). check_fill_by m.joined (option_map (λ v. meaning nodes v.now) c.args.fill) (stands_for others m)))
+    (λ (m : Coming). check_fill_by m.joined (option_map (λ v. meaning nodes v.now) c.args.fill) (stands_for others m)) (λ m ms. refl) _
+    (c.in_ok-check_fill.ensures nodes others) (c.loop-one.invariant nodes others)
+
+pub returns : goal.returns
+returns c = λ nodes others.
+    sym (c.loop-one.invariant nodes others) ∙ at_drop_all (all_of (λ (m : Coming). check_fill_by m.joined (option_map (λ v. meaning nodes v.now) c.args.fill) (stands_for others m))) c.args.coming.now c.loop-one.one-index c.loop-one-test.false

@@ -1,5 +1,0 @@
-use Rattle.std.proofs.Common.{length}
-use Rattle.xr_merging.proofs.held.+push_attrs.Given as goal
-
-abbrev pub decreases-push_attrs : goal.decreases-push_attrs
-decreases-push_attrs l = length l.held.now
