@@ -64,6 +64,11 @@ module _ (old new : List Node) (grows : Grows old new) where
 
 -- ---- one after the other
 
+-- what holds of the images of a list's items
+pub each_mapped : {X Y : Type 0} (P : Y → Type 0) (f : X → Y) (xs : List X) → AllByRecursion P (map f xs) → AllByRecursion (λ x. P (f x)) xs
+each_mapped P f [] all = tt
+each_mapped P f (x ∷ xs) all = (all.0, each_mapped P f xs all.1)
+
 pub none_placed : (nodes : List Node) (out : List Variable) → ArePlaced nodes nodes [] out out
 none_placed nodes out = record { more = []; are = sym (append-nil out); each = tt }
 
@@ -83,7 +88,7 @@ one_behind old new (u ∷ vs) (x ∷ ws) v w ones one = (ones.0, one_behind old 
 pub one_placed : (old mid new : List Node) (vs : List JointVariable) (v : JointVariable) (w : Variable) (out ws next : List Variable) → Grows old mid → Grows mid new → IsInside old v.cells → IsPlaced mid new v w → next ≡ ws ++ w ∷ []
     → ArePlaced old mid vs out ws → ArePlaced old new (vs ++ v ∷ []) out next
 one_placed old mid new vs v w out ws next first second inside one pushed so_far =
-    let here = record { is = one.is; node = subst (λ (a : Array). IsNodeFor new a w.node) (origin_same old mid first v.cells inside) one.node } in
+    let here : IsPlaced old new v w = record { is = one.is; node = subst (λ (a : Array). IsNodeFor new a w.node) (origin_same old mid first v.cells inside) one.node } in
     record {
       more = so_far.more ++ w ∷ [];
       are = pushed ∙ ap (λ us. us ++ w ∷ []) so_far.are ∙ append_assoc out so_far.more (w ∷ []);
