@@ -1,8 +1,12 @@
 -- Cells one by one, under a mask.
-use Rattle.std.proofs.Common.{◌≡◌, ◌≢◌, ◌==◌, ◌<◌, ◌≤◌, ◌+◌, ℕ, ℤ, zero, suc, min, true, false, List, [], ◌∷◌, ◌++◌, map, zip, length, drop, get_or, Option, Some, None, refl, sym, ap, ◌∙◌, append_assoc, subst, arith}
+use Rattle.std.proofs.Common.{◌≡◌, ◌≢◌, ◌==◌, ◌<◌, ◌≤◌, ◌+◌, ◌*◌, ℕ, ℤ, zero, suc, min, true, false, List, [], ◌∷◌, ◌++◌, map, zip, length, take, drop, get_or, set, Option, Some, None, refl, sym, ap, ◌∙◌, subst, arith}
+use Rattle.std.specs.Prelude.{flat_map}
 use Rattle.std.proofs.Math.Dec.{eqb-suc-zero}
+use Rattle.std.proofs.Math.Seq.{take-add}
 use Rattle.std.proofs.lemmas.Bool.{and_parts}
-use Rattle.std.proofs.lemmas.List.{append-nil, at_drop_more, at_drop_all, get_or-map, length-map}
+use Rattle.std.proofs.lemmas.List.{get_or-map, get_or-drop, length-map, length-drop, map_more, take_more_set}
+use Rattle.std.proofs.lemmas.List.Concat.{flat_map-append}
+use Rattle.std.proofs.lemmas.List.Folds.{flat_map-map}
 use Rattle.xr_types.specs.declared.attr.NcType.{NcType}
 use Rattle.xr_arrays.specs.Arrays.{hidden, cell}
 use Rattle.xr_defs.specs.Encoding.{holds, value_bytes}
@@ -39,21 +43,31 @@ read_there number xs mask i e n k is at lt z =
 
 -- ---- a loop over cells
 
-pub held_first : (t : NcType) (fill : ℤ) (cells : List (Option ℤ)) (i : ℕ) (c : Option ℤ) → i < length cells → c ≡ get_or cells i c → are_held t fill (drop i cells) ≡ true → holds t (number_or fill c) ≡ true
-held_first t fill cells i c lt is held =
-    ap (λ d. holds t (number_or fill d)) is ∙ (and_parts (holds t (number_or fill (get_or cells i c))) (are_held t fill (drop (i + 1) cells)) (sym (at_drop_more (are_held t fill) cells i c lt) ∙ held)).0
+-- an array of a few bytes is one that memory can hold
+pub a_few_bytes : (n : ℕ) → n ≤ 8 → n * 1 < 9223372036854775808
+a_few_bytes n le = omega arith
 
-pub held_rest : (t : NcType) (fill : ℤ) (cells : List (Option ℤ)) (i : ℕ) (c : Option ℤ) → i < length cells → are_held t fill (drop i cells) ≡ true → are_held t fill (drop (i + 1) cells) ≡ true
-held_rest t fill cells i c lt held = (and_parts (holds t (number_or fill (get_or cells i c))) (are_held t fill (drop (i + 1) cells)) (sym (at_drop_more (are_held t fill) cells i c lt) ∙ held)).1
+pub held_at : (t : NcType) (fill : ℤ) (cells : List (Option ℤ)) (i : ℕ) (c : Option ℤ) → are_held t fill cells ≡ true → i < length cells → c ≡ get_or cells i c → holds t (number_or fill c) ≡ true
+held_at t fill (x ∷ cells) zero c held lt is = ap (λ d. holds t (number_or fill d)) is ∙ (and_parts (holds t (number_or fill x)) (are_held t fill cells) held).0
+held_at t fill (x ∷ cells) (suc i) c held lt is = held_at t fill cells i c (and_parts (holds t (number_or fill x)) (are_held t fill cells) held).1 (omega arith) is
+held_at t fill [] i c held lt is = absurd (omega arith)
 
-pub bytes_more : (t : NcType) (fill : ℤ) (cells : List (Option ℤ)) (i : ℕ) (c : Option ℤ) (out more whole : List ℕ) → i < length cells → c ≡ get_or cells i c → more ≡ out ++ value_bytes t (number_or fill c) → out ++ cells_bytes t fill (drop i cells) ≡ whole → more ++ cells_bytes t fill (drop (i + 1) cells) ≡ whole
-bytes_more t fill cells i c out more whole lt is put so_far =
-    let rest = cells_bytes t fill (drop (i + 1) cells) in
-    ap (λ m. m ++ rest) put ∙ append_assoc out (value_bytes t (number_or fill c)) rest ∙ ap (λ d. out ++ (value_bytes t (number_or fill d) ++ rest)) is
-    ∙ ap (λ l. out ++ l) (sym (at_drop_more (cells_bytes t fill) cells i c lt)) ∙ so_far
+-- one more cell of a strip, whose bytes are set behind those that are set
+pub strip_more : (f : Option ℤ → List ℕ) (cells : List (Option ℤ)) (strip : List (List ℕ)) (from i : ℕ) (c : Option ℤ) (raw : List ℕ) → from + i < length cells → i < length strip → c ≡ get_or cells (from + i) c → raw ≡ f c
+    → take i strip ≡ map f (take i (drop from cells)) → take (i + 1) (set strip i raw) ≡ map f (take (i + 1) (drop from cells))
+strip_more f cells strip from i c raw lt room at is so_far =
+    take_more_set strip i raw room ∙ ap (λ l. l ++ raw ∷ []) so_far ∙ ap (λ r. map f (take i (drop from cells)) ++ r ∷ []) (is ∙ ap f (at ∙ sym (get_or-drop from cells i c)))
+    ∙ sym (map_more f (drop from cells) i c (omega (arith, length-drop from cells)))
 
-pub bytes_end : (t : NcType) (fill : ℤ) (cells : List (Option ℤ)) (i : ℕ) (out whole : List ℕ) → length cells ≤ i → out ++ cells_bytes t fill (drop i cells) ≡ whole → out ≡ whole
-bytes_end t fill cells i out whole le so_far = sym (append-nil out) ∙ ap (λ l. out ++ l) (sym (at_drop_all (cells_bytes t fill) cells i le)) ∙ so_far
+-- the bytes of one more strip
+pub strips_more : (t : NcType) (fill : ℤ) (cells : List (Option ℤ)) (from n : ℕ) (strip : List (List ℕ)) → take n strip ≡ map (λ c. value_bytes t (number_or fill c)) (take n (drop from cells))
+    → cells_bytes t fill (take from cells) ++ flat_map (λ x. x) (take n strip) ≡ cells_bytes t fill (take (from + n) cells)
+strips_more t fill cells from n strip is =
+    let f : Option ℤ → List ℕ = λ c. value_bytes t (number_or fill c) in
+    ap (λ l. flat_map f (take from cells) ++ flat_map (λ x. x) l) is
+    ∙ ap (λ l. flat_map f (take from cells) ++ l) (flat_map-map (λ x. x) f (take n (drop from cells)))
+    ∙ sym (flat_map-append f (take from cells) (take n (drop from cells)))
+    ∙ ap (flat_map f) (sym (take-add from n cells))
 
 -- types of fractions hold no number, and none has bytes
 pub no_bytes : (t : NcType) (fill : ℤ) (cells : List (Option ℤ)) → ((n : ℤ) → value_bytes t n ≡ []) → cells_bytes t fill cells ≡ []

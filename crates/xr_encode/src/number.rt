@@ -2,7 +2,6 @@
 ghost use Rattle.std.specs.Prelude.{◌≡◌, ◌++◌, true, OnOk};
 ghost use Rattle.xr_types.specs.declared.attr.NcType.{NcType as FileType};
 ghost use Rattle.xr_types.specs.declared.attr.NcType.TheVariants as types;
-ghost use Rattle.xr_types.specs.Widths.{width};
 ghost use Rattle.xr_files.specs.Classic.{has_type};
 ghost use Rattle.xr_defs.specs.Decoding.{is_integer};
 ghost use Rattle.xr_defs.specs.Encoding.{classic_type, own_type, holds, may_fill, type_of, value_bytes};
@@ -101,114 +100,78 @@ pub fn may_fill(kind: DType, n: i128) -> bool
     holds(own_type(kind), n)
 }
 
-/// A type of whole numbers in memory, as the type of a file that it is written in. `u8` serves `char` and `ubyte`.
-pub trait Written {
+/// A type of whole numbers in memory, as the type of a file that it is written in, in N bytes each. `u8` serves `char` and `ubyte`.
+pub trait Written<const N: usize> {
     /// The type of the file.
     ghost kind: { FileType };
 
-    /// How many bytes a value takes.
-    fn width() -> usize
-        ensures { result ≡ width kind };
-
-    /// Appends the bytes of a number.
-    fn put(out: &mut Vec<u8>, n: i128) -> Result<(), AllocError>
+    /// The bytes of a number.
+    fn bytes(n: i128) -> [u8; N]
         requires { holds kind n ≡ true }
-        ensures { OnOk result (out.new.items ≡ out.old.items ++ value_bytes kind n) };
+        ensures { result ≡ value_bytes kind n };
 }
 
-impl Written for u8 {
+impl Written<1> for u8 {
     ghost kind = { types.Char };
 
-    fn width() -> usize {
-        1
-    }
-
-    fn put(out: &mut Vec<u8>, n: i128) -> Result<(), AllocError> {
-        out.extend_from_slice(&(n as u8).to_be_bytes())
+    fn bytes(n: i128) -> [u8; 1] {
+        (n as u8).to_be_bytes()
     }
 }
 
-impl Written for i8 {
+impl Written<1> for i8 {
     ghost kind = { types.Byte };
 
-    fn width() -> usize {
-        1
-    }
-
-    fn put(out: &mut Vec<u8>, n: i128) -> Result<(), AllocError> {
-        out.extend_from_slice(&(n as i8).to_be_bytes())
+    fn bytes(n: i128) -> [u8; 1] {
+        (n as i8).to_be_bytes()
     }
 }
 
-impl Written for i16 {
+impl Written<2> for i16 {
     ghost kind = { types.Short };
 
-    fn width() -> usize {
-        2
-    }
-
-    fn put(out: &mut Vec<u8>, n: i128) -> Result<(), AllocError> {
-        out.extend_from_slice(&(n as i16).to_be_bytes())
+    fn bytes(n: i128) -> [u8; 2] {
+        (n as i16).to_be_bytes()
     }
 }
 
-impl Written for i32 {
+impl Written<4> for i32 {
     ghost kind = { types.Int };
 
-    fn width() -> usize {
-        4
-    }
-
-    fn put(out: &mut Vec<u8>, n: i128) -> Result<(), AllocError> {
-        out.extend_from_slice(&(n as i32).to_be_bytes())
+    fn bytes(n: i128) -> [u8; 4] {
+        (n as i32).to_be_bytes()
     }
 }
 
-impl Written for u16 {
+impl Written<2> for u16 {
     ghost kind = { types.UShort };
 
-    fn width() -> usize {
-        2
-    }
-
-    fn put(out: &mut Vec<u8>, n: i128) -> Result<(), AllocError> {
-        out.extend_from_slice(&(n as u16).to_be_bytes())
+    fn bytes(n: i128) -> [u8; 2] {
+        (n as u16).to_be_bytes()
     }
 }
 
-impl Written for u32 {
+impl Written<4> for u32 {
     ghost kind = { types.UInt };
 
-    fn width() -> usize {
-        4
-    }
-
-    fn put(out: &mut Vec<u8>, n: i128) -> Result<(), AllocError> {
-        out.extend_from_slice(&(n as u32).to_be_bytes())
+    fn bytes(n: i128) -> [u8; 4] {
+        (n as u32).to_be_bytes()
     }
 }
 
-impl Written for i64 {
+impl Written<8> for i64 {
     ghost kind = { types.Int64 };
 
-    fn width() -> usize {
-        8
-    }
-
-    fn put(out: &mut Vec<u8>, n: i128) -> Result<(), AllocError> {
-        out.extend_from_slice(&(n as i64).to_be_bytes())
+    fn bytes(n: i128) -> [u8; 8] {
+        (n as i64).to_be_bytes()
     }
 }
 
-impl Written for u64 {
+impl Written<8> for u64 {
     ghost kind = { types.UInt64 };
 
-    fn width() -> usize {
-        8
-    }
-
-    fn put(out: &mut Vec<u8>, n: i128) -> Result<(), AllocError> {
-        out.extend_from_slice(&(n as u64).to_be_bytes())
+    fn bytes(n: i128) -> [u8; 8] {
+        (n as u64).to_be_bytes()
     }
 }
 
@@ -218,16 +181,16 @@ pub fn push_value(out: &mut Vec<u8>, kind: NcType, n: i128) -> Result<(), AllocE
     ensures { OnOk result (out.new.items ≡ out.old.items ++ value_bytes kind n) }
 {
     match kind {
-        NcType::Byte => i8::put(out, n),
-        NcType::Char | NcType::UByte => u8::put(out, n),
-        NcType::Short => i16::put(out, n),
-        NcType::Int => i32::put(out, n),
+        NcType::Byte => out.extend_from_slice(&i8::bytes(n)),
+        NcType::Char | NcType::UByte => out.extend_from_slice(&u8::bytes(n)),
+        NcType::Short => out.extend_from_slice(&i16::bytes(n)),
+        NcType::Int => out.extend_from_slice(&i32::bytes(n)),
         // these hold none
         NcType::Float | NcType::Double => Ok(()),
-        NcType::UShort => u16::put(out, n),
-        NcType::UInt => u32::put(out, n),
-        NcType::Int64 => i64::put(out, n),
-        NcType::UInt64 => u64::put(out, n),
+        NcType::UShort => out.extend_from_slice(&u16::bytes(n)),
+        NcType::UInt => out.extend_from_slice(&u32::bytes(n)),
+        NcType::Int64 => out.extend_from_slice(&i64::bytes(n)),
+        NcType::UInt64 => out.extend_from_slice(&u64::bytes(n)),
     }
 }
 
