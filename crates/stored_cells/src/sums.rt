@@ -1,5 +1,5 @@
 //! Sums of the numbers of a file, straight from their bytes.
-ghost use Rattle.std.specs.Prelude.{◌≡◌, ◌+ℤ◌, ℤ, pos, List, [], ◌∷◌, true, if◌then◌else◌};
+ghost use Rattle.std.specs.Prelude.{◌≡◌, ◌+ℤ◌, pos, [], true, if◌then◌else◌};
 ghost use Rattle.xr_types.specs.Kinds.{wrap_to};
 ghost use Rattle.xr_types.specs.declared.kind.DType.TheVariants.{Int64};
 ghost use Rattle.xr_arrays.specs.Folds.{sum_of};
@@ -7,66 +7,9 @@ ghost use Rattle.xr_arrays.specs.Numbers.{is_whole, numbers_of};
 ghost use Rattle.xr_arrays.specs.Stored.{is_fill};
 ghost use Rattle.stored_cells.specs.Counted.{present};
 
-use crate::masks::holds;
+use crate::fills::{Fills, NoFill, OneFill, SomeFills};
 use crate::number::Number;
-use xr_types::{Elem, NcType};
-
-// Numbers that stand for missing cells.
-trait Fills {
-    ghost numbers: { Self → List ℤ };
-
-    // Whether a cell holds one of them.
-    fn hide<T: Elem>(&self, cell: T) -> bool
-        ensures { result ≡ is_fill (numbers self.now) (T.number cell) };
-}
-
-#[derive(Clone, Copy)]
-struct NoFill;
-
-impl Fills for NoFill {
-    ghost numbers = { λ f. [] };
-
-    fn hide<T: Elem>(&self, _cell: T) -> bool {
-        false
-    }
-}
-
-#[derive(Clone, Copy)]
-struct OneFill {
-    fill: i128,
-}
-
-impl Fills for OneFill {
-    ghost numbers = { λ f. f.fill ∷ [] };
-
-    fn hide<T: Elem>(&self, cell: T) -> bool {
-        holds(cell, self.fill)
-    }
-}
-
-#[derive(Clone, Copy)]
-struct SomeFills<'a> {
-    fills: &'a [i128],
-}
-
-impl<'a> Fills for SomeFills<'a> {
-    ghost numbers = { λ f. f.fills.now };
-
-    fn hide<T: Elem>(&self, cell: T) -> bool {
-        is_fill(self.fills, cell.widen())
-    }
-}
-
-fn is_fill(fills: &[i128], n: i128) -> bool
-    ensures { result ≡ is_fill fills.now n }
-{
-    for fill in fills {
-        if n == *fill {
-            return true;
-        }
-    }
-    false
-}
+use xr_types::NcType;
 
 #[tactic(auto, using(std::proofs::lemmas::Int::wraps))]
 fn added(a: i64, b: i64) -> i64
