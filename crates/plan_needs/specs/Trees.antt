@@ -1,5 +1,5 @@
 -- Nodes whose cells come strip by strip from those of other nodes, and how long the values that they come from are kept.
-use Rattle.std.specs.Prelude.{◌≡◌, ◌<◌, ◌≤◌, ◌+◌, ℕ, zero, suc, Bool, true, false, max, List, [], ◌∷◌, length, get_or, Option, None, All, MatchOption, is_some, ◌||◌}
+use Rattle.std.specs.Prelude.{◌≡◌, ◌<◌, ◌≤◌, ◌+◌, ℕ, zero, suc, Bool, true, false, max, List, [], ◌∷◌, length, get_or, Option, None, All, MatchOption, is_some, ◌||◌, ◌&&◌, ◌==◌}
 use Rattle.std.specs.Option.{option_or}
 use Rattle.xr_arrays.specs.declared.node.Node.{Node}
 use Rattle.xr_arrays.specs.declared.node.Node.TheVariants.{Source, Take, Reorder, Widen, Unary, Binary, Choose, Fold, Scan, Concat, Chunk}
@@ -10,11 +10,20 @@ use Rattle.plan_needs.specs.Spreads.{spread}
 
 -- ---- sorts of nodes
 
+-- each number is one more than that before it, and the first is this one
+abbrev pub counts_from : ℕ → List ℕ → Bool
+counts_from first [] = true
+counts_from first (n ∷ ns) = (n == first) && counts_from (first + 1) ns
+
+-- each axis stays in its place
+abbrev pub keeps_axes : List ℕ → Bool
+keeps_axes order = counts_from 0 order
+
 -- each cell comes from those at its place in the inputs
 abbrev pub is_each_cell : Node → Bool
 is_each_cell (Source a) = false
 is_each_cell (Take n axis from fill drops) = false
-is_each_cell (Reorder n order) = false
+is_each_cell (Reorder n order) = keeps_axes order
 is_each_cell (Widen n axis count) = false
 is_each_cell (Unary op kind n) = true
 is_each_cell (Binary op m n) = true
@@ -28,7 +37,7 @@ is_each_cell (Chunk n sizes) = false
 abbrev pub takes_strips : Node → Bool
 takes_strips (Source a) = false
 takes_strips (Take n axis from fill drops) = false
-takes_strips (Reorder n order) = false
+takes_strips (Reorder n order) = keeps_axes order
 takes_strips (Widen n axis count) = false
 takes_strips (Unary op kind n) = true
 takes_strips (Binary op m n) = true

@@ -11,11 +11,11 @@ use Rattle.xr_arrays.specs.Elements.{unary_of, binary_of, choose_of, result_kind
 use Rattle.xr_arrays.specs.Nodes.{value, most_node_cells}
 use Rattle.plan_needs.specs.Trees.{IsStrand}
 
--- the input whose sizes a node has
+-- the input whose sizes a node has, where it comes cell by cell
 abbrev pub alike : Node → Option ℕ
 alike (Source a) = None
 alike (Take n axis from fill drops) = None
-alike (Reorder n order) = None
+alike (Reorder n order) = Some n
 alike (Widen n axis count) = None
 alike (Unary op kind n) = Some n
 alike (Binary op m n) = Some m

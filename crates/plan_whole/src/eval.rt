@@ -6,7 +6,8 @@ ghost use Rattle.plan_core.specs.Needs.{inputs_at, IsHeld, IsReady};
 ghost use Rattle.plan_needs.specs.Trees.{takes_in_strips, takes_strips, IsStrand, IsTree};
 
 use crate::fold::{fold, sum_strips, sums_all};
-use crate::strips::{Tree, collect, computed_sizes, standing};
+use crate::standing::{standing, unchanged_input};
+use crate::strips::{Tree, collect, collect_cells, computed_sizes};
 use arrangement::{concat, points, reorder, take, widen};
 use plan_needs::{comes_in_strips, input, inputs};
 use row_folds::scan;
@@ -65,8 +66,8 @@ fn value_of(
     }
 }
 
-// The fold of a node whose cells come strip by strip: for the sum of all, no more than a strip of them is there at a time.
-fn fold_tree(
+// The fold of a node from strips of its value: for the sum of all, no more than a strip of them is there at a time.
+fn fold_strips(
     alloc: Global,
     nodes: &[Node],
     done: &[Option<ArrayValue>],
@@ -86,8 +87,29 @@ fn fold_tree(
         let count = points(&sizes) as usize;
         return sum_strips(alloc, &Tree { nodes, done, at }, count);
     }
-    let a = collect(alloc, nodes, done, at)?;
+    let a = collect_cells(alloc, nodes, done, at)?;
     fold(alloc, kind, &a, feeds)
+}
+
+// The fold of a node whose cells come strip by strip: of the array that stands there, where no cell changes.
+fn fold_tree(
+    alloc: Global,
+    nodes: &[Node],
+    done: &[Option<ArrayValue>],
+    kind: FoldKind,
+    at: usize,
+    feeds: &[Feed],
+) -> Result<ArrayValue, AllocError>
+    requires tree { IsTree nodes.now done.now at }
+    requires feeds { length feeds.now ≡ length (value nodes.now at).shape }
+    requires fed { AreFed feeds.now (value nodes.now at).shape }
+    requires small { size (kept feeds.now (value nodes.now at).shape) ≤ most_node_cells }
+    ensures { IfOk result (λ b. b ≡ folded kind feeds.now (value nodes.now at)) }
+{
+    match unchanged_input(nodes, done, at) {
+        Some(a) => fold(alloc, kind, a, feeds),
+        None => fold_strips(alloc, nodes, done, kind, at, feeds),
+    }
 }
 
 // The fold of a node whose cells may come strip by strip.

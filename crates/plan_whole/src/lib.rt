@@ -5,6 +5,7 @@
 mod eval;
 mod fold;
 mod numbers;
+mod standing;
 mod strips;
 mod total;
 mod whole;

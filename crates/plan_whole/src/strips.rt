@@ -1,46 +1,22 @@
 //! The values of nodes strip by strip: no node between that of which strips are asked and those whose values stand there is
 //! computed as a whole array.
-ghost use Rattle.std.specs.Prelude.{◌≡◌, ◌<◌, ◌≤◌, ◌+◌, true, length, get_or, insert, is_some, IfOk, option_map};
+ghost use Rattle.std.specs.Prelude.{◌≡◌, ◌≤◌, ◌+◌, true, length, get_or, insert, is_some, IfOk};
 ghost use Rattle.xr_types.specs.Points.{size};
 ghost use Rattle.xr_arrays.specs.Nodes.{value};
 ghost use Rattle.cell_strips.specs.Strips.{strip};
 ghost use Rattle.plan_needs.specs.Spreads.{widens};
-ghost use Rattle.plan_needs.specs.Trees.{is_each_cell, standing, IsStrand, IsTree};
+ghost use Rattle.plan_needs.specs.Trees.{is_each_cell, IsStrand, IsTree};
 ghost use Rattle.plan_whole.specs.Operations.{alike, BinaryTree, ChooseTree, UnaryTree};
 
+use crate::standing::{leaves_cells, standing, unchanged_input};
 use arrangement::points;
 use cell_strips::{
     Strips, choose_cells, collect_strips, operate_one, operate_two, spread, strip_of,
 };
-use plan_needs::{source, spread_cell};
+use plan_needs::spread_cell;
 use std::alloc::{AllocError, Global};
 use xr_arrays::{ArrayValue, Node};
 use xr_types::{DType, NodeId, OpKind};
-
-fn kept(done: &Option<ArrayValue>) -> Option<&ArrayValue>
-    ensures { option_map (λ a. a.now) result ≡ done.now }
-{
-    match done {
-        Some(a) => Some(a),
-        None => None,
-    }
-}
-
-/// The cells of a source, and what is kept of another node.
-pub fn standing<'a>(
-    nodes: &'a [Node],
-    done: &'a [Option<ArrayValue>],
-    at: usize,
-) -> Option<&'a ArrayValue>
-    requires there { at < length nodes.now }
-    requires done { at < length done.now }
-    ensures { option_map (λ a. a.now) result ≡ standing nodes.now done.now at }
-{
-    match source(&nodes[at]) {
-        Some(cells) => Some(cells),
-        None => kept(&done[at]),
-    }
-}
 
 // So many cells of a node's value in row order from a place on.
 #[cycle(strips)]
@@ -127,7 +103,9 @@ fn operated_strip(
             from,
             n,
         ),
-        Node::Source { .. } | Node::Take { .. } | Node::Reorder { .. } => unreachable!(),
+        // Its axes stay in their places.
+        Node::Reorder { input, .. } => strip_at(alloc, nodes, done, *input as usize, from, n),
+        Node::Source { .. } | Node::Take { .. } => unreachable!(),
         Node::Widen { .. } | Node::Fold { .. } | Node::Scan { .. } => unreachable!(),
         Node::Concat { .. } | Node::Chunk { .. } => unreachable!(),
     }
@@ -150,6 +128,9 @@ fn unary_strip(
     ensures { IfOk result (λ b. b ≡ strip from n (value nodes.now at)) }
 {
     let a = strip_at(alloc, nodes, done, input, from, n)?;
+    if leaves_cells(op, kind, a.kind()) {
+        return Ok(a);
+    }
     operate_one(alloc, op, kind, &a)
 }
 
@@ -213,7 +194,7 @@ fn sizes_at(
     }
 }
 
-// The input whose sizes a node has.
+// The input whose sizes a node has, where it comes cell by cell.
 fn alike(node: &Node) -> Option<NodeId>
     ensures { result ≡ alike node.now }
 {
@@ -221,7 +202,8 @@ fn alike(node: &Node) -> Option<NodeId>
         Node::Unary { input, .. } => Some(*input),
         Node::Binary { a, .. } => Some(*a),
         Node::Choose { a, .. } => Some(*a),
-        Node::Source { .. } | Node::Take { .. } | Node::Reorder { .. } => None,
+        Node::Reorder { input, .. } => Some(*input),
+        Node::Source { .. } | Node::Take { .. } => None,
         Node::Widen { .. } | Node::Fold { .. } | Node::Scan { .. } => None,
         Node::Concat { .. } | Node::Chunk { .. } => None,
     }
@@ -298,8 +280,8 @@ impl<'a> Strips for Tree<'a> {
     }
 }
 
-/// The value of a node that is computed from strips.
-pub fn collect(
+/// The value of a node that is computed from strips, put together from them.
+pub fn collect_cells(
     alloc: Global,
     nodes: &[Node],
     done: &[Option<ArrayValue>],
@@ -311,4 +293,21 @@ pub fn collect(
     let sizes = computed_sizes(alloc, nodes, done, at)?;
     let total = points(&sizes) as usize;
     collect_strips(alloc, &Tree { nodes, done, at }, &sizes, total)
+}
+
+/// The value of a node that is computed from strips. Where no cell changes, it is a copy of the array that stands there, in the
+/// form in which that is kept.
+pub fn collect(
+    alloc: Global,
+    nodes: &[Node],
+    done: &[Option<ArrayValue>],
+    at: usize,
+) -> Result<ArrayValue, AllocError>
+    requires { IsTree nodes.now done.now at }
+    ensures { IfOk result (λ a. a ≡ value nodes.now at) }
+{
+    match unchanged_input(nodes, done, at) {
+        Some(a) => a.copy(alloc),
+        None => collect_cells(alloc, nodes, done, at),
+    }
 }

@@ -1,6 +1,6 @@
 use Rattle.std.proofs.Common.{◌∙◌, ap, sym, option_map}
 use Rattle.plan_whole.proofs.Standing.{kept_stands_there, source_stands_there}
-use Rattle.plan_whole.proofs.strips.standing.Goals as goal
+use Rattle.plan_whole.proofs.standing.standing.Goals as goal
 
 pub returns-in-Some : goal.returns-in-Some
 returns-in-Some c = source_stands_there c.args.nodes.now c.args.done.now c.args.at c.index-nodes-at.result c.in-Some.cells.now c.requires.there c.index-nodes-at.is (sym (ap (option_map (λ a. a.now)) c.in-Some.is) ∙ c.source.ensures)

@@ -4,7 +4,7 @@ use Rattle.xr_arrays.specs.Nodes.{nothing, value, most_node_cells}
 use Rattle.xr_arrays.specs.declared.node.Node.TheVariants.{Source}
 use Rattle.plan_core.proofs.Needs.{value_small}
 use Rattle.plan_core.proofs.Valued.{value_is_array}
-use Rattle.plan_whole.proofs.strips.collect.Goals as goal
+use Rattle.plan_whole.proofs.strips.collect_cells.Goals as goal
 
 pub collect_strips-requires-clause-array : goal.collect_strips-requires-clause-array
 collect_strips-requires-clause-array c = value_is_array c.args.nodes.now c.args.at c.requires.fit c.requires.at_there

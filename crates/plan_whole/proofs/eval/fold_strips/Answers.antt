@@ -7,7 +7,7 @@ use Rattle.plan_core.proofs.Takes.{if_ok}
 use Rattle.plan_core.proofs.Valued.{value_is_array}
 use Rattle.plan_whole.proofs.Evaluated.{fold_fits}
 use Rattle.plan_whole.proofs.FoldedCells.{sum_is}
-use Rattle.plan_whole.proofs.eval.fold_tree.Goals as goal
+use Rattle.plan_whole.proofs.eval.fold_strips.Goals as goal
 
 pub sums_all-requires : goal.sums_all-requires
 sums_all-requires c = c.requires.feeds ∙ ap length (sym (c.deref.ensures.value ∙ c.in_ok-sizes.ensures))
