@@ -1,5 +1,5 @@
 -- Arrays all of whose cells are one cell.
-use Rattle.std.proofs.Common.{◌≡◌, ◌<◌, ◌≤◌, ◌+◌, ◌-◌, ℕ, ℤ, zero, suc, List, [], ◌∷◌, length, take, drop, insert, replicate, get_or, Option, Some, None, refl, sym, ap, subst, ◌∙◌, arith}
+use Rattle.std.proofs.Common.{◌≡◌, ◌<◌, ◌≤◌, ◌+◌, ◌-◌, ℕ, ℤ, zero, suc, List, [], ◌∷◌, length, take, drop, replicate, get_or, Option, Some, None, refl, sym, ap, subst, ◌∙◌, arith}
 use Rattle.std.specs.List.{All}
 use Rattle.std.specs.Option.{option_or}
 use Rattle.std.proofs.lemmas.List.{get_or_default, length-take, length-drop, length-replicate}
@@ -10,9 +10,8 @@ use Rattle.xr_arrays.specs.declared.node.Node.TheVariants.{Source, Take, Reorder
 use Rattle.xr_arrays.specs.Arrays.{at, Array, IsArray}
 use Rattle.xr_arrays.specs.Nodes.{nothing, value, widened, without, AllFit}
 use Rattle.plan_core.specs.Needs.{source_at, source_of}
-use Rattle.plan_core.specs.Widens.{IsWidening}
-use Rattle.plan_core.proofs.Needs.{by_inputs, source_at_is, value_small, widen_ready}
-use Rattle.plan_core.proofs.Tabs.{place_below, tab-length, All-tab}
+use Rattle.plan_core.proofs.Needs.{by_inputs, source_at_is, widen_ready}
+use Rattle.plan_core.proofs.Tabs.{place_below, All-tab}
 use Rattle.plan_core.proofs.Valued.{value_is_array}
 use Rattle.plan_core.proofs.Widens.{without_inside}
 use Rattle.plan_needs.specs.Spreads.{found, one_cell, spread, widens, widens_at, without_axes, IsSpread}

@@ -1,6 +1,6 @@
 //! Which nodes are computed as whole arrays. Any choice gives the same values: this one decides how much memory and time they
 //! take. A node comes strip by strip where its cells serve one other node alone, and it replaces no two arrays by one.
-ghost use Rattle.std.specs.Prelude.{◌≡◌, ◌<◌, ◌≤◌, ◌+◌, [], length, true, get_or, OnOk, IfOk};
+ghost use Rattle.std.specs.Prelude.{◌≡◌, ◌<◌, ◌≤◌, ◌+◌, ℕ, [], length, true, get_or, OnOk, IfOk};
 ghost use Rattle.xr_arrays.specs.Nodes.{AllFit};
 
 use crate::held::{inputs_of, is_source};
@@ -138,7 +138,7 @@ fn is_whole(users: Users, load: Load) -> bool {
     }
 }
 
-// Whether a node is computed as a whole array, and what strips of it come from then.
+// Whether a node that is needed is computed as a whole array, and what strips of it come from then.
 fn choice(
     alloc: Global,
     nodes: &[Node],
@@ -151,7 +151,7 @@ fn choice(
 {
     let none = Load { arrays: 0, deep: 0 };
     let kept = Load { arrays: 1, deep: 0 };
-    if !is_needed(users) || is_source(&nodes[at]) {
+    if is_source(&nodes[at]) {
         return Ok((true, none));
     }
     if is_spread(nodes, at) {
@@ -168,6 +168,32 @@ fn choice(
     }
 }
 
+// Says so of one node, if it is needed.
+fn choose(
+    alloc: Global,
+    nodes: &[Node],
+    at: usize,
+    users: Users,
+    loads: &mut [Load],
+    whole: &mut [bool],
+) -> Result<(), AllocError>
+    requires fit { AllFit [] nodes.now }
+    requires inside { at < length nodes.now }
+    requires loads { at < length loads.old }
+    requires whole { at < length whole.old }
+    ensures loads { length loads.new ≡ length loads.old }
+    ensures long { length whole.new ≡ length whole.old }
+    ensures others { (k : ℕ) → at < k → get_or whole.new k true ≡ get_or whole.old k true }
+{
+    if !is_needed(users) {
+        return Ok(());
+    }
+    let (is_whole, load) = choice(alloc, nodes, at, users, loads)?;
+    loads[at] = load;
+    whole[at] = is_whole;
+    Ok(())
+}
+
 /// For each node up to this one whether it is computed as a whole array, as this one is.
 pub fn whole_nodes(alloc: Global, nodes: &[Node], node: usize) -> Result<Vec<bool>, AllocError>
     requires fit { AllFit [] nodes.now }
@@ -175,14 +201,12 @@ pub fn whole_nodes(alloc: Global, nodes: &[Node], node: usize) -> Result<Vec<boo
     ensures long { IfOk result (λ v. length v.items ≡ node + 1) }
     ensures root { IfOk result (λ v. get_or v.items node true ≡ true) }
 {
+    let count = node + 1;
     let users = users_of(alloc, nodes, node)?;
-    let mut loads = Vec::new(alloc);
-    let mut all = Vec::new(alloc);
+    let mut loads = Vec::from_elem(alloc, Load { arrays: 0, deep: 0 }, count)?;
+    let mut whole = Vec::from_elem(alloc, true, count)?;
     for at in 0..node {
-        let (whole, load) = choice(alloc, nodes, at, users[at], &loads)?;
-        loads.push(load)?;
-        all.push(whole)?;
+        choose(alloc, nodes, at, users[at], &mut loads, &mut whole)?;
     }
-    all.push(true)?;
-    Ok(all)
+    Ok(whole)
 }

@@ -1,13 +1,16 @@
 -- When a plan of the tests takes a node.
-use Rattle.std.proofs.Common.{◌≡◌, ◌≤◌, ◌*◌, ◌∙◌, ℕ, List, [], ◌∷◌, length, refl, sym, ap, subst, arith}
+use Rattle.std.proofs.Common.{◌≡◌, ◌≤◌, ◌*◌, ◌<◌, ◌^◌, ◌∙◌, ℕ, zero, suc, true, List, [], ◌∷◌, get_or, length, map, refl, sym, ap, subst, arith}
+use Rattle.std.specs.Prelude.{◌==◌}
+use Rattle.std.specs.List.{list_any}
 use Rattle.xr_types.specs.declared.kind.DType.{DType}
 use Rattle.xr_types.specs.declared.kind.DType.TheVariants.{Bool as Truths, Int16}
 use Rattle.xr_arrays.specs.Arrays.{Array, IsArray}
 use Rattle.xr_types.specs.Points.{size}
-use Rattle.xr_arrays.specs.Nodes.{values, node_value, IsNode, most_axes, most_node_cells}
+use Rattle.xr_types.specs.declared.operation.OpKind.TheVariants.{Cast}
+use Rattle.xr_arrays.specs.Nodes.{reordered, values, node_value, IsNode, IsOrder, most_axes, most_node_cells}
 use Rattle.xr_arrays.specs.declared.node.Node.{Node}
-use Rattle.xr_arrays.specs.declared.node.Node.TheVariants.{Source}
-use Rattle.plan_core.proofs.Fitting.{source_fits, source_values}
+use Rattle.xr_arrays.specs.declared.node.Node.TheVariants.{Reorder, Source, Unary}
+use Rattle.plan_core.proofs.Fitting.{reorder_fits, source_fits, source_values, unary_fits}
 use Rattle.plan_tests.specs.Sources.{AreSources}
 
 -- a node that fits behind any two arrays of these kinds and shapes
@@ -46,3 +49,28 @@ no_truths t is e = differ (sym is ∙ e)
   where
     differ : Int16 ≡ Truths → ⊥
     differ e = cc
+
+-- ---- rows whose axes stay, and a cast of them
+
+each_row : (k : ℕ) → k < 2 → list_any (λ o. o == k) (0 ∷ 1 ∷ []) ≡ true
+each_row zero lt = refl
+each_row (suc zero) lt = refl
+each_row (suc (suc k)) lt = absurd (omega arith)
+
+pub rows_reorder : (a : Array) (order : List ℕ) → a.shape ≡ 3 ∷ 2 ∷ [] → order ≡ 0 ∷ 1 ∷ [] → IsNode (a ∷ []) (Reorder 0 order)
+rows_reorder a order shape is =
+    let there : 0 < 1 = omega arith in
+    let small : 6 ≤ 2 ^ 50 = omega arith in
+    subst (λ (order : List ℕ). IsNode (a ∷ []) (Reorder 0 order)) (sym is) (reorder_fits (a ∷ []) 0 (3 ∷ 2 ∷ []) (0 ∷ 1 ∷ []) there shape (refl, each_row) small two_axes)
+
+two_values : (a : Array) (order : List ℕ) → values (Source a ∷ Reorder 0 order ∷ []) ≡ a ∷ reordered a order ∷ []
+unfolding node_value
+two_values a order = refl
+
+pub rows_cast : (nodes : List Node) (a : Array) (order : List ℕ) (kind : DType) → nodes ≡ Source a ∷ Reorder 0 order ∷ [] → a.shape ≡ 3 ∷ 2 ∷ [] → order ≡ 0 ∷ 1 ∷ [] → IsNode (values nodes) (Unary Cast kind 1)
+rows_cast nodes a order kind is shape in_order =
+    let there : 1 < 2 = omega arith in
+    let small : 6 ≤ 2 ^ 50 = omega arith in
+    let sizes : map (λ k. get_or a.shape k 0) order ≡ 3 ∷ 2 ∷ [] = ap (map (λ k. get_or a.shape k 0)) in_order ∙ ap (λ (s : List ℕ). get_or s 0 0 ∷ get_or s 1 0 ∷ []) shape in
+    subst (λ (ns : List Node). IsNode (values ns) (Unary Cast kind 1)) (sym is)
+    (subst (λ (vs : List Array). IsNode vs (Unary Cast kind 1)) (sym (two_values a order)) (unary_fits (a ∷ reordered a order ∷ []) Cast kind 1 (3 ∷ 2 ∷ []) there sizes refl tt (λ e. absurd cc) small two_axes))

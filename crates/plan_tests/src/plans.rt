@@ -708,3 +708,45 @@ fn a_stored_column_is_decoded(rt: HostRuntime) -> Result<(), Fail> {
     let cells = [Some(2), None, Some(6)];
     takes_of_rows(alloc, &[4], 1, &[Some(1)], true, None, &cells)
 }
+
+// Those rows, their axes in their order, and their cells as another kind or their own.
+fn cast_rows(alloc: Global, kind: DType) -> Result<Plan, Fail>
+    ensures { IfOk result (λ plan. length plan ≡ 3) }
+{
+    let a = in_file(alloc, &[3, 2], 6, NcType::Short, &ROWS, &[4])?;
+    let mut plan = source(alloc, a)?;
+    let order = Shape::from_slice(&[0, 1]);
+    push(&mut plan, Node::Reorder { input: 0, order })?;
+    let node = Node::Unary {
+        op: OpKind::Cast,
+        kind,
+        input: 1,
+    };
+    push(&mut plan, node)?;
+    Ok(plan)
+}
+
+// Fails unless the rows as this kind have these bytes where they are kept as a file has them, and their cells.
+fn casts<R: Threads + Sync>(
+    rt: &R,
+    alloc: Global,
+    kind: DType,
+    bytes: Option<&[u8]>,
+) -> Result<(), Fail>
+    requires { IsSync R.row }
+{
+    let plan = cast_rows(alloc, kind)?;
+    let array = computed(rt, alloc, &plan, 2).ok_or("no cells")?;
+    let cells = [Some(1), Some(2), Some(3), None, Some(5), Some(6)];
+    is_kept(alloc, &array, bytes, &cells)
+}
+
+#[test]
+fn stored_cells_that_stay_share_their_bytes(rt: HostRuntime) -> Result<(), Fail> {
+    casts(&rt, rt.alloc(), DType::Int16, Some(&ROWS))
+}
+
+#[test]
+fn stored_cells_of_another_kind_are_decoded(rt: HostRuntime) -> Result<(), Fail> {
+    casts(&rt, rt.alloc(), DType::Int32, None)
+}

@@ -68,7 +68,7 @@ neither false c e = (refl, e)
 not_taking : (node : Node) → is_each_cell node ≡ false → ((k : FoldKind) (n : ℕ) (feeds : List Feed) → node ≡ Fold k n feeds → ⊥) → takes_strips node ≡ false
 not_taking (Source a) e not = refl
 not_taking (Take n axis from fill drops) e not = refl
-not_taking (Reorder n order) e not = refl
+not_taking (Reorder n order) e not = e
 not_taking (Widen n axis count) e not = refl
 not_taking (Unary op kind n) e not = absurd cc
 not_taking (Binary op m n) e not = absurd cc

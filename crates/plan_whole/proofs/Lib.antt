@@ -4,4 +4,4 @@ pub mod Totals
 pub mod FoldedCells
 pub mod Trees
 pub mod Evaluated
-pub mod Standing
+pub mod Unchanged

@@ -3,10 +3,12 @@ use Rattle.std.proofs.Common.{◌≡◌, ◌<◌, ◌≤◌, ◌+◌, ℕ, Bool,
 use Rattle.std.specs.List.{All}
 use Rattle.std.specs.Prelude.{◌||◌}
 use Rattle.std.proofs.lemmas.List.Elements.{All-head, All-tail}
+use Rattle.std.proofs.Math.Bool.{or-false}
 use Rattle.xr_types.specs.Points.{size}
 use Rattle.xr_types.specs.declared.kind.DType.{DType}
 use Rattle.xr_types.specs.declared.kind.DType.TheVariants.{Bool as truths}
 use Rattle.xr_types.specs.declared.operation.OpKind.{OpKind}
+use Rattle.xr_types.specs.declared.operation.OpKind.TheVariants.{Cast}
 use Rattle.xr_arrays.specs.declared.node.Node.{Node}
 use Rattle.xr_arrays.specs.declared.node.Node.TheVariants.{Source, Take, Reorder, Widen, Unary, Binary, Choose, Fold, Scan, Concat, Chunk}
 use Rattle.xr_arrays.specs.Arrays.{Array, IsArray}
@@ -17,11 +19,12 @@ use Rattle.plan_core.proofs.Needs.{binary_ready, by_inputs, choose_ready, inputs
 use Rattle.cell_strips.specs.Strips.{strip, spread as many}
 use Rattle.cell_strips.proofs.StripLaws.{strip_is, strip_of_choice, strip_of_one, strip_of_two}
 use Rattle.plan_needs.specs.Spreads.{found, spread, widens, widens_at}
-use Rattle.plan_needs.specs.Trees.{is_each_cell, node_is, IsStrand, IsTree}
+use Rattle.plan_needs.specs.Trees.{is_each_cell, keeps_axes, node_is, IsStrand, IsTree}
 use Rattle.plan_needs.proofs.Marks.{node_is_at}
 use Rattle.plan_needs.proofs.Ready.{each_kept, ready_anyway}
 use Rattle.plan_needs.proofs.Spreads.{part_found, widens_at_is}
 use Rattle.plan_whole.specs.Operations.{alike, BinaryTree, ChooseTree, UnaryTree}
+use Rattle.plan_whole.proofs.Unchanged.{cast_same, reordered_tree, SameTree}
 
 -- ---- what a node asks of its inputs, whether they are held or not
 
@@ -91,6 +94,10 @@ unary_strip nodes done at op kind m a f n t inside e =
       suits = subst (λ (x : Array). Suits op x.kind) (sym e) t.suits;
       is = ap (unary_of op kind) e ∙ strip_of_one op kind f n (value nodes m) t.array within ∙ ap (strip f n) (sym t.is);
     }
+
+-- a strip whose cells stay is that of the node
+pub left_strip : (nodes : List Node) (at : ℕ) (op : OpKind) (kind : DType) (a : Array) (f n : ℕ) → UnaryStrip nodes at op kind a f n → op ≡ Cast → a.kind ≡ kind → a ≡ strip f n (value nodes at)
+left_strip nodes at op kind a f n s is_cast same = sym (cast_same op kind a s.array is_cast same) ∙ s.is
 
 pub binary_tree : (nodes : List Node) (done : List (Option Array)) (at : ℕ) (node : Node) (op : OpKind) (m k : ℕ) → IsTree nodes done at → node ≡ get_or nodes at node → node ≡ Binary op m k → BinaryTree nodes done at op m k
 binary_tree nodes done at node op m k t is is_binary =
@@ -246,6 +253,12 @@ pub tree_each_cell : (nodes : List Node) (done : List (Option Array)) (at : ℕ)
 tree_each_cell nodes done at node t is none =
     sym (node_is_at is_each_cell nodes at node t.at_there is) ∙ only_first (node_is is_each_cell nodes at) (is_some (spread 16 nodes at)) t.in_strips (ap is_some (sym none))
 
+-- ---- a node that leaves its axes in their places
+
+pub stays_tree : (nodes : List Node) (done : List (Option Array)) (at : ℕ) (node : Node) (m : ℕ) (order : List ℕ) → IsTree nodes done at → node ≡ get_or nodes at node → node ≡ Reorder m order → SameTree nodes done at m
+stays_tree nodes done at node m order t is is_reorder =
+    reordered_tree nodes done at node m order t is is_reorder (sym (or-false (keeps_axes order)) ∙ subst (λ (n : Node). sort_of n ≡ true) is_reorder (tree_sort nodes done at node t is))
+
 -- ---- the input whose sizes a node has
 
 pub record AlikeTree (nodes : List Node) (done : List (Option Array)) (at m : ℕ) : Type 0 where
@@ -256,7 +269,7 @@ pub record AlikeTree (nodes : List Node) (done : List (Option Array)) (at m : �
 pub alike_tree : (nodes : List Node) (done : List (Option Array)) (at : ℕ) (node : Node) (m : ℕ) → IsTree nodes done at → node ≡ get_or nodes at node → Some m ≡ alike node → AlikeTree nodes done at m
 alike_tree nodes done at (Source a) m t is e = absurd cc
 alike_tree nodes done at (Take n axis from fill drops) m t is e = absurd cc
-alike_tree nodes done at (Reorder n order) m t is e = absurd cc
+alike_tree nodes done at (Reorder n order) m t is e = let s : n ≡ m = cc in let u = stays_tree nodes done at (Reorder n order) n order t is refl in subst (AlikeTree nodes done at) s (record { strand = u.strand; below = u.below; shape = ap (λ (a : Array). a.shape) u.is })
 alike_tree nodes done at (Widen n axis count) m t is e = absurd cc
 alike_tree nodes done at (Unary op kind n) m t is e = let s : n ≡ m = cc in let u = unary_tree nodes done at (Unary op kind n) op kind n t is refl in subst (AlikeTree nodes done at) s (record { strand = u.strand; below = u.below; shape = u.shape })
 alike_tree nodes done at (Binary op k n) m t is e = let s : k ≡ m = cc in let u = binary_tree nodes done at (Binary op k n) op k n t is refl in subst (AlikeTree nodes done at) s (record { strand = u.strand; below = u.below; shape = u.shape })

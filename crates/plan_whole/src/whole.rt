@@ -131,31 +131,12 @@ fn evaluate_by(
     compute(alloc, nodes, &done, node)
 }
 
-// The most nodes of a plan that are looked through, each time one is computed, for those that come strip by strip: that costs
-// some ten times what it takes to find which are needed.
-const MOST_LOOKED_THROUGH: usize = 4_096;
-
-// For each node up to this one whether it is computed as a whole array, as this one is.
-fn whole_up_to(alloc: Global, nodes: &[Node], node: usize) -> Result<Vec<bool>, AllocError>
-    requires fit { AllFit [] nodes.now }
-    requires inside { node < length nodes.now }
-    ensures long { IfOk result (λ v. length v.items ≡ node + 1) }
-    ensures root { IfOk result (λ v. get_or v.items node true ≡ true) }
-{
-    if node < MOST_LOOKED_THROUGH {
-        return whole_nodes(alloc, nodes, node);
-    }
-    let mut all = Vec::from_elem(alloc, true, node)?;
-    all.push(true)?;
-    Ok(all)
-}
-
 fn evaluate(alloc: Global, nodes: &[Node], node: usize) -> Result<ArrayValue, AllocError>
     requires fit { AllFit [] nodes.now }
     requires inside { node < length nodes.now }
     ensures { IfOk result (λ a. a ≡ value nodes.now node) }
 {
-    let mut whole = whole_up_to(alloc, nodes, node)?;
+    let mut whole = whole_nodes(alloc, nodes, node)?;
     evaluate_by(alloc, nodes, &mut whole, node)
 }
 

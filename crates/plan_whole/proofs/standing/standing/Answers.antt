@@ -1,5 +1,5 @@
 use Rattle.std.proofs.Common.{◌∙◌, ap, sym, option_map}
-use Rattle.plan_whole.proofs.Standing.{kept_stands_there, source_stands_there}
+use Rattle.plan_whole.proofs.Unchanged.{kept_stands_there, source_stands_there}
 use Rattle.plan_whole.proofs.standing.standing.Goals as goal
 
 pub returns-in-Some : goal.returns-in-Some

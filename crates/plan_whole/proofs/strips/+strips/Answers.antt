@@ -7,7 +7,7 @@ use Rattle.cell_strips.specs.Strips.{strip}
 use Rattle.plan_core.proofs.Needs.{value_small}
 use Rattle.plan_core.proofs.Takes.{if_ok}
 use Rattle.plan_needs.proofs.Strands.{strand_tree, strand_value}
-use Rattle.plan_whole.proofs.Trees.{binary_strip, binary_tree, choose_strip, choose_tree, spread_found, tree_each_cell, unary_strip, unary_tree}
+use Rattle.plan_whole.proofs.Trees.{binary_strip, binary_tree, choose_strip, choose_tree, left_strip, spread_found, stays_tree, tree_each_cell, unary_strip, unary_tree}
 use Rattle.plan_whole.proofs.strips.+strips.Goals as goal
 
 -- ---- what stands there
@@ -80,12 +80,29 @@ operated_strip-choose_strip-requires t c =
     let d = c.decreases in
     (omega (arith, d), (choose_tree c.args.nodes.now c.args.done.now c.args.at c.args.node.now c.in-Choose.cond c.in-Choose.a c.in-Choose.b c.requires.tree c.requires.node c.in-Choose.is, c.requires.inside))
 
+pub operated_strip-strip_at-requires : goal.operated_strip-strip_at-requires
+operated_strip-strip_at-requires t c =
+    let d = c.decreases in
+    let u = stays_tree c.args.nodes.now c.args.done.now c.args.at c.args.node.now c.in-Reorder.input c.in-Reorder.order c.requires.tree c.requires.node c.in-Reorder.is in
+    let below = u.below in
+    (omega (arith, d, below), (u.strand, subst (λ (a : Array). c.args.from + c.args.n ≤ size a.shape) u.is c.requires.inside))
+
+pub operated_strip-returns-in-Reorder : goal.operated_strip-returns-in-Reorder
+operated_strip-returns-in-Reorder t c =
+    let u = stays_tree c.args.nodes.now c.args.done.now c.args.at c.args.node.now c.in-Reorder.input c.in-Reorder.order c.requires.tree c.requires.node c.in-Reorder.is in
+    if_ok c.strip_at.result _ _ (λ b is. is ∙ ap (strip c.args.from c.args.n) (sym u.is)) c.strip_at.ensures
+
 pub unary_strip-strip_at-requires : goal.unary_strip-strip_at-requires
 unary_strip-strip_at-requires t c =
     let d = c.decreases in
     let u = c.requires.tree in
     let below = u.below in
     (omega (arith, d, below), (u.strand, subst (λ s. c.args.from + c.args.n ≤ size s) u.shape c.requires.inside))
+
+pub unary_strip-returns-then-leaves_cells : goal.unary_strip-returns-then-leaves_cells
+unary_strip-returns-then-leaves_cells t c =
+    let s = unary_strip c.args.nodes.now c.args.done.now c.args.at c.args.op c.args.kind c.args.input c.in_ok-a.a c.args.from c.args.n c.requires.tree c.requires.inside c.in_ok-a.ensures in
+    left_strip c.args.nodes.now c.args.at c.args.op c.args.kind c.in_ok-a.a c.args.from c.args.n s (c.leaves_cells.ensures.op c.if-leaves_cells.true) (sym c.kind.ensures ∙ c.leaves_cells.ensures.kind c.if-leaves_cells.true)
 
 pub unary_strip-operate_one-requires : goal.unary_strip-operate_one-requires
 unary_strip-operate_one-requires t c =
