@@ -1,0 +1,27 @@
+//! The call.
+ghost use Rattle.std.specs.Prelude.{◌≡◌, ◌<◌, ◌≤◌, length, map, All, IfOk};
+ghost use Rattle.xr_types.specs.Points.{size};
+ghost use Rattle.xr_arrays.specs.Nodes.{Continues, concatenated, first_array, most_node_cells};
+
+use crate::join::join;
+use crate::spelt::all_bytes;
+use std::alloc::{AllocError, Global};
+use xr_arrays::{ArrayValue, Form};
+
+/// The arrays one after the other along an axis. Where all stand as files have them, in one type and with the same fill
+/// numbers, so does the result, and blocks of their bytes are copied once. Others are put together cell by cell.
+pub fn concat(alloc: Global, inputs: &[&ArrayValue], axis: usize) -> Result<ArrayValue, AllocError>
+    requires some { 0 < length inputs.now }
+    requires axis { axis < length (first_array (map (λ a. a.now) inputs.now)).shape }
+    requires each { All (λ a. Continues axis (first_array (map (λ a. a.now) inputs.now)) a.now) inputs.now }
+    requires small { size (concatenated (map (λ a. a.now) inputs.now) axis).shape ≤ most_node_cells }
+    ensures { IfOk result (λ b. b ≡ concatenated (map (λ a. a.now) inputs.now) axis) }
+{
+    if let Form::Stored(first) = inputs[0].form() {
+        let parts = first.parts();
+        if let Some(bytes) = all_bytes(alloc, inputs, parts.kind, parts.fills)? {
+            return join(alloc, inputs, axis, parts.kind, parts.fills, &bytes);
+        }
+    }
+    arrangement::concat(alloc, inputs, axis)
+}
