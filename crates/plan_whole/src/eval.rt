@@ -8,8 +8,9 @@ ghost use Rattle.plan_needs.specs.Trees.{takes_in_strips, takes_strips, IsStrand
 use crate::fold::{fold, sum_strips, sums_all};
 use crate::standing::{standing, unchanged_input};
 use crate::strips::{Tree, collect, collect_cells, computed_sizes};
-use arrangement::{concat, points, reorder, take, widen};
+use arrangement::{points, reorder, take, widen};
 use plan_needs::{comes_in_strips, input, inputs};
+use row_concat::concat;
 use row_folds::scan;
 use std::alloc::{AllocError, Global};
 use xr_arrays::{ArrayValue, Feed, Node};
