@@ -1,3 +1,4 @@
 pub mod Turns
 pub mod Stands
 pub mod Whole
+pub mod Alone

@@ -24,7 +24,7 @@ use Rattle.row_concat.specs.Spelt.{Spells, AllSpell}
 use Rattle.row_concat.proofs.Turns.{cells_in, part_size, rows_joined}
 use Rattle.row_concat.proofs.Stands.{Stands, none, both, block_stands, cells-length}
 
-whole : (kind : NcType) (fills : List ℤ) (raw : List ℕ) (b : Array) → Spells kind fills raw b → length b.cells ≡ size b.shape
+pub whole : (kind : NcType) (fills : List ℤ) (raw : List ℕ) (b : Array) → Spells kind fills raw b → length b.cells ≡ size b.shape
 whole kind fills raw b s = whole_stored b kind raw fills s.is s.stored
 
 parts : (kind : NcType) (fills : List ℤ) (raws : List (List ℕ)) (bs : List Array) (a : Array) (axis : ℕ) → AllSpell kind fills raws bs → All (Continues axis a) bs → All (IsPart a.shape axis) bs

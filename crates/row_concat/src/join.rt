@@ -40,7 +40,7 @@ fn resized(alloc: Global, shape: &[u64], axis: usize, count: u64) -> Result<Item
 }
 
 // How many blocks there are in front of an axis: none where there is no byte at all.
-fn blocks(shape: &[u64], axis: usize, total: usize) -> usize
+fn blocks_in_front(shape: &[u64], axis: usize, total: usize) -> usize
     requires { axis < length shape.now }
     ensures none { total ≡ 0 → result ≡ 0 }
     ensures some { 0 < total → result ≡ min (size (take axis shape.now)) (2 ^ 64 - 1) }
@@ -71,7 +71,7 @@ pub fn join(
     let first = inputs[0].shape();
     let shape = resized(alloc, first, axis, positions(inputs, axis)?)?;
     let all = total(bytes)?;
-    let joined = Bytes::from_vec(in_turn(alloc, bytes, blocks(first, axis, all), all)?)?;
+    let joined = Bytes::from_vec(in_turn(alloc, bytes, blocks_in_front(first, axis, all), all)?)?;
     let fills = Items::from_slice(alloc, fills)?;
     let stored = StoredArray::of(shape, kind, joined, fills);
     Ok(ArrayValue::stored(stored))
