@@ -35,8 +35,8 @@ unchanged_input-returns-in-Reorder t c =
     let u = stays_tree c.args.nodes.now c.args.done.now c.args.at c.index-nodes-at.result c.in-Reorder.input c.in-Reorder.order c.requires c.index-nodes-at.is c.in-Reorder.is in
     IfSome_then c.unchanged.result c.unchanged.ensures (λ a is. is ∙ sym u.is)
 
-pub unchanged_input-unchanged-requires-2 : goal.unchanged_input-unchanged-requires-2
-unchanged_input-unchanged-requires-2 t c =
+pub unchanged_input-unchanged-requires-in-Unary : goal.unchanged_input-unchanged-requires-in-Unary
+unchanged_input-unchanged-requires-in-Unary t c =
     let d = c.decreases in
     let u = unary_tree c.args.nodes.now c.args.done.now c.args.at c.index-nodes-at.result c.in-Unary.op c.in-Unary.kind c.in-Unary.input c.requires c.index-nodes-at.is c.in-Unary.is in
     let below = u.below in
