@@ -3,15 +3,16 @@ ghost use Rattle.std.specs.Prelude.{◌≡◌, ◌≤◌, ◌++◌, ℤ, List, l
 ghost use Rattle.xr_types.specs.Points.{size};
 ghost use Rattle.xr_arrays.specs.Arrays.{hidden, kind_of, wide, IsArray, IsCell};
 ghost use Rattle.xr_arrays.specs.Nodes.{kept, folded, AreFed, most_node_cells};
+ghost use Rattle.xr_arrays.specs.Stored.{stored_array, IsStored};
 ghost use Rattle.row_folds.specs.Rows.{array_of, kept_one, IsFolding};
 
 use crate::celled::Celled;
 use crate::folded::folded;
-use crate::source::{Masked, Whole};
+use crate::source::{Masked, Stored, Whole};
 use std::alloc::{AllocError, Global};
-use stored_cells::{Typed, as_typed};
-use xr_arrays::{ArrayValue, Cells, Feed};
-use xr_types::{DType, FoldKind, Items};
+use stored_cells::{Fills, NoFill, OneFill, decoded};
+use xr_arrays::{ArrayValue, Cells, Feed, Form, StoredArray, TypedArray};
+use xr_types::{DType, FoldKind, Items, NcType};
 
 fn push_kept(sizes: &mut Vec<u64>, feed: &Feed, size: u64) -> Result<(), AllocError>
     ensures { OnOk result (sizes.new.items ≡ sizes.old.items ++ kept_one feed.now size) }
@@ -75,7 +76,7 @@ fn fold_typed(
     feeds: &[Feed],
     shape: &[u64],
     sizes: &[u64],
-    typed: &Typed<'_>,
+    typed: &TypedArray,
 ) -> Result<ArrayValue, AllocError>
     requires array { IsArray typed.now }
     requires shape { typed.now.shape ≡ shape.now }
@@ -187,6 +188,145 @@ fn fold_typed(
     }
 }
 
+// The fold of numbers as a file stores them, of which some stand for missing cells.
+fn fold_numbers<F: Fills + Drop>(
+    alloc: Global,
+    fold: FoldKind,
+    kind: NcType,
+    feeds: &[Feed],
+    shape: &[u64],
+    sizes: &[u64],
+    bytes: &[u8],
+    fills: F,
+) -> Result<ArrayValue, AllocError>
+    requires stored { IsStored shape.now kind bytes.now }
+    requires array { IsArray (stored_array shape.now kind bytes.now (F.numbers fills)) }
+    requires folding { IsFolding feeds.now shape.now sizes.now (size shape.now) }
+    ensures { IfOk result (λ b. b ≡ folded fold feeds.now (stored_array shape.now kind bytes.now (F.numbers fills))) }
+{
+    let source = Stored { bytes, fills };
+    match kind {
+        NcType::Byte => folded::<i8, Stored<'_, F>>(
+            alloc,
+            fold,
+            DType::Int8,
+            feeds,
+            shape,
+            sizes,
+            source,
+        ),
+        NcType::Char => folded::<u8, Stored<'_, F>>(
+            alloc,
+            fold,
+            DType::Char,
+            feeds,
+            shape,
+            sizes,
+            source,
+        ),
+        NcType::Short => folded::<i16, Stored<'_, F>>(
+            alloc,
+            fold,
+            DType::Int16,
+            feeds,
+            shape,
+            sizes,
+            source,
+        ),
+        NcType::Int => folded::<i32, Stored<'_, F>>(
+            alloc,
+            fold,
+            DType::Int32,
+            feeds,
+            shape,
+            sizes,
+            source,
+        ),
+        NcType::UByte => folded::<u8, Stored<'_, F>>(
+            alloc,
+            fold,
+            DType::UInt8,
+            feeds,
+            shape,
+            sizes,
+            source,
+        ),
+        NcType::UShort => folded::<u16, Stored<'_, F>>(
+            alloc,
+            fold,
+            DType::UInt16,
+            feeds,
+            shape,
+            sizes,
+            source,
+        ),
+        NcType::UInt => folded::<u32, Stored<'_, F>>(
+            alloc,
+            fold,
+            DType::UInt32,
+            feeds,
+            shape,
+            sizes,
+            source,
+        ),
+        NcType::Int64 => folded::<i64, Stored<'_, F>>(
+            alloc,
+            fold,
+            DType::Int64,
+            feeds,
+            shape,
+            sizes,
+            source,
+        ),
+        NcType::UInt64 => folded::<u64, Stored<'_, F>>(
+            alloc,
+            fold,
+            DType::UInt64,
+            feeds,
+            shape,
+            sizes,
+            source,
+        ),
+        // An array of these has no cells that are whole numbers.
+        NcType::Float | NcType::Double => unreachable!(),
+    }
+}
+
+// The fold of an array as a file stores it. Where one number at most stands for missing cells nothing is decoded into memory.
+fn fold_stored(
+    alloc: Global,
+    fold: FoldKind,
+    feeds: &[Feed],
+    shape: &[u64],
+    sizes: &[u64],
+    array: &StoredArray,
+) -> Result<ArrayValue, AllocError>
+    requires array { IsArray array.now }
+    requires shape { array.now.shape ≡ shape.now }
+    requires folding { IsFolding feeds.now shape.now sizes.now (size shape.now) }
+    ensures { IfOk result (λ b. b ≡ folded fold feeds.now array.now) }
+{
+    let parts = array.parts();
+    let bytes = parts.bytes.as_slice();
+    match parts.fills {
+        [] => fold_numbers(alloc, fold, parts.kind, feeds, shape, sizes, bytes, NoFill),
+        [fill] => fold_numbers(
+            alloc,
+            fold,
+            parts.kind,
+            feeds,
+            shape,
+            sizes,
+            bytes,
+            OneFill { fill: *fill },
+        ),
+        _ => {
+            let typed = decoded(alloc, array)?;
+            fold_typed(alloc, fold, feeds, shape, sizes, &typed)
+        }
+    }
+}
+
 /// The fold of the cells that agree along the axes that are kept.
 pub fn fold(
     alloc: Global,
@@ -202,6 +342,8 @@ pub fn fold(
     ensures { IfOk result (λ b. b ≡ folded fold feeds.now a.now) }
 {
     let sizes = kept_sizes(alloc, feeds, a.shape())?;
-    let typed = as_typed(alloc, a)?;
-    fold_typed(alloc, fold, feeds, a.shape(), &sizes, &typed)
+    match a.form() {
+        Form::Typed(array) => fold_typed(alloc, fold, feeds, a.shape(), &sizes, array),
+        Form::Stored(array) => fold_stored(alloc, fold, feeds, a.shape(), &sizes, array),
+    }
 }

@@ -1,8 +1,11 @@
 //! Cells that folds read.
 ghost use Rattle.std.specs.Prelude.{◌≡◌, ◌<◌, ℤ, List, length, map, zip, Option, Some, None, get_or};
 ghost use Rattle.xr_arrays.specs.Arrays.{cell};
+ghost use Rattle.xr_arrays.specs.Numbers.{numbers_of};
+ghost use Rattle.xr_arrays.specs.Stored.{unless_fill};
 ghost use Rattle.row_folds.specs.Rows.{shown};
 
+use stored_cells::{Fills, Number};
 use xr_types::Elem;
 
 /// Cells in row order, of one type.
@@ -42,5 +45,21 @@ impl<'a, T: Elem> Source<T> for Masked<'a, T> {
 
     fn cell(self, index: usize) -> (T, bool) {
         (self.cells[index], self.mask[index] == 0)
+    }
+}
+
+/// Cells as a file stores them: big-endian numbers, some of which stand for missing cells.
+#[derive(Clone, Copy)]
+pub struct Stored<'a, F> {
+    pub bytes: &'a [u8],
+    pub fills: F,
+}
+
+impl<'a, T: Number, F: Fills + Drop> Source<T> for Stored<'a, F> {
+    ghost cells = { λ s. map (unless_fill (F.numbers s.fills)) (numbers_of T.spelt s.bytes.now) };
+
+    fn cell(self, index: usize) -> (T, bool) {
+        let cell = T::at(self.bytes, index);
+        (cell, !self.fills.hide(cell))
     }
 }
