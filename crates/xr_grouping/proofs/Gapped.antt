@@ -1,5 +1,5 @@
 -- Folds of lists with a fill in the place of those that have too few positions.
-use Rattle.std.proofs.Common.{◌≡◌, ◌<◌, ◌≤◌, ℕ, ℤ, Bool, true, false, cond, List, [], ◌∷◌, length, get_or, Option, Some, None, is_none, refl, sym, ap, subst, ◌∙◌, arith, zero, suc}
+use Rattle.std.proofs.Common.{◌≡◌, ◌<◌, ◌≤◌, ℕ, ℤ, Bool, true, false, cond, List, [], ◌∷◌, length, get_or, Option, Some, None, refl, sym, ap, subst, ◌∙◌, arith, zero, suc}
 use Rattle.std.specs.Prelude.{nat_lt, slice_set}
 use Rattle.std.specs.List.{list_any}
 use Rattle.xr_types.specs.Names.{axis_names, shape_over}
@@ -23,9 +23,9 @@ use Rattle.xr_groups.specs.declared.change.Least.{Least}
 use Rattle.xr_groups.specs.declared.change.Least.TheVariants.{Never}
 use Rattle.xr_groups.specs.Listed.{axes_by, feeds_by, listed, listed_cell, too_few}
 use Rattle.xr_groups.specs.Methods.{of_groups}
-use Rattle.xr_grouping.specs.Fills.{gaps}
+use Rattle.xr_grouping.specs.Fills.{gaps, is_short}
 use Rattle.xr_grouping.proofs.Folding as folds
-use Rattle.xr_grouping.proofs.Gaps.{all_enough, gap_at, gaps_below, gaps_length}
+use Rattle.xr_grouping.proofs.Gaps.{none_short, gap_at, gaps_below, gaps_length}
 use Rattle.xr_grouping.proofs.Listing as lists
 use Rattle.xr_grouping.proofs.Named.{IsOne}
 use Rattle.xr_grouping.proofs.OneList.{place}
@@ -145,8 +145,8 @@ module _ (nodes : List Node) (k : FoldKind) (c : Change) (a : DataArray) (is : I
 
     -- ---- where there is none
 
-    pub whole_is : list_any is_none from ≡ false → folded k feeds (value nodes a.node) ≡ listed k least fill feeds own
+    pub whole_is : list_any (λ ps. is_short m ps) c.lists ≡ false → folded k feeds (value nodes a.node) ≡ listed k least fill feeds own
     whole_is none =
         folds.same nodes k c a is method change few
         ∙ ap (λ cells. record { kind = folded_kind k a.kind; shape = kept feeds before; cells = cells })
-        (tab_same (kept feeds before) fold_at cell (λ p here. ap (λ b. cond b fill (fold_at p)) (sym (same p here ∙ all_enough m c.lists (get_or p k_at 0) none (listed_below p here)))))
+        (tab_same (kept feeds before) fold_at cell (λ p here. ap (λ b. cond b fill (fold_at p)) (sym (same p here ∙ none_short m c.lists (get_or p k_at 0) none (listed_below p here)))))

@@ -1,21 +1,16 @@
 -- Positions of lists, where those with too few leave a gap.
-use Rattle.std.proofs.Common.{◌≡◌, ◌<◌, ◌≤◌, ◌+◌, ◌||◌, ℕ, zero, suc, Bool, true, false, cond, List, [], ◌∷◌, ◌++◌, length, take, get_or, Option, Some, None, is_none, All, refl, sym, ap, ◌∙◌, arith}
-use Rattle.std.specs.Prelude.{nat_lt}
+use Rattle.std.proofs.Common.{◌≡◌, ◌<◌, ◌≤◌, ◌+◌, ◌||◌, ℕ, zero, suc, Bool, true, false, cond, List, [], ◌∷◌, ◌++◌, length, drop, take, get_or, Some, None, All, refl, sym, ap, ◌∙◌, arith}
 use Rattle.std.specs.List.{list_any}
 use Rattle.std.proofs.lemmas.Bool.{or_parts}
 use Rattle.xr_arrays.specs.Nodes.{IsBelow}
-use Rattle.xr_grouping.specs.Fills.{gaps, shown}
+use Rattle.xr_grouping.specs.Fills.{gaps, is_short, shown}
+use Rattle.xr_grouping.proofs.Binned.{last_where, next_where}
 
 take_all : {X : Type 0} (xs : List X) (n : ℕ) → length xs ≤ n → take n xs ≡ xs
 take_all [] zero le = refl
 take_all [] (suc n) le = refl
 take_all (x ∷ xs) zero le = absurd (omega (arith, le))
 take_all (x ∷ xs) (suc n) le = ap (λ ys. x ∷ ys) (take_all xs n (omega (arith, le)))
-
--- a position that is no gap
-never_gap : (b : Bool) (j : ℕ) → is_none (cond b None (Some j)) ≡ false → b ≡ false
-never_gap true j e = absurd cc
-never_gap false j e = refl
 
 module _ (m : ℕ) where
   -- the gaps up to a place, and one more
@@ -50,7 +45,7 @@ module _ (m : ℕ) where
 
   below_from : (j n : ℕ) (lists : List (List ℕ)) → j + length lists ≤ n → All (IsBelow n) (gaps m j lists)
   below_from j n [] le i d lt = absurd (omega (arith, lt))
-  below_from j n (ps ∷ lists) le zero d lt = by (nat_lt (length ps) m)
+  below_from j n (ps ∷ lists) le zero d lt = by (is_short m ps)
     where
       by : (b : Bool) → IsBelow n (cond b None (Some j))
       by true = tt
@@ -60,12 +55,15 @@ module _ (m : ℕ) where
   pub gaps_below : (lists : List (List ℕ)) (n : ℕ) → length lists ≡ n → All (IsBelow n) (gaps m 0 lists)
   gaps_below lists n long = below_from 0 n lists (omega (arith, long))
 
-  -- ---- where there is no gap, each list has enough positions
+  -- ---- where no list is short
 
-  enough_from : (j : ℕ) (lists : List (List ℕ)) (i : ℕ) → list_any is_none (gaps m j lists) ≡ false → i < length lists → nat_lt (length (get_or lists i [])) m ≡ false
-  enough_from j [] i none lt = absurd (omega (arith, lt))
-  enough_from j (ps ∷ lists) zero none lt = never_gap (nat_lt (length ps) m) j (or_parts (is_none (shown m ps j)) (list_any is_none (gaps m (j + 1) lists)) none).0
-  enough_from j (ps ∷ lists) (suc i) none lt = enough_from (j + 1) lists i (or_parts (is_none (shown m ps j)) (list_any is_none (gaps m (j + 1) lists)) none).1 (omega (arith, lt))
+  pub next_short : (lists : List (List ℕ)) (at : ℕ) → at < length lists → list_any (λ ps. is_short m ps) (drop at lists) ≡ (is_short m (get_or lists at []) || list_any (λ ps. is_short m ps) (drop (at + 1) lists))
+  next_short lists at here = next_where (λ ps. is_short m ps) lists at here
 
-  pub all_enough : (lists : List (List ℕ)) (i : ℕ) → list_any is_none (gaps m 0 lists) ≡ false → i < length lists → nat_lt (length (get_or lists i [])) m ≡ false
-  all_enough lists i none lt = enough_from 0 lists i none lt
+  pub last_short : (lists : List (List ℕ)) (at : ℕ) → length lists ≤ at → list_any (λ ps. is_short m ps) (drop at lists) ≡ false
+  last_short lists at le = last_where (λ ps. is_short m ps) lists at le
+
+  pub none_short : (lists : List (List ℕ)) (i : ℕ) → list_any (λ ps. is_short m ps) lists ≡ false → i < length lists → is_short m (get_or lists i []) ≡ false
+  none_short [] i none lt = absurd (omega (arith, lt))
+  none_short (ps ∷ lists) zero none lt = (or_parts (is_short m ps) (list_any (λ qs. is_short m qs) lists) none).0
+  none_short (ps ∷ lists) (suc i) none lt = none_short lists i (or_parts (is_short m ps) (list_any (λ qs. is_short m qs) lists) none).1 (omega (arith, lt))

@@ -1,5 +1,5 @@
 -- The cells of windows of an array that misses none: the folds, and a fill in the place of those with too few positions.
-use Rattle.std.proofs.Common.{◌≡◌, ◌≤◌, ◌+◌, ◌*◌, ◌++◌, ℕ, ℤ, Bool, true, false, cond, List, [], ◌∷◌, length, Option, is_none, refl, ap, ◌∙◌, arith}
+use Rattle.std.proofs.Common.{◌≡◌, ◌≤◌, ◌+◌, ◌*◌, ◌++◌, ℕ, ℤ, Bool, true, false, cond, List, [], ◌∷◌, length, Option, refl, ap, ◌∙◌, arith}
 use Rattle.std.specs.Prelude.{nat_lt}
 use Rattle.std.specs.List.{list_any}
 use Rattle.xr_types.specs.Names.{axis_names, shape_over}
@@ -19,7 +19,7 @@ use Rattle.xr_groups.specs.declared.change.Change.{Change}
 use Rattle.xr_groups.specs.declared.change.Least.TheVariants.{Fewer}
 use Rattle.xr_groups.specs.Listed.{axes_by, feeds_by, listed, too_few}
 use Rattle.xr_groups.specs.Methods.{of_groups}
-use Rattle.xr_grouping.specs.Fills.{gaps}
+use Rattle.xr_grouping.specs.Fills.{gaps, is_short}
 use Rattle.xr_grouping.specs.Windowed.{plain}
 use Rattle.xr_grouping.proofs.Folding as folds
 use Rattle.xr_grouping.proofs.Gapped as gapped
@@ -73,21 +73,21 @@ module _ (nodes : List Node) (k : FoldKind) (c : Change) (a : DataArray) (is : I
   gapped_is = gapped.gapped_is nodes k c a is method change few fill (Fewer m) m same
 
   pub plain_is : chain_value nodes (plain k (c ∷ []) m fill a) ≡ listed k (Fewer m) fill feeds own
-  plain_is = by (list_any is_none from) refl
+  plain_is = by (list_any (λ ps. is_short m ps) c.lists) refl
     where
-      by : (b : Bool) → list_any is_none from ≡ b → steps_value (cond b (step.Take k_at from fill false ∷ []) [] ++ []) first ≡ listed k (Fewer m) fill feeds own
+      by : (b : Bool) → list_any (λ ps. is_short m ps) c.lists ≡ b → steps_value (cond b (step.Take k_at from fill false ∷ []) [] ++ []) first ≡ listed k (Fewer m) fill feeds own
       by true e = gapped_is
       by false e = gapped.whole_is nodes k c a is method change few fill (Fewer m) m same e
 
   pub plain_fits : ChainFits nodes (plain k (c ∷ []) m fill a)
-  plain_fits = record { start = is.node.placed; steps = (folds.fits nodes k c a is method change few, by (list_any is_none from)) }
+  plain_fits = record { start = is.node.placed; steps = (folds.fits nodes k c a is method change few, by (list_any (λ ps. is_short m ps) c.lists)) }
     where
       by : (b : Bool) → StepsFit (cond b (step.Take k_at from fill false ∷ []) [] ++ []) first
       by true = (gapped.gap_fits nodes k c a is method change few fill (Fewer m) m same suits, tt)
       by false = tt
 
   pub plain_few : chain_cells nodes (plain k (c ∷ []) m fill a) ≤ 2 * size s
-  plain_few = let one = ap size shape_is in let rest = by (list_any is_none from) in omega (arith, one, rest)
+  plain_few = let one = ap size shape_is in let rest = by (list_any (λ ps. is_short m ps) c.lists) in omega (arith, one, rest)
     where
       by : (b : Bool) → steps_cells (cond b (step.Take k_at from fill false ∷ []) [] ++ []) first ≤ size s
       by true = let two = ap (λ (v : Array). size v.shape) gapped_is ∙ ap size (folds.to nodes k c a is method change few) in omega (arith, two)

@@ -1,5 +1,5 @@
 //! The fill of bins that are empty, and of windows with too few positions.
-ghost use Rattle.std.specs.Prelude.{◌≡◌, ◌≤◌, ◌==◌, ◌++◌, List, length, is_none, nat_lt, option_map, IfOk, OnOk};
+ghost use Rattle.std.specs.Prelude.{◌≡◌, ◌≤◌, ◌==◌, ◌++◌, List, length, option_map, IfOk, OnOk};
 ghost use Rattle.std.specs.List.{position_or_len, list_any};
 ghost use Rattle.std.specs.Str.{bytes_eq};
 ghost use Rattle.xr_arrays.specs.declared.node.Node.{Node};
@@ -144,7 +144,7 @@ fn count(positions: Positions<'_>) -> u64
 }
 
 fn is_short(positions: Positions<'_>, least: u64) -> bool
-    ensures { result ≡ nat_lt (length (listed positions.entry)) least }
+    ensures { result ≡ fills.is_short least (listed positions.entry) }
 {
     count(positions) < least
 }
@@ -215,22 +215,32 @@ pub(crate) fn push_fills(
     }
 }
 
-fn has_gap(from: &[Option<u32>]) -> bool
-    ensures { result ≡ list_any is_none from.now }
+// Whether some list has fewer positions than so many.
+#[tactic(auto, using(crate::proofs::Gaps::next_short, crate::proofs::Gaps::last_short))]
+fn has_short(lists: &Feeds, least: u64) -> bool
+    ensures { result ≡ list_any (λ ps. fills.is_short least ps) lists.now }
 {
-    from.iter().any(|at| at.is_none())
+    for at in 0..lists.len() {
+        if is_short(lists.positions(at), least) {
+            return true;
+        }
+    }
+    false
 }
 
-// Adds the fill along an axis that has a gap.
+// Adds the fill along an axis some of whose lists have fewer positions than so many.
 fn push_gap(
+    alloc: Global,
     steps: &mut Items<Step>,
+    least: u64,
     axis: usize,
-    from: Sources,
+    lists: &Feeds,
     fill: Option<i128>,
 ) -> Result<(), AllocError>
-    ensures { OnOk result (steps.new ≡ steps.old ++ fills.gap_filling axis from fill) }
+    ensures { OnOk result (steps.new ≡ steps.old ++ fills.gap_filling least axis lists.now fill) }
 {
-    if has_gap(from.as_slice()) {
+    if has_short(lists, least) {
+        let from = gaps(alloc, lists, least)?;
         steps.push(Step::Take {
             axis,
             from,
@@ -256,8 +266,8 @@ pub(crate) fn push_short_fills(
     match changes {
         [] => Ok(()),
         [change, rest @ ..] => {
-            let from = gaps(alloc, &change.lists, least)?;
-            push_gap(steps, place(axes, &change.dimension), from, fill)?;
+            let axis = place(axes, &change.dimension);
+            push_gap(alloc, steps, least, axis, &change.lists, fill)?;
             push_short_fills(alloc, steps, least, rest, axes, fill)
         }
     }
