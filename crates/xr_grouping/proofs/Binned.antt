@@ -1,5 +1,5 @@
 -- Bins that aren't empty.
-use Rattle.std.proofs.Common.{◌≡◌, ◌<◌, ◌≤◌, ◌+◌, ◌-◌, ◌==◌, ◌||◌, ℕ, zero, suc, false, List, [], ◌∷◌, length, drop, take, get_or, All, refl, sym, ap, subst, ◌∙◌, arith}
+use Rattle.std.proofs.Common.{◌≡◌, ◌<◌, ◌≤◌, ◌+◌, ◌-◌, ◌==◌, ◌||◌, ℕ, zero, suc, Bool, false, List, [], ◌∷◌, length, drop, take, get_or, All, refl, sym, ap, subst, ◌∙◌, arith}
 use Rattle.std.specs.List.{list_any, range_with_len}
 use Rattle.std.proofs.lemmas.Bool.{or_parts}
 use Rattle.xr_grouping.specs.Mades.{is_empty}
@@ -12,16 +12,24 @@ pub range_empty : (from to : ℕ) → (length (range_with_len from (to - from)) 
 range_empty from to = ap (λ n. n == 0) (range_long from (to - from))
 
 -- the lists from a place on
+module _ (test : List ℕ → Bool) where
+  pub next_where : (lists : List (List ℕ)) (at : ℕ) → at < length lists → list_any test (drop at lists) ≡ (test (get_or lists at []) || list_any test (drop (at + 1) lists))
+  next_where [] at here = absurd (omega (arith, here))
+  next_where (ps ∷ lists) zero here = refl
+  next_where (ps ∷ lists) (suc at) here =
+      let next : suc at + 1 ≡ suc (at + 1) = omega arith in next_where lists at (omega (arith, here)) ∙ ap (λ n. test (get_or lists at []) || list_any test (drop n (ps ∷ lists))) (sym next)
+
+  pub last_where : (lists : List (List ℕ)) (at : ℕ) → length lists ≤ at → list_any test (drop at lists) ≡ false
+  last_where [] zero le = refl
+  last_where [] (suc at) le = refl
+  last_where (ps ∷ lists) zero le = absurd (omega (arith, le))
+  last_where (ps ∷ lists) (suc at) le = last_where lists at (omega (arith, le))
+
 pub next_list : (lists : List (List ℕ)) (at : ℕ) → at < length lists → list_any (λ ps. is_empty ps) (drop at lists) ≡ (is_empty (get_or lists at []) || list_any (λ ps. is_empty ps) (drop (at + 1) lists))
-next_list [] at here = absurd (omega (arith, here))
-next_list (ps ∷ lists) zero here = refl
-next_list (ps ∷ lists) (suc at) here = let next : suc at + 1 ≡ suc (at + 1) = omega arith in next_list lists at (omega (arith, here)) ∙ ap (λ n. is_empty (get_or lists at []) || list_any (λ qs. is_empty qs) (drop n (ps ∷ lists))) (sym next)
+next_list lists at here = next_where (λ ps. is_empty ps) lists at here
 
 pub last_list : (lists : List (List ℕ)) (at : ℕ) → length lists ≤ at → list_any (λ ps. is_empty ps) (drop at lists) ≡ false
-last_list [] zero le = refl
-last_list [] (suc at) le = refl
-last_list (ps ∷ lists) zero le = absurd (omega (arith, le))
-last_list (ps ∷ lists) (suc at) le = last_list lists at (omega (arith, le))
+last_list lists at le = last_where (λ ps. is_empty ps) lists at le
 
 some_position : (ps : List ℕ) → is_empty ps ≡ false → 0 < length ps
 some_position [] e = absurd cc

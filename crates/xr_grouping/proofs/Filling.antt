@@ -1,7 +1,8 @@
 -- What is made of an array in bins, with a fill where one is empty, is its reduction by lists.
 use Rattle.std.proofs.Common.{◌≡◌, ◌<◌, ◌≤◌, ◌==◌, ◌||◌, ℕ, ℤ, zero, suc, Bool, true, false, cond, List, [], ◌∷◌, length, get_or, Option, Some, None, is_some, is_none, refl, sym, ap, subst, ◌∙◌, arith}
-use Rattle.std.specs.Prelude.{slice_set}
+use Rattle.std.specs.Prelude.{nat_lt, slice_set}
 use Rattle.std.proofs.lemmas.Bool.{or_parts}
+use Rattle.std.proofs.lemmas.Bool.Decides.{nat_tests}
 use Rattle.xr_types.specs.Names.{axis_names, shape_over}
 use Rattle.xr_types.specs.Points.{size, IsPoint}
 use Rattle.xr_types.specs.declared.axis.Axis.{Axis}
@@ -32,32 +33,20 @@ use Rattle.xr_reducing.proofs.Reduced.{attrs_left}
 use Rattle.xr_grouping.specs.Fills.{gaps}
 use Rattle.xr_grouping.specs.Mades.{lists_chain, made_by}
 use Rattle.xr_grouping.proofs.Folding as folds
-use Rattle.xr_grouping.proofs.Gaps.{gap_at, gaps_below, gaps_length}
-use Rattle.xr_grouping.proofs.Listing.{cells_listed, found, found_length, given_there, listed_place}
+use Rattle.xr_grouping.proofs.Gapped as gapped
+use Rattle.xr_grouping.proofs.Listing.{cells_listed, found, given_there}
 use Rattle.xr_grouping.proofs.Named.{IsOne}
 use Rattle.xr_grouping.proofs.OneList.{place}
 
--- ---- a size in a shape's place
-
-set_same : (s : List ℕ) (k : ℕ) → slice_set s k (get_or s k 0) ≡ s
-set_same [] k = refl
-set_same (n ∷ ns) zero = refl
-set_same (n ∷ ns) (suc k) = ap (λ t. n ∷ t) (set_same ns k)
-
-set_twice : (s : List ℕ) (k n : ℕ) → slice_set (slice_set s k n) k n ≡ slice_set s k n
-set_twice [] k n = refl
-set_twice (m ∷ ns) zero n = refl
-set_twice (m ∷ ns) (suc k) n = ap (λ t. m ∷ t) (set_twice ns k n)
-
-set_length : (s : List ℕ) (k n : ℕ) → length (slice_set s k n) ≡ length s
-set_length [] k n = refl
-set_length (m ∷ ns) zero n = refl
-set_length (m ∷ ns) (suc k) n = ap suc (set_length ns k n)
-
-set_there : (s : List ℕ) (k n : ℕ) → k < length s → get_or (slice_set s k n) k 0 ≡ n
-set_there [] k n lt = absurd (omega (arith, lt))
-set_there (m ∷ ns) zero n lt = refl
-set_there (m ∷ ns) (suc k) n lt = set_there ns k n (omega (arith, lt))
+-- fewer than one
+below_one : (n : ℕ) → (n == 0) ≡ nat_lt n 1
+below_one n = by (n == 0) refl (nat_lt n 1) refl
+  where
+    by : (b : Bool) → (n == 0) ≡ b → (d : Bool) → nat_lt n 1 ≡ d → b ≡ d
+    by true e true t = refl
+    by true e false t = absurd (grind (arith, nat_tests, e, t))
+    by false e true t = absurd (grind (arith, nat_tests, e, t))
+    by false e false t = refl
 
 some_or_none : {A : Type 0} (o : Option A) → is_none o ≡ false → is_some o ≡ true
 some_or_none None e = absurd cc
@@ -87,7 +76,7 @@ module _ (nodes : List Node) (k : FoldKind) (c : Change) (a : DataArray) (is : I
   masked = masked_after k a.masked || is_none fill
 
   abbrev from : List (Option ℕ)
-  from = gaps 0 c.lists
+  from = gaps 1 0 c.lists
 
   long : length dims ≡ length before
   long = folds.long nodes k c a is method change few
@@ -113,40 +102,16 @@ module _ (nodes : List Node) (k : FoldKind) (c : Change) (a : DataArray) (is : I
   abbrev cell : List ℕ → Option ℤ
   cell p = listed_cell k Empty fill a.kind (found_at p)
 
-  listed_below : (p : List ℕ) → IsPoint (kept feeds before) p → get_or p k_at 0 < length c.lists
-  listed_below p here = listed_place k Empty fill c dims before a.kind a.masked own.cells is.formed.cells long change.has is.formed.axes.distinct inside change.fed shaped p here
-
   lengths : (p : List ℕ) → IsPoint (kept feeds before) p → length (found_at p) ≡ length (list_at p)
-  lengths p here = found_length k Empty fill c dims before a.kind a.masked own.cells is.formed.cells long change.has is.formed.axes.distinct inside change.fed shaped p here
+  lengths p here = gapped.lengths nodes k c a is method change few fill p here
 
   -- ---- the cells
 
-  abbrev folded_own : Array
-  folded_own = folded k feeds own
-
-  same_cell : (p : List ℕ) → IsPoint (kept feeds before) p → from_source folded_own fill (λ i. along k_at i p) (get_or from (get_or p k_at 0) None) ≡ cell p
-  same_cell p here =
-      ap (from_source folded_own fill (λ i. along k_at i p)) (gap_at c.lists (get_or p k_at 0) (listed_below p here)) ∙ by (length (list_at p) == 0) ∙ ap (λ n. cond (n == 0) fill (fold_at p)) (sym (lengths p here))
-    where
-      by : (b : Bool) → from_source folded_own fill (λ i. along k_at i p) (cond b None (Some (get_or p k_at 0))) ≡ cond b fill (fold_at p)
-      by true = refl
-      by false = ap (at folded_own) (set_same p k_at) ∙ made_at (folded_kind k a.kind) (kept feeds before) fold_at p here
-
-  same_shape : slice_set (kept feeds before) k_at (length from) ≡ kept feeds before
-  same_shape =
-      ap (slice_set (kept feeds before) k_at) (gaps_length 0 c.lists) ∙ ap (λ s. slice_set s k_at (length c.lists)) shaped
-      ∙ set_twice before k_at (length c.lists) ∙ sym shaped
-
-  abbrev taken_cell : List ℕ → Option ℤ
-  taken_cell p = from_source folded_own fill (λ i. along k_at i p) (get_or from (get_or p k_at 0) None)
-
-  taken_is : taken_from folded_own k_at from fill ≡ listed k Empty fill feeds own
-  taken_is =
-      ap (λ s. made (folded_kind k a.kind) s taken_cell) same_shape
-      ∙ ap (λ cells. record { kind = folded_kind k a.kind; shape = kept feeds before; cells = cells }) (tab_same (kept feeds before) taken_cell cell same_cell)
+  empty : (p : List ℕ) → IsPoint (kept feeds before) p → (length (found_at p) == 0) ≡ nat_lt (length (list_at p)) 1
+  empty p here = ap (λ n. n == 0) (lengths p here) ∙ below_one (length (list_at p))
 
   value_is : steps_value (step.Fold k feeds ∷ step.Take k_at from fill false ∷ []) (value nodes a.node) ≡ listed k Empty fill feeds own
-  value_is = ap (λ v. taken_from v k_at from fill) (folds.same nodes k c a is method change few) ∙ taken_is
+  value_is = gapped.gapped_is nodes k c a is method change few fill Empty 1 empty
 
   seen : masked ≡ false → (p : List ℕ) → IsPoint (kept feeds before) p → is_some (cell p) ≡ true
   seen plain p here = by (length (found_at p) == 0) refl
@@ -188,19 +153,6 @@ module _ (nodes : List Node) (k : FoldKind) (c : Change) (a : DataArray) (is : I
 
   -- ---- a plan takes it
 
-  take_fits : StepFits (step.Take k_at from fill false) folded_own
-  take_fits = record {
-    fits = (
-      omega arith,
-      (let here = inside in let same = ap length shaped ∙ set_length before k_at (length c.lists) in omega (arith, here, same)),
-      gaps_below c.lists (get_or (kept feeds before) k_at 0) (sym (ap (λ s. get_or s k_at 0) shaped ∙ set_there before k_at (length c.lists) inside)),
-      suits,
-      λ e. absurd cc,
-    );
-    small = subst (λ s. size s ≤ most_node_cells) (sym same_shape) (let most = folds.small nodes k c a is method change few in omega (arith, most));
-    low_rank = subst (λ (s : List ℕ). length s ≤ most_axes) (sym same_shape) (folds.low nodes k c a is method change few);
-  }
-
   pub filled_made : IsMade nodes filled
   filled_made =
       let frame = folds.frame nodes k c a is method change few in
@@ -210,7 +162,7 @@ module _ (nodes : List Node) (k : FoldKind) (c : Change) (a : DataArray) (is : I
       let two = ap size last in
       let most = points_above after after frame.dims.distinct (λ n e. e) (λ n. omega arith) in
       record {
-        fits = record { start = is.node.placed; steps = (folds.fits nodes k c a is method change few, (subst (StepFits (step.Take k_at from fill false)) (sym (folds.same nodes k c a is method change few)) take_fits, tt)) };
+        fits = record { start = is.node.placed; steps = (folds.fits nodes k c a is method change few, (gapped.gap_fits nodes k c a is method change few fill Empty 1 empty suits, tt)) };
         shape = last;
         kind = ap (λ (v : Array). v.kind) value_is;
         formed = subst IsDataArray (sym filled_listed) formed;

@@ -15,6 +15,7 @@ pub mod Grouped
 pub mod Binned
 pub mod BinAnswers
 pub mod Gaps
+pub mod Gapped
 pub mod Filling
 pub mod Ranges
 pub mod Sized
@@ -27,4 +28,5 @@ pub mod KeyFacts
 pub mod Changed
 pub mod Spreading
 pub mod Windowing
+pub mod PlainWindows
 pub mod WindowAnswers

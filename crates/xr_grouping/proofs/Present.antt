@@ -1,5 +1,5 @@
 -- Folds of cells that are all there are there.
-use Rattle.std.proofs.Common.{◌≡◌, ◌<◌, ℕ, ℤ, true, false, List, [], ◌∷◌, length, slice_get, Option, Some, None, is_some, refl, arith}
+use Rattle.std.proofs.Common.{◌≡◌, ◌<◌, ℕ, suc, ℤ, true, false, List, [], ◌∷◌, length, slice_get, Option, Some, None, is_some, refl, ap, arith}
 use Rattle.std.specs.Prelude.{⊤}
 use Rattle.std.specs.Int.{int_min, int_max}
 use Rattle.std.specs.List.{last_or}
@@ -18,6 +18,11 @@ pub some_present : (cs : List (ℕ × Option ℤ)) → AreThere cs → 0 < lengt
 some_present [] all some = absurd (omega arith)
 some_present ((p, None) ∷ cs) all some = absurd cc
 some_present ((p, Some x) ∷ cs) all some = omega arith
+
+pub all_present : (cs : List (ℕ × Option ℤ)) → AreThere cs → length (present cs) ≡ length cs
+all_present [] all = refl
+all_present ((p, None) ∷ cs) all = absurd cc
+all_present ((p, Some x) ∷ cs) all = ap suc (all_present cs all.1)
 
 both_there : (f : ℤ → ℤ → ℤ) (x : ℤ) (o : Option ℤ) → is_some (of_both f (Some x) o) ≡ true
 both_there f x None = refl

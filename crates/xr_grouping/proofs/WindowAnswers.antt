@@ -30,7 +30,7 @@ use Rattle.xr_defs.specs.WellFormed.{AreCells, IsDataArray}
 use Rattle.xr_values.specs.declared.data_array.DataArray.{DataArray}
 use Rattle.xr_values.specs.Stands.{array_in, IsArrayIn}
 use Rattle.xr_values.proofs.Grown.{array_kept, stays_array}
-use Rattle.xr_formulas.specs.Chains.{IsValueOf}
+use Rattle.xr_formulas.specs.Chains.{chain_cells, chain_value, ChainFits, IsValueOf}
 use Rattle.xr_formulas.specs.Mades.{formula_cells, formula_value, FormulaFits}
 use Rattle.xr_formulas.proofs.Mades.{in_its_room}
 use Rattle.xr_formulas.proofs.Pairs.{some_span}
@@ -46,8 +46,9 @@ use Rattle.xr_groups.specs.Listed.{axes_by, feeds_by, is_grouped, listed, listed
 use Rattle.xr_groups.specs.Methods.{array_by, array_listed, check_filled, check_given, fill_cell, of_groups, of_windows, window_masked}
 use Rattle.xr_grouping.specs.declared.windows.WindowsAsked.{WindowsAsked}
 use Rattle.xr_grouping.specs.Mades.{made_by}
+use Rattle.xr_formulas.specs.declared.chain.Chain.{Chain}
 use Rattle.xr_formulas.specs.declared.made.Formula.{Formula}
-use Rattle.xr_grouping.specs.Windowed.{array_at, chosen, enough, folds_of, AreAsked, IsAsked}
+use Rattle.xr_grouping.specs.Windowed.{array_at, chosen, enough, folds_of, plain, windows, AreAsked, IsAsked}
 use Rattle.xr_grouping.proofs.Answering.{grouped_one, passes}
 use Rattle.xr_grouping.proofs.BinAnswers.{fits_given}
 use Rattle.xr_grouping.proofs.Changed.{windowed, AreWindows}
@@ -57,6 +58,7 @@ use Rattle.xr_grouping.proofs.Listing.{all_there, cells_listed, found, found_len
 use Rattle.xr_grouping.proofs.Named.{one_of, IsOne}
 use Rattle.xr_grouping.proofs.OneList.{place}
 use Rattle.xr_grouping.proofs.Present.{fold_there, present_there, some_present}
+use Rattle.xr_grouping.proofs.PlainWindows as plains
 use Rattle.xr_grouping.proofs.Windowing as cells
 use Rattle.xr_grouping.proofs.Windowing.{test_over}
 
@@ -242,6 +244,45 @@ module _ (old : List Node) (k : FoldKind) (m : ℕ) (a : DataArray) (p : Windows
       let same = ap length (axes_are ∙ stay) in
       omega (arith, rank, there, same)
 
+  -- as it is asked
+  abbrev asked_cells : Array
+  asked_cells = windows k m p (array_in old a)
+
+  are_asked : cells_of ≡ asked_cells
+  are_asked = ap (λ ds. listed k (Fewer m) fill (feeds_by ds dims) own) (sym win.is)
+
+  spanned : size (shape_over after) ≤ span after
+  spanned = points_above after after (subst (λ xs. are_distinct (axis_names xs) ≡ true) (sym stay) is.formed.axes.distinct) (λ n e. e) (λ n. omega arith)
+
+  few_added : (new : List Node) (n : ℕ) → n ≤ 256 * span after → AddsAtMost old new n → AddsAtMost old new (256 * span (axes_by p.changes a.axes))
+  few_added new n le added = subst (λ ds. AddsAtMost old new (256 * span (axes_by ds a.axes))) (sym win.is) (adds_up old new n (256 * span after) le added)
+
+  -- ---- where no cell is missing
+
+  module _ (whole : a.masked ≡ false) where
+    abbrev chain : List Change → Chain
+    chain ds = plain k ds m fill a
+
+    pub plain_fit : ChainFits old (chain p.changes)
+    plain_fit = subst (λ ds. ChainFits old (chain ds)) (sym win.is) (plains.plain_fits old k c a is method one few m fill suits whole)
+
+    plain_are : chain_value old (chain p.changes) ≡ asked_cells
+    plain_are = ap (λ ds. chain_value old (chain ds)) win.is ∙ plains.plain_is old k c a is method one few m fill suits whole ∙ are_asked
+
+    pub plain_value : (new : List Node) (n : ℕ) → IsValueOf new (chain_value old (chain p.changes)) n → IsValueOf new asked_cells n
+    plain_value new n node = record { inside = node.inside; is = node.is ∙ plain_are }
+
+    pub plain_added : (new : List Node) → AddsAtMost old new (chain_cells old (chain p.changes)) → AddsAtMost old new (256 * span (axes_by p.changes a.axes))
+    plain_added new added = few_added new (chain_cells old (chain p.changes)) bound added
+      where
+        bound : chain_cells old (chain p.changes) ≤ 256 * span after
+        bound =
+            let u : chain_cells old (chain p.changes) ≤ 2 * size (shape_over after) = subst (λ ds. chain_cells old (chain ds) ≤ 2 * size (shape_over after)) (sym win.is) (plains.plain_few old k c a is method one few m fill suits whole) in
+            let most = spanned in
+            omega (arith, u, most)
+
+  -- ---- where present cells are counted
+
   pub tests_fit : FormulaFits old (enough p.changes m p.axes a)
   tests_fit = both (λ ds xs. FormulaFits old (enough ds m xs a)) (cells.enough_fits old c a is one few m)
 
@@ -262,34 +303,9 @@ module _ (old : List Node) (k : FoldKind) (m : ℕ) (a : DataArray) (p : Windows
         both (λ ds xs. formula_value mid (chosen k ds fill t xs a) ≡ listed k (Fewer m) fill feeds (array_of (array_in mid a))) (cells.chosen_is mid c a here one few k method m fill suits t test.inside tests)
         ∙ ap (λ (v : of.DataArray). listed k (Fewer m) fill feeds (array_of v)) (array_kept old mid a grown is)
 
-    module _ (new : List Node) (more : Grows mid new) (n : ℕ) (node : IsValueOf new (formula_value mid (chosen k p.changes fill t p.axes a)) n) where
-      abbrev result : DataArray
-      result = array_at k p.changes p.fill n a
-
-      valued : value new n ≡ cells_of
-      valued = node.is ∙ cells_are
-
-      result_is : array_in new (array_at k (c ∷ []) p.fill n a) ≡ means
-      result_is = ap (λ (v : Array). of_cells v.cells) valued
-        where
-          of_cells : List (Option ℤ) → of.DataArray
-          of_cells xs = record { name = a.name; axes = after; kind = kind; masked = masked; attrs = without_fills a.attrs; coords = a.coords; cells = xs }
-
-      one_in : IsArrayIn new (array_at k (c ∷ []) p.fill n a)
-      one_in = record {
-        node = record { placed = node.inside; has_shape = ap (λ (v : Array). v.shape) valued ∙ to; has_kind = ap (λ (v : Array). v.kind) valued };
-        formed = subst IsDataArray (sym result_is) formed;
-      }
-
-      grouped : is_grouped p.changes dims ≡ true
-      grouped = ap (λ ds. is_grouped ds dims) win.is ∙ grouped_one c dims one.has
-
-      pub answers : (array_by k (Fewer m) true p.changes p.fill (array_in old a) ≡ array_in new result) × IsArrayIn new result
-      answers = (
-        ap (λ b. cond b (array_listed k (Fewer m) true p.changes p.fill (array_in old a)) (array_in old a)) grouped
-            ∙ ap (λ ds. array_listed k (Fewer m) true ds p.fill (array_in old a)) win.is ∙ sym result_is ∙ ap (λ ds. array_in new (array_at k ds p.fill n a)) (sym win.is),
-        subst (λ ds. IsArrayIn new (array_at k ds p.fill n a)) (sym win.is) one_in,
-      )
+    module _ (new : List Node) where
+      pub counted_value : (n : ℕ) → IsValueOf new (formula_value mid (chosen k p.changes fill t p.axes a)) n → IsValueOf new asked_cells n
+      counted_value n node = record { inside = node.inside; is = node.is ∙ cells_are ∙ are_asked }
 
       abbrev both_cells : ℕ
       both_cells = formula_cells old (enough p.changes m p.axes a) + formula_cells mid (chosen k p.changes fill t p.axes a)
@@ -299,56 +315,103 @@ module _ (old : List Node) (k : FoldKind) (m : ℕ) (a : DataArray) (p : Windows
           let u : formula_cells old (enough p.changes m p.axes a) ≤ 3 + 18 * size (shape_over after) = both (λ ds xs. formula_cells old (enough ds m xs a) ≤ 3 + 18 * size (shape_over after)) (cells.enough_few old c a is one few m) in
           let v : formula_cells mid (chosen k p.changes fill t p.axes a) ≤ 3 + 18 * size (shape_over after) =
           both (λ ds xs. formula_cells mid (chosen k ds fill t xs a) ≤ 3 + 18 * size (shape_over after)) (cells.chosen_few mid c a here one few k method m fill suits t test.inside tests) in
-          let most = points_above after after (subst (λ xs. are_distinct (axis_names xs) ≡ true) (sym stay) is.formed.axes.distinct) (λ n e. e) (λ n. omega arith) in
+          let most = spanned in
           let least = some_span after in
           omega (arith, u, v, most, least)
 
-      both_added : AddsAtMost old mid (formula_cells old (enough p.changes m p.axes a)) → AddsAtMost mid new (formula_cells mid (chosen k p.changes fill t p.axes a)) → AddsAtMost old new both_cells
-      both_added first second = adds_both old mid new (formula_cells old (enough p.changes m p.axes a)) (formula_cells mid (chosen k p.changes fill t p.axes a)) first second
+      pub counted_added : AddsAtMost old mid (formula_cells old (enough p.changes m p.axes a)) → AddsAtMost mid new (formula_cells mid (chosen k p.changes fill t p.axes a)) → AddsAtMost old new (256 * span (axes_by p.changes a.axes))
+      counted_added first second = few_added new both_cells bound (adds_both old mid new (formula_cells old (enough p.changes m p.axes a)) (formula_cells mid (chosen k p.changes fill t p.axes a)) first second)
 
-      pub room : AddsAtMost old mid (formula_cells old (enough p.changes m p.axes a)) → AddsAtMost mid new (formula_cells mid (chosen k p.changes fill t p.axes a)) → AddsForAny old new (array_in new result)
-      room first second = in_its_room old new both_cells (made_by k masked (c ∷ []) (folds_of k (c ∷ []) a) a) (array_in new result) (ap (λ ds. axes_by ds a.axes) win.is) bound (both_added first second)
+  -- ---- the array of a node with these cells
 
-      pub few_cells : AddsAtMost old mid (formula_cells old (enough p.changes m p.axes a)) → AddsAtMost mid new (formula_cells mid (chosen k p.changes fill t p.axes a)) → AddsAtMost old new (256 * span (axes_by p.changes a.axes))
-      few_cells first second = subst (λ ds. AddsAtMost old new (256 * span (axes_by ds a.axes))) (sym win.is) (adds_up old new both_cells (256 * span after) bound (both_added first second))
+  module _ (new : List Node) (n : ℕ) (node : IsValueOf new asked_cells n) where
+    abbrev result : DataArray
+    result = array_at k p.changes p.fill n a
+
+    valued : value new n ≡ cells_of
+    valued = node.is ∙ sym are_asked
+
+    result_is : array_in new (array_at k (c ∷ []) p.fill n a) ≡ means
+    result_is = ap (λ (v : Array). of_cells v.cells) valued
+      where
+        of_cells : List (Option ℤ) → of.DataArray
+        of_cells xs = record { name = a.name; axes = after; kind = kind; masked = masked; attrs = without_fills a.attrs; coords = a.coords; cells = xs }
+
+    one_in : IsArrayIn new (array_at k (c ∷ []) p.fill n a)
+    one_in = record {
+      node = record { placed = node.inside; has_shape = ap (λ (v : Array). v.shape) valued ∙ to; has_kind = ap (λ (v : Array). v.kind) valued };
+      formed = subst IsDataArray (sym result_is) formed;
+    }
+
+    grouped : is_grouped p.changes dims ≡ true
+    grouped = ap (λ ds. is_grouped ds dims) win.is ∙ grouped_one c dims one.has
+
+    pub answers : (array_by k (Fewer m) true p.changes p.fill (array_in old a) ≡ array_in new result) × IsArrayIn new result
+    answers = (
+      ap (λ b. cond b (array_listed k (Fewer m) true p.changes p.fill (array_in old a)) (array_in old a)) grouped
+          ∙ ap (λ ds. array_listed k (Fewer m) true ds p.fill (array_in old a)) win.is ∙ sym result_is ∙ ap (λ ds. array_in new (array_at k ds p.fill n a)) (sym win.is),
+      subst (λ ds. IsArrayIn new (array_at k ds p.fill n a)) (sym win.is) one_in,
+    )
+
+    pub room : AddsAtMost old new (256 * span (axes_by p.changes a.axes)) → AddsForAny old new (array_in new result)
+    room added = in_its_room old new (256 * span (axes_by p.changes a.axes)) (made_by k masked p.changes (folds_of k p.changes a) a) (array_in new result) refl (omega arith) added
 
 -- as the code hands them on
-module _ (old : List Node) (k : FoldKind) (m : ℕ) (a : DataArray) (p : WindowsAsked) (is : IsArrayIn old a) (some : 1 ≤ m) (asked : AreAsked k m a p) (slice : List Change) (own : List Axis) (es : slice ≡ p.changes) (eo : own ≡ p.axes)
-    (tests : Formula) (et : tests ≡ enough slice m own a) where
-  first : tests ≡ enough p.changes m p.axes a
-  first = et ∙ ap (λ ds. enough ds m own a) es ∙ ap (λ xs. enough p.changes m xs a) eo
+module _ (old : List Node) (k : FoldKind) (m : ℕ) (a : DataArray) (p : WindowsAsked) (is : IsArrayIn old a) (some : 1 ≤ m) (asked : AreAsked k m a p) where
+  module _ (slice : List Change) (es : slice ≡ p.changes) where
+    -- where no cell is missing
+    module _ (whole : a.masked ≡ false) (fill : Option ℤ) (ef : fill ≡ fill_cell p.fill) (cells : Chain) (ec : cells ≡ plain k slice m fill a) where
+      same_chain : cells ≡ plain k p.changes m (fill_cell p.fill) a
+      same_chain = ec ∙ ap (λ ds. plain k ds m fill a) es ∙ ap (λ y. plain k p.changes m y a) ef
 
-  pub handed_first : FormulaFits old tests
-  handed_first = subst (FormulaFits old) (sym first) (tests_fit old k m a p is some asked.0 asked.1 asked.2 asked.3)
+      pub plain_first : ChainFits old cells
+      plain_first = subst (ChainFits old) (sym same_chain) (plain_fit old k m a p is some asked.0 asked.1 asked.2 asked.3 whole)
 
-  module _ (mid : List Node) (grown : Grows old mid) (t : ℕ) (test : IsValueOf mid (formula_value old tests) t) (fill : Option ℤ) (ef : fill ≡ fill_cell p.fill) (cells : Formula) (ec : cells ≡ chosen k slice fill t own a) where
-    second : cells ≡ chosen k p.changes (fill_cell p.fill) t p.axes a
-    second = ec ∙ ap (λ ds. chosen k ds fill t own a) es ∙ ap (λ xs. chosen k p.changes fill t xs a) eo ∙ ap (λ y. chosen k p.changes y t p.axes a) ef
+      pub plain_node : (new : List Node) (n : ℕ) → IsValueOf new (chain_value old cells) n → IsValueOf new (windows k m p (array_in old a)) n
+      plain_node new n node = plain_value old k m a p is some asked.0 asked.1 asked.2 asked.3 whole new n (subst (λ x. IsValueOf new (chain_value old x) n) same_chain node)
 
-    tested : IsValueOf mid (formula_value old (enough p.changes m p.axes a)) t
-    tested = subst (λ f. IsValueOf mid (formula_value old f) t) first test
+      pub plain_cells : (new : List Node) → AddsAtMost old new (chain_cells old cells) → AddsAtMost old new (256 * span (axes_by p.changes a.axes))
+      plain_cells new added = plain_added old k m a p is some asked.0 asked.1 asked.2 asked.3 whole new (subst (λ x. AddsAtMost old new (chain_cells old x)) same_chain added)
 
-    pub handed_second : FormulaFits mid cells
-    handed_second = subst (FormulaFits mid) (sym second) (cells_fit old k m a p is some asked.0 asked.1 asked.2 asked.3 mid grown t tested)
+    -- where they are counted
+    module _ (own : List Axis) (eo : own ≡ p.axes) (tests : Formula) (et : tests ≡ enough slice m own a) where
+      first : tests ≡ enough p.changes m p.axes a
+      first = et ∙ ap (λ ds. enough ds m own a) es ∙ ap (λ xs. enough p.changes m xs a) eo
 
-    module _ (new : List Node) (more : Grows mid new) (n : ℕ) (node : IsValueOf new (formula_value mid cells) n) (array : DataArray) (ea : array ≡ array_at k slice p.fill n a) where
-      noded : IsValueOf new (formula_value mid (chosen k p.changes (fill_cell p.fill) t p.axes a)) n
-      noded = subst (λ f. IsValueOf new (formula_value mid f) n) second node
+      pub handed_first : FormulaFits old tests
+      handed_first = subst (FormulaFits old) (sym first) (tests_fit old k m a p is some asked.0 asked.1 asked.2 asked.3)
 
+      module _ (mid : List Node) (grown : Grows old mid) (t : ℕ) (test : IsValueOf mid (formula_value old tests) t) (fill : Option ℤ) (ef : fill ≡ fill_cell p.fill) (cells : Formula) (ec : cells ≡ chosen k slice fill t own a) where
+        second : cells ≡ chosen k p.changes (fill_cell p.fill) t p.axes a
+        second = ec ∙ ap (λ ds. chosen k ds fill t own a) es ∙ ap (λ xs. chosen k p.changes fill t xs a) eo ∙ ap (λ y. chosen k p.changes y t p.axes a) ef
+
+        tested : IsValueOf mid (formula_value old (enough p.changes m p.axes a)) t
+        tested = subst (λ f. IsValueOf mid (formula_value old f) t) first test
+
+        pub handed_second : FormulaFits mid cells
+        handed_second = subst (FormulaFits mid) (sym second) (cells_fit old k m a p is some asked.0 asked.1 asked.2 asked.3 mid grown t tested)
+
+        pub handed_node : (new : List Node) (n : ℕ) → IsValueOf new (formula_value mid cells) n → IsValueOf new (windows k m p (array_in old a)) n
+        handed_node new n node = counted_value old k m a p is some asked.0 asked.1 asked.2 asked.3 mid grown t tested new n (subst (λ f. IsValueOf new (formula_value mid f) n) second node)
+
+        pub handed_cells : (new : List Node) → AddsAtMost old mid (formula_cells old tests) → AddsAtMost mid new (formula_cells mid cells) → AddsAtMost old new (256 * span (axes_by p.changes a.axes))
+        handed_cells new one two =
+            counted_added old k m a p is some asked.0 asked.1 asked.2 asked.3 mid grown t tested new (subst (λ f. AddsAtMost old mid (formula_cells old f)) first one) (subst (λ f. AddsAtMost mid new (formula_cells mid f)) second two)
+
+    -- the array
+    module _ (new : List Node) (n : ℕ) (node : IsValueOf new (windows k m p (array_in old a)) n) (array : DataArray) (ea : array ≡ array_at k slice p.fill n a) where
       same : array ≡ array_at k p.changes p.fill n a
       same = ea ∙ ap (λ ds. array_at k ds p.fill n a) es
 
-      pub handed_answer : (array_by k (Fewer m) true p.changes p.fill (array_in old a) ≡ array_in new array) × IsArrayIn new array
-      handed_answer =
+      pub array_answer : (array_by k (Fewer m) true p.changes p.fill (array_in old a) ≡ array_in new array) × IsArrayIn new array
+      array_answer =
           subst (λ b. (array_by k (Fewer m) true p.changes p.fill (array_in old a) ≡ array_in new b) × IsArrayIn new b) (sym same)
-          (answers old k m a p is some asked.0 asked.1 asked.2 asked.3 mid grown t tested new more n noded)
+          (answers old k m a p is some asked.0 asked.1 asked.2 asked.3 new n node)
 
-      pub handed_room : AddsAtMost old mid (formula_cells old tests) → AddsAtMost mid new (formula_cells mid cells) → AddsForAny old new (array_in new array)
-      handed_room one two =
+      pub array_room : AddsAtMost old new (256 * span (axes_by p.changes a.axes)) → AddsForAny old new (array_in new array)
+      array_room added =
           subst (λ b. AddsForAny old new (array_in new b)) (sym same)
-          (room old k m a p is some asked.0 asked.1 asked.2 asked.3 mid grown t tested new more n noded (subst (λ f. AddsAtMost old mid (formula_cells old f)) first one) (subst (λ f. AddsAtMost mid new (formula_cells mid f)) second two))
+          (room old k m a p is some asked.0 asked.1 asked.2 asked.3 new n node added)
 
-      pub handed_cells : AddsAtMost old mid (formula_cells old tests) → AddsAtMost mid new (formula_cells mid cells) → AddsAtMost old new (256 * span array.axes)
-      handed_cells one two =
-          subst (λ (b : DataArray). AddsAtMost old new (256 * span b.axes)) (sym same)
-          (few_cells old k m a p is some asked.0 asked.1 asked.2 asked.3 mid grown t tested new more n noded (subst (λ f. AddsAtMost old mid (formula_cells old f)) first one) (subst (λ f. AddsAtMost mid new (formula_cells mid f)) second two))
+      pub array_cells : AddsAtMost old new (256 * span (axes_by p.changes a.axes)) → AddsAtMost old new (256 * span array.axes)
+      array_cells added = subst (λ (b : DataArray). AddsAtMost old new (256 * span b.axes)) (sym same) added

@@ -1,4 +1,5 @@
--- The folds of windows with enough present cells, and a fill in the place of the others.
+-- The folds of windows with enough present cells, and a fill in the place of the others. Where an array misses no cell, a window's
+-- present cells are as many as its positions; else they are counted.
 use Rattle.std.specs.Prelude.{◌≡◌, ◌^◌, ℕ, ℤ, pos, Bool, true, List, [], ◌∷◌, min, is_some, Option, Some, None, Result, Ok, if◌then◌else◌}
 use Rattle.xr_types.specs.Names.{axis_names, shape_over}
 use Rattle.xr_types.specs.Results.{◌>>=◌, unless}
@@ -10,10 +11,11 @@ use Rattle.xr_types.specs.declared.kind.DType.TheVariants.{Int64}
 use Rattle.xr_types.specs.declared.operation.FoldKind.{FoldKind}
 use Rattle.xr_types.specs.declared.operation.FoldKind.TheVariants.{Count}
 use Rattle.xr_types.specs.declared.operation.OpKind.TheVariants.{GreaterEqual}
+use Rattle.xr_arrays.specs.Arrays.{Array}
 use Rattle.xr_arrays.specs.Folds.{folded_kind}
 use Rattle.xr_defs.specs.Meanings.{Given}
 use Rattle.xr_defs.specs.Values as of
-use Rattle.xr_defs.specs.Values.{without_fills}
+use Rattle.xr_defs.specs.Values.{array_of, without_fills}
 use Rattle.xr_defs.specs.declared.grouping.Grouping.TheVariants.{Windows}
 use Rattle.xr_formulas.specs.Spread.{has_none, widens}
 use Rattle.xr_formulas.specs.declared.chain.Chain.{Chain}
@@ -25,10 +27,11 @@ use Rattle.xr_operations.specs.Reductions.{check_size}
 use Rattle.xr_groups.specs.declared.change.Change.{Change}
 use Rattle.xr_groups.specs.declared.change.Least.TheVariants.{Fewer}
 use Rattle.xr_groups.specs.Groupings.{grouped_changes}
-use Rattle.xr_groups.specs.Listed.{axes_by, feeds_by}
-use Rattle.xr_groups.specs.Methods.{array_by, check_filled, check_given, of_windows, window_masked}
+use Rattle.xr_groups.specs.Listed.{axes_by, feeds_by, listed}
+use Rattle.xr_groups.specs.Methods.{array_by, check_filled, check_given, fill_cell, of_windows, window_masked}
 use Rattle.xr_values.specs.declared.data_array.DataArray.{DataArray}
 use Rattle.xr_grouping.specs.declared.windows.WindowsAsked.{WindowsAsked}
+use Rattle.xr_grouping.specs.Fills.{short_filling}
 use Rattle.xr_grouping.specs.Mades.{fill_asked}
 
 -- no position
@@ -56,10 +59,18 @@ enough cs m axes a = Two GreaterEqual (folds_of Count cs a) (spread axes Int64 (
 abbrev pub chosen : FoldKind → List Change → Option ℤ → ℕ → List Axis → DataArray → Formula
 chosen k cs fill test axes a = Three (record { start = starts.Node test; steps = [] }) (folds_of k cs a) (spread axes (folded_kind k a.kind) fill)
 
+-- of an array that misses no cell
+abbrev pub plain : FoldKind → List Change → ℕ → Option ℤ → DataArray → Chain
+plain k cs m fill a = record { start = starts.Node a.node; steps = step.Fold k (feeds_by cs (axis_names a.axes)) ∷ short_filling m cs (axis_names a.axes) fill }
+
 unfoldable pub windowed_of : FoldKind → List ℕ → ℕ → Bool → ℕ → of.DataArray → Given → Result of.DataArray Fault
 windowed_of k d w center m a g =
     unless (of_windows k) BadArgument >>= λ u. fill_asked (folded_kind k a.kind) g >>= λ fill. grouped_changes (Windows d w center m) a.axes a.coords [] >>= λ cs.
     check_filled (Fewer m) cs (is_some fill) >>= λ v. check_given (folded_kind k a.kind) fill >>= λ x. check_size (shape_over (axes_by cs a.axes)) >>= λ y. Ok (array_by k (Fewer m) true cs fill a)
+
+-- the cells of windows
+abbrev pub windows : FoldKind → ℕ → WindowsAsked → of.DataArray → Array
+windows k m p a = listed k (Fewer m) (fill_cell p.fill) (feeds_by p.changes (axis_names a.axes)) (array_of a)
 
 -- the array of windows, with the cells of a node
 abbrev pub array_at : FoldKind → List Change → Option (Option ℤ) → ℕ → DataArray → DataArray

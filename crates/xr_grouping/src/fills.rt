@@ -1,4 +1,4 @@
-//! The fill of bins that are empty.
+//! The fill of bins that are empty, and of windows with too few positions.
 ghost use Rattle.std.specs.Prelude.{◌≡◌, ◌≤◌, ◌==◌, ◌++◌, List, length, option_map, IfOk, OnOk};
 ghost use Rattle.std.specs.List.{position_or_len, list_any};
 ghost use Rattle.std.specs.Str.{bytes_eq};
@@ -134,16 +134,35 @@ pub fn check_given(kind: DType, fill: Option<Option<i128>>) -> Result<(), CallFa
     }
 }
 
-fn shown(positions: Positions<'_>, at: u32) -> Option<u32>
-    ensures { result ≡ fills.shown (listed positions.entry) at }
+fn count(positions: Positions<'_>) -> u64
+    ensures { result ≡ length (listed positions.entry) }
 {
-    if is_empty(positions) { None } else { Some(at) }
+    match positions {
+        Positions::Range { from, to } => to.saturating_sub(from),
+        Positions::List(list) => list.len() as u64,
+    }
 }
 
-// Each position of the lists that has some.
+fn is_short(positions: Positions<'_>, least: u64) -> bool
+    ensures { result ≡ fills.is_short least (listed positions.entry) }
+{
+    count(positions) < least
+}
+
+fn shown(positions: Positions<'_>, least: u64, at: u32) -> Option<u32>
+    ensures { result ≡ fills.shown least (listed positions.entry) at }
+{
+    if is_short(positions, least) {
+        None
+    } else {
+        Some(at)
+    }
+}
+
+// Each position of the lists that has so many.
 #[tactic(auto, using(crate::proofs::Gaps::next_gap, crate::proofs::Gaps::last_gap))]
-fn gaps(alloc: Global, lists: &Feeds) -> Result<Sources, AllocError>
-    ensures { IfOk result (λ s. s ≡ fills.gaps 0 lists.now) }
+fn gaps(alloc: Global, lists: &Feeds, least: u64) -> Result<Sources, AllocError>
+    ensures { IfOk result (λ s. s ≡ fills.gaps least 0 lists.now) }
 {
     let count = lists.len();
     if count > u64::from(u32::MAX) {
@@ -151,7 +170,7 @@ fn gaps(alloc: Global, lists: &Feeds) -> Result<Sources, AllocError>
     }
     let mut out = Items::new(alloc);
     for at in 0..count {
-        out.push(shown(lists.positions(at), at as u32))?;
+        out.push(shown(lists.positions(at), least, at as u32))?;
     }
     Ok(out)
 }
@@ -187,11 +206,69 @@ pub(crate) fn push_fills(
         [change, rest @ ..] => {
             steps.push(Step::Take {
                 axis: place(axes, &change.dimension),
-                from: gaps(alloc, &change.lists)?,
+                from: gaps(alloc, &change.lists, 1)?,
                 fill,
                 drop: false,
             })?;
             push_fills(alloc, steps, rest, axes, fill)
+        }
+    }
+}
+
+// Whether some list has fewer positions than so many.
+#[tactic(auto, using(crate::proofs::Gaps::next_short, crate::proofs::Gaps::last_short))]
+fn has_short(lists: &Feeds, least: u64) -> bool
+    ensures { result ≡ list_any (λ ps. fills.is_short least ps) lists.now }
+{
+    for at in 0..lists.len() {
+        if is_short(lists.positions(at), least) {
+            return true;
+        }
+    }
+    false
+}
+
+// Adds the fill along an axis some of whose lists have fewer positions than so many.
+fn push_gap(
+    alloc: Global,
+    steps: &mut Items<Step>,
+    least: u64,
+    axis: usize,
+    lists: &Feeds,
+    fill: Option<i128>,
+) -> Result<(), AllocError>
+    ensures { OnOk result (steps.new ≡ steps.old ++ fills.gap_filling least axis lists.now fill) }
+{
+    if has_short(lists, least) {
+        let from = gaps(alloc, lists, least)?;
+        steps.push(Step::Take {
+            axis,
+            from,
+            fill,
+            drop: false,
+        })
+    } else {
+        Ok(())
+    }
+}
+
+/// Adds the fill in the place of lists with fewer positions than `least`, along each dimension that has such lists.
+pub(crate) fn push_short_fills(
+    alloc: Global,
+    steps: &mut Items<Step>,
+    least: u64,
+    changes: &[Change],
+    axes: &[Axis],
+    fill: Option<i128>,
+) -> Result<(), AllocError>
+    ensures { OnOk result (steps.new ≡ steps.old ++ fills.short_filling least changes.now (axis_names axes.now) fill) }
+{
+    match changes {
+        [] => Ok(()),
+        [change, rest @ ..] => {
+            let axis = place(axes, &change.dimension);
+            push_gap(alloc, steps, least, axis, &change.lists, fill)?;
+            push_short_fills(alloc, steps, least, rest, axes, fill)
         }
     }
 }

@@ -1,10 +1,11 @@
 //! Methods of arrays in windows.
-ghost use Rattle.std.specs.Prelude.{◌≡◌, ◌≤◌, ◌*◌, ◌++◌, List, length, true, IfOk, OnOk};
+ghost use Rattle.std.specs.Prelude.{◌≡◌, ◌≤◌, ◌*◌, ◌++◌, List, length, false, true, IfOk, OnOk};
 ghost use Rattle.xr_arrays.specs.declared.node.Node.{Node};
 ghost use Rattle.xr_arrays.specs.Added.{AddsAtMost};
 ghost use Rattle.xr_defs.specs.Room.{span, AddsForAny};
 ghost use Rattle.xr_defs.specs.declared.grouping.Grouping.TheVariants.{Windows};
 ghost use Rattle.plan_core.specs.Plans.{Grows};
+ghost use Rattle.xr_formulas.specs.Chains.{IsValueOf};
 ghost use Rattle.xr_formulas.specs.Spread as spreads;
 ghost use Rattle.xr_groups.specs.Listed as lists;
 ghost use Rattle.xr_groups.specs.Methods as methods;
@@ -20,12 +21,14 @@ ghost use Rattle.xr_grouping.specs.Windowed as of;
 use crate::arrays::check_axes;
 use crate::asked::folded_kind;
 use crate::checked::windowed_changes;
-use crate::fills::{check_given, fill_given};
+use crate::fills::{check_given, fill_given, push_short_fills};
 use crate::listed::{axes_by, feeds_by};
 use plan_core::Plan;
 use std::alloc::{AllocError, Global};
 use xr_arrays::Sources;
-use xr_formulas::{Chain, Formula, Start, Step, cells_of, literal, one_step, push_formula};
+use xr_formulas::{
+    Chain, Formula, Start, Step, cells_of, literal, one_step, push_chain, push_formula,
+};
 use xr_groups::Change;
 use xr_types::{
     Axis, CallFault, DType, DeepCopy, Fault, FoldKind, Items, NoMemory, NodeId, OpKind, TextBytes,
@@ -107,6 +110,27 @@ fn enough_cells(least: u64) -> i128
     ensures { result ≡ of.enough_cells least }
 {
     i128::from(least.min(1_099_511_627_776))
+}
+
+// The folds of windows of an array that misses no cell, and the fill in the place of those with too few positions.
+fn plain(
+    alloc: Global,
+    fold: FoldKind,
+    changes: &[Change],
+    least: u64,
+    fill: Option<i128>,
+    on: &DataArray,
+) -> Result<Chain, AllocError>
+    ensures { IfOk result (λ c. c ≡ of.plain fold changes.now least fill on.now) }
+{
+    let own = on.axes.as_slice();
+    let mut steps = Items::new(alloc);
+    steps.push(Step::Fold(fold, feeds_by(alloc, changes, own)?))?;
+    push_short_fills(alloc, &mut steps, least, changes, own, fill)?;
+    Ok(Chain {
+        start: Start::Node(on.node),
+        steps,
+    })
 }
 
 // Which windows have enough present cells.
@@ -237,6 +261,78 @@ fn windows_asked(
     })
 }
 
+// ---- the node
+
+// The present cells of each window are counted.
+fn push_counted(
+    alloc: Global,
+    plan: &mut Plan,
+    fold: FoldKind,
+    least: u64,
+    on: &DataArray,
+    asked: &WindowsAsked,
+) -> Result<NodeId, NoMemory>
+    requires some { 1 ≤ least }
+    requires is { IsArrayIn plan.old on.now }
+    requires asked { of.AreAsked fold least on.now asked.now }
+    ensures value { IfOk result (IsValueOf plan.new (of.windows fold least asked.now (array_in plan.old on.now))) }
+    ensures grows { Grows plan.old plan.new }
+    ensures cells { IfOk result (λ n. AddsAtMost plan.old plan.new (256 * span (lists.axes_by asked.now.changes on.now.axes))) }
+{
+    let changes = asked.changes.as_slice();
+    let axes = asked.axes.as_slice();
+    let tests = enough(alloc, changes, least, axes, on)?;
+    let test = push_formula(alloc, plan, &tests)?;
+    let cells = chosen(alloc, fold, changes, fill_cell(asked.fill), test, axes, on)?;
+    let node = push_formula(alloc, plan, &cells)?;
+    Ok(node)
+}
+
+// Each window has as many present cells as positions.
+fn push_plain(
+    alloc: Global,
+    plan: &mut Plan,
+    fold: FoldKind,
+    least: u64,
+    on: &DataArray,
+    asked: &WindowsAsked,
+) -> Result<NodeId, NoMemory>
+    requires some { 1 ≤ least }
+    requires is { IsArrayIn plan.old on.now }
+    requires asked { of.AreAsked fold least on.now asked.now }
+    requires whole { on.now.masked ≡ false }
+    ensures value { IfOk result (IsValueOf plan.new (of.windows fold least asked.now (array_in plan.old on.now))) }
+    ensures grows { Grows plan.old plan.new }
+    ensures cells { IfOk result (λ n. AddsAtMost plan.old plan.new (256 * span (lists.axes_by asked.now.changes on.now.axes))) }
+{
+    let changes = asked.changes.as_slice();
+    let cells = plain(alloc, fold, changes, least, fill_cell(asked.fill), on)?;
+    let node = push_chain(alloc, plan, &cells)?;
+    Ok(node)
+}
+
+fn push_windows(
+    alloc: Global,
+    plan: &mut Plan,
+    fold: FoldKind,
+    least: u64,
+    on: &DataArray,
+    asked: &WindowsAsked,
+) -> Result<NodeId, NoMemory>
+    requires some { 1 ≤ least }
+    requires is { IsArrayIn plan.old on.now }
+    requires asked { of.AreAsked fold least on.now asked.now }
+    ensures value { IfOk result (IsValueOf plan.new (of.windows fold least asked.now (array_in plan.old on.now))) }
+    ensures grows { Grows plan.old plan.new }
+    ensures cells { IfOk result (λ n. AddsAtMost plan.old plan.new (256 * span (lists.axes_by asked.now.changes on.now.axes))) }
+{
+    if on.masked {
+        push_counted(alloc, plan, fold, least, on, asked)
+    } else {
+        push_plain(alloc, plan, fold, least, on, asked)
+    }
+}
+
 // ---- the array
 
 fn array_at(
@@ -280,12 +376,8 @@ pub fn window_folds(
     ensures room { IfOk result (λ b. AddsForAny plan.old plan.new (array_in plan.new b)) }
     ensures cells { IfOk result (λ b. AddsAtMost plan.old plan.new (256 * span b.axes)) }
 {
+    let node = push_windows(alloc, plan, fold, least, on, &asked)?;
     let changes = asked.changes.as_slice();
-    let axes = asked.axes.as_slice();
-    let tests = enough(alloc, changes, least, axes, on)?;
-    let test = push_formula(alloc, plan, &tests)?;
-    let cells = chosen(alloc, fold, changes, fill_cell(asked.fill), test, axes, on)?;
-    let node = push_formula(alloc, plan, &cells)?;
     let array = array_at(
         alloc,
         fold,

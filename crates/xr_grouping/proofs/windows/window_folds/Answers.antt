@@ -1,30 +1,17 @@
-use Rattle.xr_grouping.proofs.WindowAnswers.{handed_answer, handed_cells, handed_first, handed_room, handed_second}
+use Rattle.xr_grouping.proofs.WindowAnswers.{array_answer, array_cells, array_room}
 use Rattle.xr_grouping.proofs.windows.window_folds.Goals as goal
-
-pub push_formula-requires : goal.push_formula-requires
-push_formula-requires c =
-    handed_first c.args.plan.now c.args.fold c.args.least c.args.on.now c.args.asked c.requires.is c.requires.some c.requires.asked c.as_slice-changes.result.now c.as_slice-axes.result.now c.as_slice-changes.ensures c.as_slice-axes.ensures
-    c.in_ok-tests.tests c.in_ok-tests.ensures
-
-pub push_formula-requires-2 : goal.push_formula-requires-2
-push_formula-requires-2 c =
-    handed_second c.args.plan.now c.args.fold c.args.least c.args.on.now c.args.asked c.requires.is c.requires.some c.requires.asked c.as_slice-changes.result.now c.as_slice-axes.result.now c.as_slice-changes.ensures c.as_slice-axes.ensures
-    c.in_ok-tests.tests c.in_ok-tests.ensures c.push_formula.new.plan c.in_ok-test.ensures.grows c.in_ok-test.test c.in_ok-test.ensures.value c.fill_cell.result c.fill_cell.ensures c.in_ok-cells.cells c.in_ok-cells.ensures
 
 pub returns-clause-array : goal.returns-clause-array
 returns-clause-array c =
-    handed_answer c.args.plan.now c.args.fold c.args.least c.args.on.now c.args.asked c.requires.is c.requires.some c.requires.asked c.as_slice-changes.result.now c.as_slice-axes.result.now c.as_slice-changes.ensures c.as_slice-axes.ensures
-    c.in_ok-tests.tests c.in_ok-tests.ensures c.push_formula.new.plan c.in_ok-test.ensures.grows c.in_ok-test.test c.in_ok-test.ensures.value c.fill_cell.result c.fill_cell.ensures c.in_ok-cells.cells c.in_ok-cells.ensures
-    c.push_formula-2.new.plan c.in_ok-node.ensures.grows c.in_ok-node.node c.in_ok-node.ensures.value c.in_ok-array.array c.in_ok-array.ensures
+    array_answer c.args.plan.now c.args.fold c.args.least c.args.on.now c.args.asked c.requires.is c.requires.some c.requires.asked c.as_slice-changes.result.now c.as_slice-changes.ensures c.push_windows.new.plan
+    c.in_ok-node.node c.in_ok-node.ensures.value c.in_ok-array.array c.in_ok-array.ensures
 
 pub returns-clause-room : goal.returns-clause-room
 returns-clause-room c =
-    handed_room c.args.plan.now c.args.fold c.args.least c.args.on.now c.args.asked c.requires.is c.requires.some c.requires.asked c.as_slice-changes.result.now c.as_slice-axes.result.now c.as_slice-changes.ensures c.as_slice-axes.ensures
-    c.in_ok-tests.tests c.in_ok-tests.ensures c.push_formula.new.plan c.in_ok-test.ensures.grows c.in_ok-test.test c.in_ok-test.ensures.value c.fill_cell.result c.fill_cell.ensures c.in_ok-cells.cells c.in_ok-cells.ensures
-    c.push_formula-2.new.plan c.in_ok-node.ensures.grows c.in_ok-node.node c.in_ok-node.ensures.value c.in_ok-array.array c.in_ok-array.ensures c.in_ok-test.ensures.cells c.in_ok-node.ensures.cells
+    array_room c.args.plan.now c.args.fold c.args.least c.args.on.now c.args.asked c.requires.is c.requires.some c.requires.asked c.as_slice-changes.result.now c.as_slice-changes.ensures c.push_windows.new.plan
+    c.in_ok-node.node c.in_ok-node.ensures.value c.in_ok-array.array c.in_ok-array.ensures c.in_ok-node.ensures.cells
 
 pub returns-clause-cells : goal.returns-clause-cells
 returns-clause-cells c =
-    handed_cells c.args.plan.now c.args.fold c.args.least c.args.on.now c.args.asked c.requires.is c.requires.some c.requires.asked c.as_slice-changes.result.now c.as_slice-axes.result.now c.as_slice-changes.ensures c.as_slice-axes.ensures
-    c.in_ok-tests.tests c.in_ok-tests.ensures c.push_formula.new.plan c.in_ok-test.ensures.grows c.in_ok-test.test c.in_ok-test.ensures.value c.fill_cell.result c.fill_cell.ensures c.in_ok-cells.cells c.in_ok-cells.ensures
-    c.push_formula-2.new.plan c.in_ok-node.ensures.grows c.in_ok-node.node c.in_ok-node.ensures.value c.in_ok-array.array c.in_ok-array.ensures c.in_ok-test.ensures.cells c.in_ok-node.ensures.cells
+    array_cells c.args.plan.now c.args.fold c.args.least c.args.on.now c.args.asked c.requires.is c.requires.some c.requires.asked c.as_slice-changes.result.now c.as_slice-changes.ensures c.push_windows.new.plan
+    c.in_ok-node.node c.in_ok-node.ensures.value c.in_ok-array.array c.in_ok-array.ensures c.in_ok-node.ensures.cells
