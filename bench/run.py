@@ -15,7 +15,6 @@ import shutil
 import subprocess
 import sys
 import tempfile
-import time
 from dataclasses import dataclass, field
 
 from setting import PYTHON, begin
@@ -255,21 +254,33 @@ JOBS = [
 ]
 
 
+# Runs a command, and writes its status, its seconds and its peak memory in KiB into a file: in a process of its own, since a child's
+# peak begins with the memory that its parent has.
+MEASURED = """
+import os, subprocess, sys, time
+start = time.perf_counter()
+child = subprocess.Popen(sys.argv[2:], stderr=subprocess.DEVNULL)
+_, status, usage = os.wait4(child.pid, 0)
+seconds = time.perf_counter() - start
+with open(sys.argv[1], "w") as f:
+    f.write(f"{os.waitstatus_to_exitcode(status)} {seconds} {usage.ru_maxrss}")
+"""
+
+
 def timed(command, folder):
     """Seconds of a whole process, its peak memory in MiB and what it printed. What an earlier run wrote is removed first, since
     a file that takes the place of another waits until that one's blocks are free."""
     for name in OUTPUTS:
         if os.path.exists(os.path.join(folder, name)):
             os.remove(os.path.join(folder, name))
+    measure = os.path.join(folder, "measure")
     with open(os.path.join(folder, "stdout"), "w+") as out:
-        start = time.perf_counter()
-        child = subprocess.Popen(command, cwd=folder, stdout=out, stderr=subprocess.DEVNULL)
-        _, status, usage = os.wait4(child.pid, 0)
-        seconds = time.perf_counter() - start
-        child.returncode = os.waitstatus_to_exitcode(status)
+        subprocess.run([sys.executable, "-S", "-c", MEASURED, measure, *command], cwd=folder, stdout=out, check=True)
+        with open(measure) as f:
+            status, seconds, memory = f.read().split()
         out.seek(0)
         printed = out.read()
-    return (seconds, usage.ru_maxrss / 1024, printed) if child.returncode == 0 else None
+    return (float(seconds), int(memory) / 1024, printed) if status == "0" else None
 
 
 TIMED = """
