@@ -1,0 +1,9 @@
+use Rattle.std.proofs.Common.{get_or, ap}
+use Rattle.strided_block.proofs.Sights.{step_clear, step_shown}
+use Rattle.strided_block.proofs.view.View.step.Goals as goal
+
+pub invariant_of-result : goal.invariant_of-result
+invariant_of-result g c = step_clear _ _ _ _ _ c.self.view_is c.self.invariant c.args.axis c.args.from c.args.step c.args.count c.requires.axis c.requires.range _ (ap (λ l. get_or l c.args.axis 0) c.as_slice.ensures.value) _ c.round.ensures _ c.set.ensures _ c.set-2.ensures
+
+pub returns-clause-cells : goal.returns-clause-cells
+returns-clause-cells g c = step_shown _ _ _ _ _ c.self.view_is c.self.invariant c.args.axis c.args.from c.args.step c.args.count c.requires.axis c.requires.range _ (ap (λ l. get_or l c.args.axis 0) c.as_slice.ensures.value) _ c.round.ensures _ c.set.ensures _ c.set-2.ensures
