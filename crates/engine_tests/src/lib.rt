@@ -14,6 +14,8 @@ mod operations;
 #[cfg(test)]
 mod running_lines;
 #[cfg(test)]
+mod steps;
+#[cfg(test)]
 mod times;
 #[cfg(test)]
 mod views;

@@ -1,13 +1,15 @@
 -- Lines along an axis: where their cells lie in row order.
-use Rattle.std.proofs.Common.{◌≡◌, ◌≢◌, ◌<◌, ◌≤◌, ◌+◌, ◌*◌, ℕ, zero, suc, min, List, [], ◌∷◌, length, map, drop, take, get_or, inl, inr, refl, sym, ap, subst, ◌∙◌, arith}
+use Rattle.std.proofs.Common.{◌≡◌, ◌≢◌, ◌<◌, ◌≤◌, ◌+◌, ◌*◌, ◌%◌, ℕ, zero, suc, min, List, [], ◌∷◌, length, map, drop, take, get_or, inl, inr, refl, sym, ap, subst, ◌∙◌, arith}
 use Rattle.std.specs.Prelude.{Option, Some, None, slice_set}
 use Rattle.std.proofs.lemmas.List.{get_or-map, length-map, get_or-set_same, get_or-set_other}
 use Rattle.std.proofs.lemmas.Bool.{cases_lt}
 use Rattle.xr_types.specs.Points.{size, place, IsPoint}
 use Rattle.strided_block.specs.Boxes.{plus, zeros}
 use Rattle.strided_block.specs.Lines.{AreOnes, IsLine, prior, Follows}
-use Rattle.strided_block.specs.Views.{Seen, Window, shown, sight, held, cell_at, wide_window, IsClear, IsFull}
-use Rattle.strided_block.proofs.Boxes.{point_long, fits_long, plus_inside, place_below, one_point, point_at, within, zeros_long}
+use Rattle.strided_block.specs.Steps.{spot, spot_on}
+use Rattle.strided_block.specs.Views.{Seen, Window, shown, stepped_sight, held, cell_at, wide_window, IsClear, IsFull}
+use Rattle.strided_block.proofs.Boxes.{point_long, place_below, one_point, point_at, within, zeros_long}
+use Rattle.strided_block.proofs.Steps.{dot_line}
 use Rattle.strided_block.proofs.Splits.{size_split, at_least}
 use Rattle.strided_block.proofs.Rows.{plus_origin}
 use Rattle.strided_block.proofs.Zipped.{found, same_cell}
@@ -80,9 +82,9 @@ step_is n m part slice whole cs a b c i small =
 
 -- ---- the line of a view
 
-module _ {X : Type 0} (cells : List X) (whole low shape : List ℕ) (v : Seen X) (e : sight cells whole low shape ≡ v) (clear : IsClear cells whole low shape) where
+module _ {X : Type 0} (cells : List X) (start : ℕ) (steps shape : List ℕ) (v : Seen X) (e : stepped_sight cells start steps shape ≡ v) (clear : IsClear cells start steps shape) where
   -- the cell at a place
-  pub view_read : (p : List ℕ) (at : ℕ) (x : X) → place v.whole (plus v.low p) ≡ at → at < length v.slots → shown v p ≡ Some (get_or cells at x)
+  pub view_read : (p : List ℕ) (at : ℕ) (x : X) → spot v.start v.steps p ≡ at → at < length v.slots → shown v p ≡ Some (get_or cells at x)
   view_read p at x is lt =
       let long : length v.slots ≡ length cells = ap (λ u. length u.slots) (sym e) ∙ length-map cells Some in let within : at < length cells = omega arith in
       ap (λ k. get_or v.slots k None) is ∙ ap (λ u. get_or u.slots at None) (sym e) ∙ get_or-map Some cells at x None within
@@ -90,37 +92,30 @@ module _ {X : Type 0} (cells : List X) (whole low shape : List ℕ) (v : Seen X)
   pub view_long : length v.slots ≡ length cells
   view_long = ap (λ u. length u.slots) (sym e) ∙ length-map cells Some
 
-  pub view_small : size whole < 9223372036854775808
-  view_small = omega (arith, clear.full.count, clear.full.small)
-
   module _ (k : ℕ) (some : 0 < get_or v.shape k 0) (line : IsLine v.shape k (get_or v.shape k 0)) where
     now_line : IsLine shape k (get_or v.shape k 0)
     now_line = subst (λ s. IsLine s k (get_or v.shape k 0)) (sym (ap (λ u. u.shape) e)) line
 
-    view_origin : IsPoint shape (zeros shape)
-    view_origin = line_origin shape k (get_or v.shape k 0) now_line some
+    view_shape_axis : k < length shape
+    view_shape_axis = line_axis shape k (get_or v.shape k 0) now_line
 
-    pub view_starts : IsPoint whole (plus low (zeros shape))
-    view_starts = plus_inside whole low shape (zeros shape) clear.fits view_origin
+    pub view_axis : k < length steps
+    view_axis = let a = view_shape_axis in let r = clear.ranks in omega arith
 
-    pub view_axis : k < length whole
-    view_axis = let f = fits_long whole low shape clear.fits in let a = line_axis shape k (get_or v.shape k 0) now_line in omega (arith, f.1)
-
-    module _ (first step : ℕ) (is : first ≡ place whole (plus low (zeros shape))) (steps : step ≡ size (drop (k + 1) whole)) where
-      view_at : (j : ℕ) → place whole (plus low (slice_set (zeros shape) k j)) ≡ first + j * step
+    module _ (first step : ℕ) (is : first ≡ start) (one : step ≡ get_or steps k 0) where
+      view_at : (j : ℕ) → spot start steps (slice_set (zeros shape) k j) ≡ spot_on first step j
       view_at j =
-          let f = fits_long whole low shape clear.fits in let z = zeros_long shape in
-          line_place whole low (zeros shape) k j f.0 (z ∙ f.1) view_axis
-          ∙ ap (λ p. place whole (plus low p) + j * size (drop (k + 1) whole)) (zero_set shape k) ∙ (λ i. sym is i + j * sym steps i)
+          let z = zeros_long shape in let a = view_shape_axis in
+          ap (λ d. (start + d) % 18446744073709551616) (dot_line shape steps k j a view_axis) ∙ (λ i. (sym is i + j * sym one i) % 18446744073709551616)
 
-      pub view_cells : (j : ℕ) → j < get_or v.shape k 0 → place v.whole (plus v.low (slice_set (zeros v.shape) k j)) ≡ first + j * step
-      view_cells j lt = ap (λ u. place u.whole (plus u.low (slice_set (zeros u.shape) k j))) (sym e) ∙ view_at j
+      pub view_cells : (j : ℕ) → j < get_or v.shape k 0 → spot v.start v.steps (slice_set (zeros v.shape) k j) ≡ spot_on first step j
+      view_cells j lt = ap (λ u. spot u.start u.steps (slice_set (zeros u.shape) k j)) (sym e) ∙ view_at j
 
-      pub view_within : (j : ℕ) → j < get_or v.shape k 0 → first + j * step < length v.slots
+      pub view_within : (j : ℕ) → j < get_or v.shape k 0 → spot_on first step j < length v.slots
       view_within j lt =
           let below : j < get_or shape k 0 = subst (λ s. j < get_or s k 0) (sym (ap (λ u. u.shape) e)) lt in
-          let inside : IsPoint whole (plus low (slice_set (zeros shape) k j)) = plus_inside whole low shape (slice_set (zeros shape) k j) clear.fits (set_point shape (zeros shape) k j view_origin below) in
-          let b = place_below whole (plus low (slice_set (zeros shape) k j)) inside in omega (arith, view_at j, clear.full.count, view_long)
+          let there : IsPoint shape (slice_set (zeros shape) k j) = set_point shape (zeros shape) k j (line_origin shape k (get_or v.shape k 0) now_line some) below in
+          subst (λ n. spot_on first step j < n) (sym view_long) (subst (λ n. n < length cells) (view_at j) (clear.inside (slice_set (zeros shape) k j) there))
 
 -- ---- the line of a window
 

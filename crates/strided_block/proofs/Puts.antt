@@ -13,7 +13,7 @@ use Rattle.xr_arrays.specs.Arrays.{IsCell}
 use Rattle.xr_types.specs.Points.{size, place, IsPoint}
 use Rattle.strided_block.specs.Boxes.{plus, zeros, along, IsRow}
 use Rattle.strided_block.specs.Typed.{Box, IsWide, box_of, truth, number_or_zero}
-use Rattle.strided_block.specs.Views.{Stored, Seen, Window, shown, kept, held, cell_at, sight, wide_window, IsWhole, IsFull}
+use Rattle.strided_block.specs.Views.{Stored, Window, kept, held, cell_at, wide_window, IsWhole, IsFull}
 use Rattle.strided_block.proofs.Boxes.{place_below}
 use Rattle.strided_block.proofs.Rows.{laid, laid-length, laid_in, laid_out, plus_origin, row_starts, row_fits, row_full, row_written, row_others}
 
@@ -88,10 +88,6 @@ module _ {X : Type 0} where
   made_kept f cs items ns p long count made i =
       let below = place_below ns p i in let lt : place ns p < length items = omega arith in let in_cells : place ns p < length cs = omega arith in
       let x : X = f (get_or cs (place ns p) None) in get_or-map Some items (place ns p) x None lt ∙ ap Some (made (place ns p) x in_cells)
-
-  -- the view of a block
-  pub seen_kept : (cells : List X) (shape : List ℕ) (v : Seen X) (p : List ℕ) → v ≡ sight cells shape (zeros shape) shape → IsPoint shape p → shown v p ≡ get_or (map Some cells) (place shape p) None
-  seen_kept cells shape v p e i = ap (λ u. shown u p) e ∙ ap (λ q. get_or (map Some cells) (place shape q) None) (plus_origin shape p i)
 
   -- the window of a block
   pub whole_held : (cells : List X) (shape : List ℕ) (w : Window X) (cs : List ℕ) → w.whole ≡ shape → w.slots ≡ map Some cells → held w cs ≡ get_or (map Some cells) (place shape cs) None

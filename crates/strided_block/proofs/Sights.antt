@@ -1,88 +1,204 @@
--- What views and windows of a vector in row order show and hold.
-use Rattle.std.proofs.Common.{◌≡◌, ◌<◌, ◌≤◌, ◌+◌, ◌-◌, ℕ, zero, suc, List, [], ◌∷◌, length, map, get_or, sym, ap, subst, ◌∙◌, arith}
-use Rattle.std.specs.Prelude.{Some, None, slice_set}
-use Rattle.std.proofs.lemmas.List.{get_or-map}
-use Rattle.xr_types.specs.Points.{place, IsPoint}
-use Rattle.strided_block.specs.Boxes.{Fits, plus, zeros, moved}
-use Rattle.strided_block.specs.Views.{Seen, shown, sight, IsClear, IsFull}
-use Rattle.strided_block.proofs.Boxes.{point_long, fits_long, plus_inside, place_below, zeros_fit}
-
-module _ {X : Type 0} (cells : List X) (whole low shape : List ℕ) (w : Seen X) (e : sight cells whole low shape ≡ w) (clear : IsClear cells whole low shape) (ps : List ℕ) (i : IsPoint w.shape ps) where
-  now_point : IsPoint shape ps
-  now_point = subst (λ u. IsPoint u.shape ps) (sym e) i
-
-  pub seen_inside : IsPoint whole (plus low ps)
-  seen_inside = plus_inside whole low shape ps clear.fits now_point
-
-  pub seen_below : (at : ℕ) → at ≡ place whole (plus low ps) → at < length cells
-  seen_below at is = let b = place_below whole (plus low ps) seen_inside in let f = clear.full.count in omega arith
-
-  pub seen_cell : (at : ℕ) (x : X) → at ≡ place whole (plus low ps) → shown w ps ≡ Some (get_or cells at x)
-  seen_cell at x is = ap (λ u. shown u ps) (sym e) ∙ ap (λ k. get_or (map Some cells) k None) (sym is) ∙ get_or-map Some cells at x None (seen_below at is)
-
--- ---- a part along an axis
-
-moved_plus : (ls ps : List ℕ) (k by : ℕ) → k < length ls → k < length ps → plus (slice_set ls k (get_or ls k 0 + by)) ps ≡ plus ls (moved ps k by)
-moved_plus [] ps k by a b = absurd (omega arith)
-moved_plus (l ∷ ls) [] k by a b = absurd (omega arith)
-moved_plus (l ∷ ls) (p ∷ ps) zero by a b = let h : l + by + p ≡ l + (p + by) = omega arith in ap (λ x. x ∷ plus ls ps) h
-moved_plus (l ∷ ls) (p ∷ ps) (suc k) by a b = ap (λ x. (l + p) ∷ x) (moved_plus ls ps k by (omega arith) (omega arith))
-
-cut_fits : (ns ls ss : List ℕ) (k from to : ℕ) → Fits ns ls ss → from ≤ to → to ≤ get_or ss k 0 → Fits ns (slice_set ls k (get_or ls k 0 + from)) (slice_set ss k (to - from))
-cut_fits [] [] [] k from to f a b = tt
-cut_fits [] [] (s ∷ ss) k from to f a b = absurd f
-cut_fits [] (l ∷ ls) ss k from to f a b = absurd f
-cut_fits (n ∷ ns) [] ss k from to f a b = absurd f
-cut_fits (n ∷ ns) (l ∷ ls) [] k from to f a b = absurd f
-cut_fits (n ∷ ns) (l ∷ ls) (s ∷ ss) zero from to f a b = let h = f.0 in (omega arith, f.1)
-cut_fits (n ∷ ns) (l ∷ ls) (s ∷ ss) (suc k) from to f a b = (f.0, cut_fits ns ls ss k from to f.1 a b)
-
-axis_fits : (ns ls ss : List ℕ) (k : ℕ) → Fits ns ls ss → get_or ls k 0 + get_or ss k 0 ≤ get_or ns k 0
-axis_fits [] [] [] k f = omega arith
-axis_fits [] [] (s ∷ ss) k f = absurd f
-axis_fits [] (l ∷ ls) ss k f = absurd f
-axis_fits (n ∷ ns) [] ss k f = absurd f
-axis_fits (n ∷ ns) (l ∷ ls) [] k f = absurd f
-axis_fits (n ∷ ns) (l ∷ ls) (s ∷ ss) zero f = f.0
-axis_fits (n ∷ ns) (l ∷ ls) (s ∷ ss) (suc k) f = axis_fits ns ls ss k f.1
+-- What views show, whose cells are counted in steps.
+use Rattle.std.proofs.Common.{◌≡◌, ◌<◌, ◌≤◌, ◌+◌, ◌-◌, ◌*◌, ◌%◌, ℕ, ℤ, zero, suc, List, [], ◌∷◌, length, map, drop, get_or, insert, refl, sym, ap, subst, ◌∙◌, arith}
+use Rattle.std.specs.Prelude.{Bool, Option, Some, None, slice_set, leb, ◌||◌, bytes_eq}
+use Rattle.std.proofs.Math.Nat.{mod-eq_of_lt}
+use Rattle.std.proofs.lemmas.List.{get_or-map, length-map}
+use Rattle.xr_types.specs.Points.{size, place, IsPoint}
+use Rattle.xr_arrays.specs.Nodes.{IsOrder, without, moved as in_order}
+use Rattle.strided_block.specs.Boxes.{zeros, moved}
+use Rattle.strided_block.specs.Steps.{dot, spot, row_steps, stepped, StepsWithin, IsRound, AreMoved}
+use Rattle.strided_block.specs.Views.{Seen, shown, together, sight, stepped_sight, IsClear, IsFull}
+use Rattle.strided_block.proofs.Boxes.{point_long, place_below}
+use Rattle.strided_block.proofs.Leads.{zeros_place}
+use Rattle.strided_block.proofs.CellLaws.{moved_inside}
+use Rattle.strided_block.proofs.Orders.{order_inside}
+use Rattle.strided_block.proofs.Steps.{round_start, row_place, row_long, dot_moved, step_inside, step_spot, without_inside, dot_without, added_long}
 
 set_long : (xs : List ℕ) (k n : ℕ) → length (slice_set xs k n) ≡ length xs
 set_long xs k n = grind (arith, Rattle.std.proofs.Math.ListN.length-set xs k n)
 
-module _ {X : Type 0} (cells : List X) (whole low shape : List ℕ) (w : Seen X) (e : sight cells whole low shape ≡ w) (clear : IsClear cells whole low shape)
-    (k from to : ℕ) (axis : k < length w.shape) (range : (from ≤ to) × (to ≤ get_or w.shape k 0)) where
-  here : k < length shape
-  here = subst (λ u. k < length u.shape) (sym e) axis
+set_at : (xs : List ℕ) (k n : ℕ) → k < length xs → get_or (slice_set xs k n) k 0 ≡ n
+set_at [] k n lt = absurd (omega arith)
+set_at (x ∷ xs) zero n lt = refl
+set_at (x ∷ xs) (suc k) n lt = set_at xs k n (omega arith)
 
-  last : to ≤ get_or shape k 0
-  last = subst (λ u. to ≤ get_or u.shape k 0) (sym e) range.1
+-- sizes and steps in another order, by what they are made of
+pub same_sizes : (o p s t ss : List ℕ) → ss ≡ map (λ k. get_or s k 0) o → o ≡ p → s ≡ t → ss ≡ map (λ k. get_or t k 0) p
+same_sizes o p s t ss e a b = e ∙ (λ i. map (λ k. get_or (b i) k 0) (a i))
 
-  pub low_axis : k < length low
-  low_axis = let f = fits_long whole low shape clear.fits in let h = here in omega (arith, f.0, f.1)
+pub same_moved : (o p s t ts : List ℕ) → AreMoved o s ts → o ≡ p → s ≡ t → AreMoved p t ts
+same_moved o p s t ts are a b = subst (λ l. AreMoved l t ts) a (subst (λ l. AreMoved o l ts) b are)
 
-  pub whole_axis : k < length whole
-  whole_axis = let f = fits_long whole low shape clear.fits in let h = here in omega (arith, f.0, f.1)
+module _ {X : Type 0} (cells : List X) (start : ℕ) (steps shape : List ℕ) (w : Seen X) (e : stepped_sight cells start steps shape ≡ w) (clear : IsClear cells start steps shape) where
+  shapes : shape ≡ w.shape
+  shapes = ap (λ u. u.shape) e
 
-  -- the part begins within the block
-  pub cut_first : get_or low k 0 + from ≤ get_or whole k 0
-  cut_first = let f = axis_fits whole low shape k clear.fits in let l = last in omega (arith, range.0)
+  pub seen_ranks : length steps ≡ length w.shape
+  seen_ranks = clear.ranks ∙ ap length shapes
 
-  module _ (first : ℕ) (ls ss : List ℕ) (is : first ≡ get_or low k 0) (lows : ls ≡ slice_set low k (first + from)) (sizes : ss ≡ slice_set shape k (to - from)) where
-    lows_now : ls ≡ slice_set low k (get_or low k 0 + from)
-    lows_now = lows ∙ ap (λ f. slice_set low k (f + from)) is
+  pub same_rank : (k : ℕ) → k < length w.shape → k < length steps
+  same_rank k lt = let r = seen_ranks in omega arith
 
-    pub cut_clear : IsClear cells whole ls ss
-    cut_clear = record { full = clear.full; fits = subst (λ l. Fits whole l ss) (sym lows_now) (subst (λ s. Fits whole (slice_set low k (get_or low k 0 + from)) s) (sym sizes) (cut_fits whole low shape k from to clear.fits range.0 last)) }
+  module _ (ps : List ℕ) (i : IsPoint w.shape ps) where
+    now_point : IsPoint shape ps
+    now_point = subst (λ s. IsPoint s ps) (sym shapes) i
 
-    pub cut_shown : (ps : List ℕ) → IsPoint ss ps → shown (sight cells whole ls ss) ps ≡ shown w (moved ps k from)
-    cut_shown ps i =
-        let l = point_long ss ps i in let s : length ss ≡ length shape = ap length sizes ∙ set_long shape k (to - from) in let h = here in let g = low_axis in
-        let same : plus ls ps ≡ plus low (moved ps k from) = ap (λ x. plus x ps) lows_now ∙ moved_plus low ps k from g (omega arith) in
-        ap (λ cs. get_or (map Some cells) (place whole cs) None) same ∙ ap (λ u. shown u (moved ps k from)) e
+    pub seen_long : length ps ≤ length steps
+    seen_long = let l = point_long shape ps now_point in let r = clear.ranks in omega arith
+
+    pub seen_below : (at : ℕ) → at ≡ spot start steps ps → at < length cells
+    seen_below at is = subst (λ k. k < length cells) (sym is) (clear.inside ps now_point)
+
+    pub seen_cell : (at : ℕ) (x : X) → at ≡ spot start steps ps → shown w ps ≡ Some (get_or cells at x)
+    seen_cell at x is = ap (λ u. shown u ps) (sym e) ∙ ap (λ k. get_or (map Some cells) k None) (sym is) ∙ get_or-map Some cells at x None (seen_below at is)
+
+  -- a view whose points show what the view shows at other points
+  module _ (start2 : ℕ) (steps2 shape2 : List ℕ) (f : List ℕ → List ℕ) (ranks : length steps2 ≡ length shape2) (inside : (ps : List ℕ) → IsPoint shape2 ps → IsPoint shape (f ps))
+      (same : (ps : List ℕ) → IsPoint shape2 ps → spot start2 steps2 ps ≡ spot start steps (f ps)) where
+    read_clear : IsClear cells start2 steps2 shape2
+    read_clear = record { small = clear.small; ranks = ranks; inside = λ ps i. subst (λ k. k < length cells) (sym (same ps i)) (clear.inside (f ps) (inside ps i)) }
+
+    read_shown : (ps : List ℕ) → IsPoint shape2 ps → shown (stepped_sight cells start2 steps2 shape2) ps ≡ shown w (f ps)
+    read_shown ps i = ap (λ k. get_or (map Some cells) k None) (same ps i) ∙ ap (λ u. shown u (f ps)) e
+
+  pub together_is : (st own : List ℕ) (k : ℕ) → st ≡ steps → own ≡ row_steps shape → leb (length own) k || bytes_eq (drop k st) (drop k own) ≡ together w k
+  together_is st own k is_st is_own =
+      (λ i. leb (length (is_own i)) k || bytes_eq (drop k (is_st i)) (drop k (is_own i)))
+      ∙ ap (λ n. leb n k || bytes_eq (drop k steps) (drop k (row_steps shape))) (row_long shape) ∙ ap (λ u. together u k) e
+
+  -- ---- a part along an axis
+
+  module _ (k from to : ℕ) (axis : k < length w.shape) (range : (from ≤ to) × (to ≤ get_or w.shape k 0)) (step : ℕ) (is : step ≡ get_or steps k 0) (ss : List ℕ) (sizes : ss ≡ slice_set shape k (to - from)) where
+    abbrev pub cut_start : ℕ
+    cut_start = (start + (from * step) % 18446744073709551616) % 18446744073709551616
+
+    cut_ranks : length steps ≡ length ss
+    cut_ranks = clear.ranks ∙ sym (ap length sizes ∙ set_long shape k (to - from))
+
+    cut_inside : (ps : List ℕ) → IsPoint ss ps → IsPoint shape (moved ps k from)
+    cut_inside ps i = moved_inside shape ps k from to range.0 (subst (λ s. to ≤ get_or s k 0) (sym shapes) range.1) (subst (λ s. IsPoint s ps) sizes i)
+
+    cut_same : (ps : List ℕ) → IsPoint ss ps → spot cut_start steps ps ≡ spot start steps (moved ps k from)
+    cut_same ps i =
+        let l = point_long ss ps i in let r = cut_ranks in let here = same_rank k axis in
+        round_start start (from * step) (dot ps steps) 18446744073709551616
+        ∙ ap (λ n. (start + n) % 18446744073709551616) (ap (λ t. from * t + dot ps steps) is ∙ sym (dot_moved ps steps k from (omega arith) here))
+
+    pub cut_clear : IsClear cells cut_start steps ss
+    cut_clear = read_clear cut_start steps ss (λ ps. moved ps k from) cut_ranks cut_inside cut_same
+
+    pub cut_shown : (ps : List ℕ) → IsPoint ss ps → shown (stepped_sight cells cut_start steps ss) ps ≡ shown w (moved ps k from)
+    cut_shown = read_shown cut_start steps ss (λ ps. moved ps k from) cut_ranks cut_inside cut_same
+
+  -- ---- every so many positions
+
+  module _ (k from : ℕ) (step : ℤ) (count : ℕ) (axis : k < length w.shape) (range : StepsWithin (get_or w.shape k 0) from step count) (old : ℕ) (is : old ≡ get_or steps k 0) (n : ℕ) (round : IsRound step n)
+      (ts : List ℕ) (news : ts ≡ slice_set steps k ((old * n) % 18446744073709551616)) (ss : List ℕ) (sizes : ss ≡ slice_set shape k count) where
+    abbrev pub step_start : ℕ
+    step_start = (start + (from * old) % 18446744073709551616) % 18446744073709551616
+
+    here : k < length shape
+    here = subst (λ s. k < length s) (sym shapes) axis
+
+    within : StepsWithin (get_or shape k 0) from step count
+    within = subst (λ s. StepsWithin (get_or s k 0) from step count) (sym shapes) range
+
+    step_ranks : length ts ≡ length ss
+    step_ranks = ap length news ∙ set_long steps k ((old * n) % 18446744073709551616) ∙ clear.ranks ∙ sym (ap length sizes ∙ set_long shape k count)
+
+    abbrev step_point : List ℕ → List ℕ
+    step_point ps = slice_set ps k (stepped from step (get_or ps k 0))
+
+    now_sized : (ps : List ℕ) → IsPoint ss ps → IsPoint (slice_set shape k count) ps
+    now_sized ps i = subst (λ s. IsPoint s ps) sizes i
+
+    step_points : (ps : List ℕ) → IsPoint ss ps → IsPoint shape (step_point ps)
+    step_points ps i = step_inside shape ps k from step count here within (now_sized ps i)
+
+    step_same : (ps : List ℕ) → IsPoint ss ps → spot step_start ts ps ≡ spot start steps (step_point ps)
+    step_same ps i =
+        let m : ℕ = 18446744073709551616 in
+        let l = point_long (slice_set shape k count) ps (now_sized ps i) in let sl = set_long shape k count in let h = here in let r = clear.ranks in
+        let below : get_or ps k 0 < count = let b = Rattle.strided_block.proofs.Boxes.point_at (slice_set shape k count) ps k (now_sized ps i) (omega arith) in let s = set_at shape k count h in omega arith in
+        (λ j. ((start + (from * is j) % m) % m + dot ps (news j)) % m)
+        ∙ ap (λ x. ((start + (from * get_or steps k 0) % m) % m + dot ps (slice_set steps k ((x * n) % m))) % m) is
+        ∙ step_spot ps steps k start from n count (get_or shape k 0) step (omega arith) (omega arith) round within below
+
+    pub step_clear : IsClear cells step_start ts ss
+    step_clear = read_clear step_start ts ss step_point step_ranks step_points step_same
+
+    pub step_shown : (ps : List ℕ) → IsPoint ss ps → shown (stepped_sight cells step_start ts ss) ps ≡ shown w (slice_set ps k (stepped from step (get_or ps k 0)))
+    step_shown = read_shown step_start ts ss step_point step_ranks step_points step_same
+
+  -- ---- axes in another order
+
+  module _ (order : List ℕ) (each : IsOrder (length w.shape) order) (ss : List ℕ) (sizes : ss ≡ map (λ k. get_or shape k 0) order) (ts : List ℕ) (are : AreMoved order steps ts) where
+    now_each : IsOrder (length shape) order
+    now_each = subst (λ s. IsOrder (length s) order) (sym shapes) each
+
+    pub step_order : IsOrder (length steps) order
+    step_order = subst (λ n. IsOrder n order) (sym clear.ranks) now_each
+
+    order_long : length ss ≡ length order
+    order_long = ap length sizes ∙ length-map order (λ k. get_or shape k 0)
+
+    order_ranks : length ts ≡ length ss
+    order_ranks = are.long ∙ sym order_long
+
+    order_points : (ps : List ℕ) → IsPoint ss ps → IsPoint shape (in_order order ps)
+    order_points ps i = order_inside shape order ps now_each (subst (λ s. IsPoint s ps) sizes i)
+
+    order_same : (ps : List ℕ) → IsPoint ss ps → spot start ts ps ≡ spot start steps (in_order order ps)
+    order_same ps i = are.sums start ps (sym (point_long ss ps i) ∙ order_long)
+
+    pub order_clear : IsClear cells start ts ss
+    order_clear = read_clear start ts ss (in_order order) order_ranks order_points order_same
+
+    pub order_shown : (ps : List ℕ) → IsPoint ss ps → shown (stepped_sight cells start ts ss) ps ≡ shown w (in_order order ps)
+    order_shown = read_shown start ts ss (in_order order) order_ranks order_points order_same
+
+  -- ---- an axis more
+
+  module _ (k n : ℕ) (axis : k ≤ length w.shape) (ss ts : List ℕ) (sizes : ss ≡ insert shape k n) (news : ts ≡ insert steps k 0) where
+    before : k ≤ length shape
+    before = subst (λ s. k ≤ length s) (sym shapes) axis
+
+    before_steps : k ≤ length steps
+    before_steps = let b = before in let r = clear.ranks in omega arith
+
+    wide_ranks : length ts ≡ length ss
+    wide_ranks = ap length news ∙ added_long steps k 0 before_steps ∙ ap suc clear.ranks ∙ sym (ap length sizes ∙ added_long shape k n before)
+
+    wide_points : (ps : List ℕ) → IsPoint ss ps → IsPoint shape (without k ps)
+    wide_points ps i = without_inside shape ps k n before (subst (λ s. IsPoint s ps) sizes i)
+
+    wide_same : (ps : List ℕ) → IsPoint ss ps → spot start ts ps ≡ spot start steps (without k ps)
+    wide_same ps i = ap (λ t. (start + dot ps t) % 18446744073709551616) news ∙ ap (λ d. (start + d) % 18446744073709551616) (dot_without ps steps k before_steps)
+
+    pub wide_clear : IsClear cells start ts ss
+    wide_clear = read_clear start ts ss (without k) wide_ranks wide_points wide_same
+
+    pub wide_shown : (ps : List ℕ) → IsPoint ss ps → shown (stepped_sight cells start ts ss) ps ≡ shown w (without k ps)
+    wide_shown = read_shown start ts ss (without k) wide_ranks wide_points wide_same
 
 -- ---- a whole block
 
-pub block_clear : {X : Type 0} (cells : List X) (shape : List ℕ) → IsFull shape cells → (seen : List X) (whole low sizes : List ℕ) → seen ≡ cells → whole ≡ shape → low ≡ zeros shape → sizes ≡ shape → IsClear seen whole low sizes
-block_clear cells shape full seen whole low sizes a b c d =
-    let first : IsClear cells shape (zeros shape) shape = record { full = full; fits = zeros_fit shape } in
-    subst (λ s. IsClear seen whole low s) (sym d) (subst (λ l. IsClear seen whole l shape) (sym c) (subst (λ n. IsClear seen n (zeros shape) shape) (sym b) (subst (λ x. IsClear x shape (zeros shape) shape) (sym a) first)))
+module _ {X : Type 0} (cells : List X) (shape : List ℕ) (full : IsFull shape cells) where
+  -- a point's cell in row order
+  pub row_spot : (ps : List ℕ) → IsPoint shape ps → spot 0 (row_steps shape) ps ≡ place shape ps
+  row_spot ps i =
+      let b = place_below shape ps i in let c = full.count in let s = full.small in
+      row_place shape ps 0 ∙ mod-eq_of_lt {n = 0 + place shape ps} {m = 18446744073709551616} (omega arith) ∙ (let z : 0 + place shape ps ≡ place shape ps = omega arith in z)
+
+  first_clear : IsClear cells 0 (row_steps shape) shape
+  first_clear = record { small = full.small; ranks = row_long shape; inside = λ ps i. let b = place_below shape ps i in let c = full.count in let r = row_spot ps i in omega arith }
+
+  module _ (seen : List X) (steps sizes : List ℕ) (a : seen ≡ cells) (b : steps ≡ row_steps shape) (c : sizes ≡ shape) where
+    pub block_clear : IsClear seen 0 steps sizes
+    block_clear = subst (λ x. IsClear x 0 steps sizes) (sym a) (subst (λ t. IsClear cells 0 t sizes) (sym b) (subst (λ s. IsClear cells 0 (row_steps shape) s) (sym c) first_clear))
+
+    pub block_sight : stepped_sight seen 0 steps sizes ≡ sight cells shape (zeros shape) shape
+    block_sight = let z = zeros_place shape in λ i. stepped_sight (a i) (sym z i) (b i) (c i)
+
+    pub block_shown : (ps : List ℕ) → IsPoint shape ps → shown (stepped_sight seen 0 steps sizes) ps ≡ get_or (map Some cells) (place shape ps) None
+    block_shown ps i = (λ j. get_or (map Some (a j)) (spot 0 (b j) ps) None) ∙ ap (λ k. get_or (map Some cells) k None) (row_spot ps i)

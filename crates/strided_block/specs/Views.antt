@@ -1,18 +1,19 @@
 -- Blocks, views and windows: finite maps from points to cells. Contracts speak of them by `shown`, `together`, `held`, `cell_at` and the facts below, and by their sizes.
-use Rattle.std.specs.Prelude.{◌≡◌, ◌+◌, ◌<◌, ◌^◌, ℕ, Bool, List, map, drop, length, get_or, Option, Some, None, bytes_eq, leb, ◌||◌}
+use Rattle.std.specs.Prelude.{◌≡◌, ◌<◌, ◌^◌, ℕ, Bool, List, map, drop, length, get_or, Option, Some, None, bytes_eq, leb, ◌||◌}
 use Rattle.xr_types.specs.Points.{size, place, IsPoint}
 use Rattle.strided_block.specs.Boxes.{Fits, plus, zeros}
+use Rattle.strided_block.specs.Steps.{spot, row_steps}
 
 -- a block: its sizes and its cells in row order
 pub record Stored (X : Type 0) : Type 0 where
   pub shape : List ℕ
   pub cells : List X
 
--- a view: its sizes, and of the block that it shows the sizes, the cells in row order and the point where the view's box begins
+-- a view: its sizes, the place of its first cell, how many places on the next cell lies along each axis, and the block's cells in row order
 pub record Seen (X : Type 0) : Type 0 where
   pub shape : List ℕ
-  pub whole : List ℕ
-  pub low : List ℕ
+  pub start : ℕ
+  pub steps : List ℕ
   pub slots : List (Option X)
 
 -- a window: the sizes of its block, where its box begins there, the sizes of the box, and the block's cells in row order, None at those that it does not have
@@ -25,11 +26,11 @@ pub record Window (X : Type 0) : Type 0 where
 module _ {X : Type 0} where
   -- what a view shows at a point
   abbrev pub shown : Seen X → List ℕ → Option X
-  shown v ps = get_or v.slots (place v.whole (plus v.low ps)) None
+  shown v ps = get_or v.slots (spot v.start v.steps ps) None
 
   -- the cells of the points that agree before this axis lie side by side, in row order
   abbrev pub together : Seen X → ℕ → Bool
-  together v axis = leb (length v.shape) axis || bytes_eq (drop (axis + 1) v.shape) (drop (axis + 1) v.whole)
+  together v axis = leb (length v.shape) axis || bytes_eq (drop axis v.steps) (drop axis (row_steps v.shape))
 
   -- what a block holds at a point
   abbrev pub kept : Stored X → List ℕ → Option X
@@ -59,9 +60,13 @@ module _ {X : Type 0} where
     pub low : w.low ≡ zeros w.whole
     pub shape : w.shape ≡ w.whole
 
+  -- the view of a block's cells that begins at a place and goes by these steps
+  abbrev pub stepped_sight : List X → ℕ → List ℕ → List ℕ → Seen X
+  stepped_sight cells start steps shape = record { shape = shape; start = start; steps = steps; slots = map Some cells }
+
   -- the view of a box in a block
   abbrev pub sight : List X → List ℕ → List ℕ → List ℕ → Seen X
-  sight cells whole low shape = record { shape = shape; whole = whole; low = low; slots = map Some cells }
+  sight cells whole low shape = stepped_sight cells (place whole low) (row_steps whole) shape
 
   -- the window of a whole block
   abbrev pub wide_window : List X → List ℕ → Window X
@@ -72,7 +77,8 @@ module _ {X : Type 0} where
     pub count : length cells ≡ size shape
     pub small : length cells < 2 ^ 63
 
-  -- a box in a block that has a cell for each point
-  pub record IsClear (cells : List X) (whole low shape : List ℕ) : Type 0 where
-    pub full : IsFull whole cells
-    pub fits : Fits whole low shape
+  -- a view has a step along each axis, and each of its points has a cell
+  pub record IsClear (cells : List X) (start : ℕ) (steps shape : List ℕ) : Type 0 where
+    pub small : length cells < 2 ^ 63
+    pub ranks : length steps ≡ length shape
+    pub inside : (ps : List ℕ) → IsPoint shape ps → spot start steps ps < length cells

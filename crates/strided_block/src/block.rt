@@ -2,10 +2,10 @@
 ghost use Rattle.std.specs.Prelude.{◌≡◌, ◌<◌, ℕ, pos, List, Option, Some, None, length, get_or, replicate, IfOk};
 ghost use Rattle.xr_types.specs.Points.{size, place, IsPoint};
 ghost use Rattle.strided_block.specs.Typed.{number_or_zero, mask_byte};
-ghost use Rattle.strided_block.specs.Views.{kept, sight};
+ghost use Rattle.strided_block.specs.Views.{kept, shown, sight};
 ghost use Rattle.strided_block.specs.Boxes.{zeros};
 
-use crate::place::{count, origin, twin};
+use crate::place::{count, steps_of, twin};
 use crate::row::{put_bytes, put_numbers};
 use crate::view::View;
 use std::alloc::Global;
@@ -132,13 +132,14 @@ impl<T: Elem + Drop> Block<T> {
 
     /// The cells of the block.
     pub fn view(&self) -> View<'_, T>
-        ensures { result ≡ sight self.now.cells self.now.shape (zeros self.now.shape) self.now.shape }
+        ensures value { result ≡ sight self.now.cells self.now.shape (zeros self.now.shape) self.now.shape }
+        ensures cells { (p : List ℕ) → IsPoint self.now.shape p → shown result p ≡ kept self.now p }
     {
         View {
             cells: self.cells.as_slice(),
-            whole: twin(&self.shape),
-            low: origin(&self.shape),
+            start: 0,
             shape: twin(&self.shape),
+            steps: steps_of(&self.shape),
         }
     }
 }

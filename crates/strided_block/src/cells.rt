@@ -123,8 +123,10 @@ impl CellBlock {
 }
 
 impl<'a> CellView<'a> {
-    ghost use Rattle.std.specs.Prelude.{◌≡◌, ◌-◌, ◌≤◌, ◌<◌, ℕ, List, length, get_or, slice_set};
+    ghost use Rattle.std.specs.Prelude.{◌≡◌, ◌-◌, ◌≤◌, ◌<◌, ℕ, List, length, get_or, map, insert, slice_set};
     ghost use Rattle.xr_types.specs.Points.{IsPoint};
+    ghost use Rattle.xr_arrays.specs.Nodes.{IsOrder, without, moved as in_order};
+    ghost use Rattle.strided_block.specs.Steps.{stepped, StepsWithin};
     ghost use Rattle.xr_arrays.specs.Arrays.{IsCell};
     ghost use Rattle.strided_block.specs.Boxes.{moved};
     ghost use Rattle.strided_block.specs.Typed.{view_kind};
@@ -175,6 +177,68 @@ impl<'a> CellView<'a> {
         CellView {
             cells: cells.sub(axis, from, to),
             mask: mask.sub(axis, from, to),
+            masked,
+        }
+    }
+
+    /// `count` positions along an axis, `from` and each next one `step` further on. A step below 0 goes back, and one of 0 repeats a position.
+    #[tactic(auto, using(crate::proofs::Steps::step_inside))]
+    pub fn step(self, axis: usize, from: u64, step: i64, count: u64) -> CellView<'a>
+        requires axis { axis < length self.mask.shape }
+        requires range { StepsWithin (get_or self.mask.shape axis 0) from step count }
+        ensures kind { view_kind result.cells ≡ view_kind self.entry.cells }
+        ensures shape { result.mask.shape ≡ slice_set self.entry.mask.shape axis count }
+        ensures cells { (ps : List ℕ) → IsPoint result.mask.shape ps → cell_shown result ps ≡ cell_shown self.entry (slice_set ps axis (stepped from step (get_or ps axis 0))) }
+    {
+        let CellView {
+            cells,
+            mask,
+            masked,
+        } = self;
+        CellView {
+            cells: cells.step(axis, from, step, count),
+            mask: mask.step(axis, from, step, count),
+            masked,
+        }
+    }
+
+    /// The axes in another order: axis number i is the view's axis `order[i]`.
+    #[tactic(auto, using(crate::proofs::Orders::order_inside))]
+    pub fn permute(self, order: &Shape) -> CellView<'a>
+        requires { IsOrder (length self.mask.shape) order.now }
+        ensures kind { view_kind result.cells ≡ view_kind self.entry.cells }
+        ensures shape { result.mask.shape ≡ map (λ k. get_or self.entry.mask.shape k 0) order.now }
+        ensures cells { (ps : List ℕ) → IsPoint result.mask.shape ps → cell_shown result ps ≡ cell_shown self.entry (in_order order.now ps) }
+    {
+        let CellView {
+            cells,
+            mask,
+            masked,
+        } = self;
+        CellView {
+            cells: cells.permute(order),
+            mask: mask.permute(order),
+            masked,
+        }
+    }
+
+    /// One axis more, before `axis`, of `size` positions that all show the same cell.
+    #[tactic(auto, using(crate::proofs::Steps::without_inside))]
+    pub fn widen(self, axis: usize, size: u64) -> CellView<'a>
+        requires axis { axis ≤ length self.mask.shape }
+        requires few { length self.mask.shape < 16 }
+        ensures kind { view_kind result.cells ≡ view_kind self.entry.cells }
+        ensures shape { result.mask.shape ≡ insert self.entry.mask.shape axis size }
+        ensures cells { (ps : List ℕ) → IsPoint result.mask.shape ps → cell_shown result ps ≡ cell_shown self.entry (without axis ps) }
+    {
+        let CellView {
+            cells,
+            mask,
+            masked,
+        } = self;
+        CellView {
+            cells: cells.widen(axis, size),
+            mask: mask.widen(axis, size),
             masked,
         }
     }

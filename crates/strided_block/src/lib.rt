@@ -1,6 +1,7 @@
 //! Blocks of cells, and views and windows of them. A view or window is, to a contract, a finite map from points to cells.
 #![tactic(auto)]
 
+mod axes;
 mod block;
 mod cells;
 mod line;

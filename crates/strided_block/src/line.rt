@@ -3,6 +3,7 @@ ghost use Rattle.std.specs.Prelude.{◌≡◌, ◌+◌, ◌*◌, ◌<◌, ℕ, L
 ghost use Rattle.xr_types.specs.Points.{IsPoint};
 ghost use Rattle.strided_block.specs.Boxes.{plus, zeros};
 ghost use Rattle.strided_block.specs.Lines.{IsLine, prior, Follows};
+ghost use Rattle.strided_block.specs.Steps.{spot_on};
 ghost use Rattle.strided_block.specs.Views.{Cut, shown, held, cell_at};
 
 use crate::view::View;
@@ -14,6 +15,15 @@ use xr_types::{Elem, Shape};
 pub(crate) struct Places {
     pub first: usize,
     pub step: usize,
+}
+
+impl Places {
+    // Where the cell j of a line lies whose step may go back.
+    fn spot(self, j: usize) -> usize
+        ensures { result ≡ spot_on self.first self.step j }
+    {
+        self.first.wrapping_add(j.wrapping_mul(self.step))
+    }
 }
 
 // What f gives of the result before and of two cells.
@@ -45,18 +55,16 @@ fn scan_places<A: Copy + Drop, B: Copy + Drop, T: Copy + Drop, F: Fn(T, A, B) ->
     count: usize,
 )
     requires callable { F.IsAlwaysCallable f.now }
-    requires first { (j : ℕ) → j < count → from_a.first + j * from_a.step < length a.now }
-    requires second { (j : ℕ) → j < count → from_b.first + j * from_b.step < length b.now }
+    requires first { (j : ℕ) → j < count → spot_on from_a.first from_a.step j < length a.now }
+    requires second { (j : ℕ) → j < count → spot_on from_b.first from_b.step j < length b.now }
     requires room { (j : ℕ) → j < count → to.first + j * to.step < length all.old }
     requires apart { 0 < to.step }
-    ensures cells { (j : ℕ) (x : A) (y : B) (z : T) → j < count → F.post f.now (prior start (λ i. get_or all.new (to.first + i * to.step) z) j) (get_or a.now (from_a.first + j * from_a.step) x) (get_or b.now (from_b.first + j * from_b.step) y) (get_or all.new (to.first + j * to.step) z) }
+    ensures cells { (j : ℕ) (x : A) (y : B) (z : T) → j < count → F.post f.now (prior start (λ i. get_or all.new (to.first + i * to.step) z) j) (get_or a.now (spot_on from_a.first from_a.step j) x) (get_or b.now (spot_on from_b.first from_b.step j) y) (get_or all.new (to.first + j * to.step) z) }
     ensures others { (k : ℕ) (z : T) → ((j : ℕ) → j < count → ¬ (k ≡ to.first + j * to.step)) → get_or all.new k z ≡ get_or all.old k z }
 {
     let mut last = start;
     for j in 0..count {
-        let i = from_a.first + j * from_a.step;
-        let k = from_b.first + j * from_b.step;
-        last = next_result(f, last, a, i, b, k);
+        last = next_result(f, last, a, from_a.spot(j), b, from_b.spot(j));
         all[to.first + j * to.step] = last;
     }
 }
@@ -73,12 +81,12 @@ fn scan_vec<A: Copy + Drop, B: Copy + Drop, T: Copy + Drop, F: Fn(T, A, B) -> T>
     count: usize,
 )
     requires callable { F.IsAlwaysCallable f.now }
-    requires first { (j : ℕ) → j < count → from_a.first + j * from_a.step < length a.now }
-    requires second { (j : ℕ) → j < count → from_b.first + j * from_b.step < length b.now }
+    requires first { (j : ℕ) → j < count → spot_on from_a.first from_a.step j < length a.now }
+    requires second { (j : ℕ) → j < count → spot_on from_b.first from_b.step j < length b.now }
     requires room { (j : ℕ) → j < count → to.first + j * to.step < length all.old.items }
     requires apart { 0 < to.step }
     ensures long { length all.new.items ≡ length all.old.items }
-    ensures cells { (j : ℕ) (x : A) (y : B) (z : T) → j < count → F.post f.now (prior start (λ i. get_or all.new.items (to.first + i * to.step) z) j) (get_or a.now (from_a.first + j * from_a.step) x) (get_or b.now (from_b.first + j * from_b.step) y) (get_or all.new.items (to.first + j * to.step) z) }
+    ensures cells { (j : ℕ) (x : A) (y : B) (z : T) → j < count → F.post f.now (prior start (λ i. get_or all.new.items (to.first + i * to.step) z) j) (get_or a.now (spot_on from_a.first from_a.step j) x) (get_or b.now (spot_on from_b.first from_b.step j) y) (get_or all.new.items (to.first + j * to.step) z) }
     ensures others { (k : ℕ) (z : T) → ((j : ℕ) → j < count → ¬ (k ≡ to.first + j * to.step)) → get_or all.new.items k z ≡ get_or all.old.items k z }
 {
     scan_places(

@@ -1,7 +1,8 @@
 //! Counts of cells, and where the cells of points lie.
-ghost use Rattle.std.specs.Prelude.{◌≡◌, ◌-◌, ◌^◌, ◌<◌, ◌≤◌, [], min, length, get_or, IfOk};
+ghost use Rattle.std.specs.Prelude.{◌≡◌, ◌-◌, ◌%◌, ◌^◌, ◌<◌, ◌≤◌, [], min, length, get_or, IfOk};
 ghost use Rattle.xr_types.specs.Points.{size, place, IsPoint};
-ghost use Rattle.strided_block.specs.Boxes.{plus, zeros};
+ghost use Rattle.strided_block.specs.Boxes.{plus};
+ghost use Rattle.strided_block.specs.Steps.{spot, row_steps};
 
 use xr_types::{NoMemory, Shape};
 
@@ -35,15 +36,38 @@ pub(crate) fn twin(shape: &Shape) -> Shape
     Shape::from_slice(shape.as_slice())
 }
 
-/// The first point of a block.
-pub(crate) fn origin(shape: &Shape) -> Shape
-    ensures { result ≡ zeros shape.now }
+/// How many points there are, counted round 2^64.
+fn rounded(shape: &[u64]) -> u64
+    ensures { result ≡ size shape.now % 2 ^ 64 }
 {
-    let mut point = Shape::new();
-    for _size in shape.as_slice() {
-        point.push(0);
+    match shape {
+        [] => 1,
+        [n, rest @ ..] => n.wrapping_mul(rounded(rest)),
     }
-    point
+}
+
+/// The steps of cells that lie in row order.
+pub(crate) fn steps_of(shape: &Shape) -> Shape
+    ensures { result ≡ row_steps shape.now }
+{
+    let sizes = shape.as_slice();
+    let mut steps = Shape::new();
+    for axis in 0..sizes.len() {
+        steps.push(rounded(sizes.split_at(axis + 1).1));
+    }
+    steps
+}
+
+/// Where the cell of a point lies, in steps from a first one.
+pub(crate) fn spot_of(start: u64, steps: &[u64], point: &[u64]) -> u64
+    requires { length point.now ≤ length steps.now }
+    ensures { result ≡ spot start steps.now point.now }
+{
+    let mut at = start;
+    for axis in 0..point.len() {
+        at = at.wrapping_add(point[axis].wrapping_mul(steps[axis]));
+    }
+    at
 }
 
 /// One position of a point of a box that begins at `low`.
@@ -70,15 +94,6 @@ fn place_in(whole: &[u64], low: &[u64], point: &[u64]) -> usize
         at = at * whole[axis] + position(low, point, axis);
     }
     at as usize
-}
-
-/// The place in row order of a point of a box that begins at `low`.
-pub(crate) fn place_of(whole: &Shape, low: &Shape, point: &Shape) -> usize
-    requires inside { IsPoint whole.now (plus low.now point.now) }
-    requires small { size whole.now < 2 ^ 63 }
-    ensures { result ≡ place whole.now (plus low.now point.now) }
-{
-    place_in(whole.as_slice(), low.as_slice(), point.as_slice())
 }
 
 /// The place in row order of a point of a block.

@@ -142,8 +142,10 @@ impl TypedBlock {
 }
 
 impl<'a> TypedView<'a> {
-    ghost use Rattle.std.specs.Prelude.{◌≡◌, ◌-◌, ◌<◌, ◌≤◌, ℕ, List, Some, length, get_or, slice_set};
+    ghost use Rattle.std.specs.Prelude.{◌≡◌, ◌-◌, ◌<◌, ◌≤◌, ℕ, List, Some, length, get_or, map, insert, slice_set};
+    ghost use Rattle.xr_arrays.specs.Nodes.{IsOrder, without, moved as in_order};
     ghost use Rattle.strided_block.specs.Boxes.{moved};
+    ghost use Rattle.strided_block.specs.Steps.{stepped, StepsWithin};
     ghost use Rattle.xr_types.specs.Kinds.{InRange};
     ghost use Rattle.xr_types.specs.Points.{IsPoint};
     ghost use Rattle.strided_block.specs.Typed.{view_kind, view_shape, number_shown};
@@ -205,6 +207,71 @@ impl<'a> TypedView<'a> {
             TypedView::UInt16(v) => TypedView::UInt16(v.sub(axis, from, to)),
             TypedView::UInt32(v) => TypedView::UInt32(v.sub(axis, from, to)),
             TypedView::UInt64(v) => TypedView::UInt64(v.sub(axis, from, to)),
+        }
+    }
+
+    /// `count` positions along an axis, `from` and each next one `step` further on. A step below 0 goes back, and one of 0 repeats a position.
+    pub fn step(self, axis: usize, from: u64, step: i64, count: u64) -> TypedView<'a>
+        requires axis { axis < length (view_shape self) }
+        requires range { StepsWithin (get_or (view_shape self) axis 0) from step count }
+        ensures kind { view_kind result ≡ view_kind self.entry }
+        ensures shape { view_shape result ≡ slice_set (view_shape self.entry) axis count }
+        ensures cells { (ps : List ℕ) → IsPoint (view_shape result) ps → number_shown result ps ≡ number_shown self.entry (slice_set ps axis (stepped from step (get_or ps axis 0))) }
+    {
+        match self {
+            TypedView::Bool(v) => TypedView::Bool(v.step(axis, from, step, count)),
+            TypedView::Char(v) => TypedView::Char(v.step(axis, from, step, count)),
+            TypedView::Int8(v) => TypedView::Int8(v.step(axis, from, step, count)),
+            TypedView::Int16(v) => TypedView::Int16(v.step(axis, from, step, count)),
+            TypedView::Int32(v) => TypedView::Int32(v.step(axis, from, step, count)),
+            TypedView::Int64(v) => TypedView::Int64(v.step(axis, from, step, count)),
+            TypedView::UInt8(v) => TypedView::UInt8(v.step(axis, from, step, count)),
+            TypedView::UInt16(v) => TypedView::UInt16(v.step(axis, from, step, count)),
+            TypedView::UInt32(v) => TypedView::UInt32(v.step(axis, from, step, count)),
+            TypedView::UInt64(v) => TypedView::UInt64(v.step(axis, from, step, count)),
+        }
+    }
+
+    /// The axes in another order: axis number i is the view's axis `order[i]`.
+    pub fn permute(self, order: &Shape) -> TypedView<'a>
+        requires { IsOrder (length (view_shape self)) order.now }
+        ensures kind { view_kind result ≡ view_kind self.entry }
+        ensures shape { view_shape result ≡ map (λ k. get_or (view_shape self.entry) k 0) order.now }
+        ensures cells { (ps : List ℕ) → IsPoint (view_shape result) ps → number_shown result ps ≡ number_shown self.entry (in_order order.now ps) }
+    {
+        match self {
+            TypedView::Bool(v) => TypedView::Bool(v.permute(order)),
+            TypedView::Char(v) => TypedView::Char(v.permute(order)),
+            TypedView::Int8(v) => TypedView::Int8(v.permute(order)),
+            TypedView::Int16(v) => TypedView::Int16(v.permute(order)),
+            TypedView::Int32(v) => TypedView::Int32(v.permute(order)),
+            TypedView::Int64(v) => TypedView::Int64(v.permute(order)),
+            TypedView::UInt8(v) => TypedView::UInt8(v.permute(order)),
+            TypedView::UInt16(v) => TypedView::UInt16(v.permute(order)),
+            TypedView::UInt32(v) => TypedView::UInt32(v.permute(order)),
+            TypedView::UInt64(v) => TypedView::UInt64(v.permute(order)),
+        }
+    }
+
+    /// One axis more, before `axis`, of `size` positions that all show the same cell.
+    pub fn widen(self, axis: usize, size: u64) -> TypedView<'a>
+        requires axis { axis ≤ length (view_shape self) }
+        requires few { length (view_shape self) < 16 }
+        ensures kind { view_kind result ≡ view_kind self.entry }
+        ensures shape { view_shape result ≡ insert (view_shape self.entry) axis size }
+        ensures cells { (ps : List ℕ) → IsPoint (view_shape result) ps → number_shown result ps ≡ number_shown self.entry (without axis ps) }
+    {
+        match self {
+            TypedView::Bool(v) => TypedView::Bool(v.widen(axis, size)),
+            TypedView::Char(v) => TypedView::Char(v.widen(axis, size)),
+            TypedView::Int8(v) => TypedView::Int8(v.widen(axis, size)),
+            TypedView::Int16(v) => TypedView::Int16(v.widen(axis, size)),
+            TypedView::Int32(v) => TypedView::Int32(v.widen(axis, size)),
+            TypedView::Int64(v) => TypedView::Int64(v.widen(axis, size)),
+            TypedView::UInt8(v) => TypedView::UInt8(v.widen(axis, size)),
+            TypedView::UInt16(v) => TypedView::UInt16(v.widen(axis, size)),
+            TypedView::UInt32(v) => TypedView::UInt32(v.widen(axis, size)),
+            TypedView::UInt64(v) => TypedView::UInt64(v.widen(axis, size)),
         }
     }
 }

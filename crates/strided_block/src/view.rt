@@ -1,22 +1,25 @@
 //! Views of cells.
-ghost use Rattle.std.specs.Prelude.{◌≡◌, ◌-◌, ◌+◌, ◌*◌, ◌<◌, ◌≤◌, ◌++◌, ◌||◌, ℕ, List, Some, true, leb, bytes_eq, length, get_or, take, drop, slice_set};
+ghost use Rattle.std.specs.Prelude.{◌≡◌, ◌-◌, ◌+◌, ◌<◌, ◌≤◌, ◌++◌, ◌||◌, ℕ, List, Some, true, leb, bytes_eq, length, get_or, take, drop, map, insert, slice_set};
 ghost use Rattle.xr_types.specs.Points.{size, place, IsPoint};
-ghost use Rattle.strided_block.specs.Boxes.{moved, plus, zeros};
+ghost use Rattle.xr_arrays.specs.Nodes.{IsOrder, without, moved as in_order};
+ghost use Rattle.strided_block.specs.Boxes.{moved, zeros};
 ghost use Rattle.strided_block.specs.Lines.{IsLine};
+ghost use Rattle.strided_block.specs.Steps.{spot, spot_on, stepped, StepsWithin};
 ghost use Rattle.strided_block.specs.Views.{shown, together};
 
+use crate::axes::{added, moved_sizes, moved_steps, round};
 use crate::line::Places;
-use crate::place::{origin, place_of, points};
+use crate::place::{points, spot_of, steps_of};
 use std::marker::Model;
 use xr_types::{Elem, Shape};
 
-// Whether two lists of sizes agree behind an axis.
-fn agree_behind(axis: usize, a: &[u64], b: &[u64]) -> bool
+// Whether two lists of numbers agree from an axis on.
+fn agree_from(axis: usize, a: &[u64], b: &[u64]) -> bool
     requires { length b.now ≡ length a.now }
-    ensures { result ≡ leb (length a.now) axis || bytes_eq (drop (axis + 1) a.now) (drop (axis + 1) b.now) }
+    ensures { result ≡ leb (length b.now) axis || bytes_eq (drop axis a.now) (drop axis b.now) }
 {
-    if axis < a.len() {
-        a.split_at(axis + 1).1 == b.split_at(axis + 1).1
+    if axis < b.len() {
+        a.split_at(axis).1 == b.split_at(axis).1
     } else {
         true
     }
@@ -38,23 +41,24 @@ fn part<T>(cells: &[T], at: usize, count: usize) -> &[T]
     &cells[at..at + count]
 }
 
-/// A lent view of the cells of a box in a block.
+/// A lent view of cells of a block: a first cell, sizes, and along each axis a step from one cell to the next. A step may be 0, which repeats a cell, or go back.
 #[derive(Drop)]
 pub struct View<'a, T> {
     pub(crate) cells: &'a [T],
-    pub(crate) whole: Shape,
-    pub(crate) low: Shape,
+    pub(crate) start: u64,
     pub(crate) shape: Shape,
+    // steps back are counted round 2^64
+    pub(crate) steps: Shape,
 }
 
 impl<'a, T> Model for View<'a, T> {
-    ghost use Rattle.strided_block.specs.Views.{Seen, sight, IsClear};
+    ghost use Rattle.strided_block.specs.Views.{Seen, stepped_sight, IsClear};
 
     ghost Value = { Seen T };
 
-    ghost view = { λ v. sight v.cells.now v.whole v.low v.shape };
+    ghost view = { λ v. stepped_sight v.cells.now v.start v.steps v.shape };
 
-    ghost invariant = { λ v. IsClear v.cells.now v.whole v.low v.shape };
+    ghost invariant = { λ v. IsClear v.cells.now v.start v.steps v.shape };
 }
 
 impl<'a, T: Elem> View<'a, T> {
@@ -70,7 +74,7 @@ impl<'a, T: Elem> View<'a, T> {
         requires { IsPoint self.now.shape point.now }
         ensures { shown self.now point.now ≡ Some result }
     {
-        let at = place_of(&self.whole, &self.low, point);
+        let at = spot_of(self.start, self.steps.as_slice(), point.as_slice()) as usize;
         cell(self.cells, at)
     }
 
@@ -78,7 +82,11 @@ impl<'a, T: Elem> View<'a, T> {
     pub fn lies_together(&self, axis: usize) -> bool
         ensures { result ≡ together self.now axis }
     {
-        agree_behind(axis, self.shape.as_slice(), self.whole.as_slice())
+        agree_from(
+            axis,
+            self.steps.as_slice(),
+            steps_of(&self.shape).as_slice(),
+        )
     }
 
     /// The cells of the points that begin with `lead`, in row order, where they lie side by side.
@@ -92,7 +100,7 @@ impl<'a, T: Elem> View<'a, T> {
         if count == 0 {
             return part(self.cells, 0, 0);
         }
-        let at = place_of(&self.whole, &self.low, lead);
+        let at = spot_of(self.start, self.steps.as_slice(), lead.as_slice()) as usize;
         part(self.cells, at, count as usize)
     }
 
@@ -100,12 +108,13 @@ impl<'a, T: Elem> View<'a, T> {
     pub(crate) fn places(&self, axis: usize) -> Places
         requires some { 0 < get_or self.now.shape axis 0 }
         requires line { IsLine self.now.shape axis (get_or self.now.shape axis 0) }
-        ensures within { (j : ℕ) → j < get_or self.now.shape axis 0 → result.first + j * result.step < length self.now.slots }
-        ensures cells { (j : ℕ) → j < get_or self.now.shape axis 0 → place self.now.whole (plus self.now.low (slice_set (zeros self.now.shape) axis j)) ≡ result.first + j * result.step }
+        ensures within { (j : ℕ) → j < get_or self.now.shape axis 0 → spot_on result.first result.step j < length self.now.slots }
+        ensures cells { (j : ℕ) → j < get_or self.now.shape axis 0 → spot self.now.start self.now.steps (slice_set (zeros self.now.shape) axis j) ≡ spot_on result.first result.step j }
     {
-        let first = place_of(&self.whole, &self.low, &origin(&self.shape));
-        let step = points(self.whole.as_slice().split_at(axis + 1).1) as usize;
-        Places { first, step }
+        Places {
+            first: self.start as usize,
+            step: self.steps.as_slice()[axis] as usize,
+        }
     }
 
     /// The part from `from` up to `to` along an axis.
@@ -117,19 +126,84 @@ impl<'a, T: Elem> View<'a, T> {
     {
         let View {
             cells,
-            whole,
-            mut low,
+            start,
             mut shape,
+            steps,
         } = self;
-        let _size = whole.as_slice()[axis];
-        let first = low.as_slice()[axis];
-        low.set(axis, first + from);
+        let step = steps.as_slice()[axis];
+        let start = start.wrapping_add(from.wrapping_mul(step));
         shape.set(axis, to - from);
         View {
             cells,
-            whole,
-            low,
+            start,
             shape,
+            steps,
+        }
+    }
+
+    /// `count` positions along an axis, `from` and each next one `step` further on. A step below 0 goes back, and one of 0 repeats a position.
+    pub fn step(self, axis: usize, from: u64, step: i64, count: u64) -> View<'a, T>
+        requires axis { axis < length self.shape }
+        requires range { StepsWithin (get_or self.shape axis 0) from step count }
+        ensures shape { result.shape ≡ slice_set self.entry.shape axis count }
+        ensures cells { (ps : List ℕ) → IsPoint result.shape ps → shown result ps ≡ shown self.entry (slice_set ps axis (stepped from step (get_or ps axis 0))) }
+    {
+        let View {
+            cells,
+            start,
+            mut shape,
+            mut steps,
+        } = self;
+        let old = steps.as_slice()[axis];
+        let start = start.wrapping_add(from.wrapping_mul(old));
+        steps.set(axis, old.wrapping_mul(round(step)));
+        shape.set(axis, count);
+        View {
+            cells,
+            start,
+            shape,
+            steps,
+        }
+    }
+
+    /// The axes in another order: axis number i is the view's axis `order[i]`.
+    pub fn permute(self, order: &Shape) -> View<'a, T>
+        requires { IsOrder (length self.shape) order.now }
+        ensures shape { result.shape ≡ map (λ k. get_or self.entry.shape k 0) order.now }
+        ensures cells { (ps : List ℕ) → IsPoint result.shape ps → shown result ps ≡ shown self.entry (in_order order.now ps) }
+    {
+        let View {
+            cells,
+            start,
+            shape,
+            steps,
+        } = self;
+        View {
+            cells,
+            start,
+            shape: moved_sizes(order.as_slice(), shape.as_slice()),
+            steps: moved_steps(order.as_slice(), steps.as_slice()),
+        }
+    }
+
+    /// One axis more, before `axis`, of `size` positions that all show the same cell.
+    pub fn widen(self, axis: usize, size: u64) -> View<'a, T>
+        requires axis { axis ≤ length self.shape }
+        requires few { length self.shape < 16 }
+        ensures shape { result.shape ≡ insert self.entry.shape axis size }
+        ensures cells { (ps : List ℕ) → IsPoint result.shape ps → shown result ps ≡ shown self.entry (without axis ps) }
+    {
+        let View {
+            cells,
+            start,
+            shape,
+            steps,
+        } = self;
+        View {
+            cells,
+            start,
+            shape: added(shape.as_slice(), axis, size),
+            steps: added(steps.as_slice(), axis, 0),
         }
     }
 }

@@ -7,7 +7,7 @@ ghost use Rattle.strided_block.specs.Views.{Cut, KeptOutside, IsWhole, shown, he
 
 use crate::block::Block;
 use crate::line::Places;
-use crate::place::{origin, place_at, points, twin};
+use crate::place::{place_at, points, steps_of, twin};
 use crate::row::{put_bytes, put_numbers};
 use crate::view::View;
 use std::marker::Model;
@@ -140,9 +140,9 @@ impl<T: Elem + Drop> Win<T> {
     {
         View {
             cells: self.cells.as_slice(),
-            whole: twin(&self.shape),
-            low: origin(&self.shape),
+            start: 0,
             shape: twin(&self.shape),
+            steps: steps_of(&self.shape),
         }
     }
 

@@ -1,5 +1,6 @@
 use Rattle.std.proofs.Common.{◌+◌, ◌*◌, ap, arith}
 use Rattle.std.specs.Prelude.{slice_set}
+use Rattle.strided_block.specs.Steps.{spot_on}
 use Rattle.strided_block.specs.Views.{cell_at, wide_window}
 use Rattle.strided_block.proofs.Rows.{whole_cut}
 use Rattle.strided_block.proofs.Lines.{same_below, same_back, line_below, same_line, some_cells, view_long, view_read, line_read, line_others, follows}
@@ -37,7 +38,7 @@ returns-clause-cells g c = λ j lt.
     let new = c.scan_vec.new.all.items in let axis = c.args.axis in
     let in_a = line_below _ _ _ j c.requires.lines.0 lt in let in_b = line_below _ _ _ j c.requires.lines.1 lt in
     let there_a = c.places-from_a.ensures.within j in_a in let there_b = c.places-from_b.ensures.within j in_b in
-    follows _ c.args.start c.a.inside.cells.now c.b.inside.cells.now new (λ i. c.places-from_a.result.first + i * c.places-from_a.result.step) (λ i. c.places-from_b.result.first + i * c.places-from_b.result.step) (λ i. c.places-to.result.first + i * c.places-to.result.step) j
+    follows _ c.args.start c.a.inside.cells.now c.b.inside.cells.now new (spot_on c.places-from_a.result.first c.places-from_a.result.step) (spot_on c.places-from_b.result.first c.places-from_b.result.step) (λ i. c.places-to.result.first + i * c.places-to.result.step) j
     (omega (arith, there_a, view_long _ _ _ _ _ c.a.view_is c.a.invariant)) (omega (arith, there_b, view_long _ _ _ _ _ c.b.view_is c.b.invariant))
     (λ x y z. c.scan_vec.ensures.cells j x y z (same_back c.as_slice.result.now c.out.inside.shape c.args.out.now.shape axis j c.as_slice.ensures.value (ap (λ u. u.shape) c.out.view_is) lt))
     _ _ (λ i. cell_at (wide_window new c.out.inside.shape) (slice_set c.args.at.now axis i))
