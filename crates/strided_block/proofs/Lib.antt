@@ -2,10 +2,12 @@ pub mod Boxes
 pub mod CellLaws
 pub mod Leads
 pub mod Lines
+pub mod Owners
 pub mod Orders
 pub mod Places
 pub mod Puts
 pub mod Rows
+pub mod Sharing
 pub mod Sights
 pub mod Splits
 pub mod Steps

@@ -1,6 +1,9 @@
 pub mod Boxes
 pub mod Cells
+pub mod Lends
 pub mod Lines
+pub mod Memory
+pub mod Parts
 pub mod Steps
 pub mod Typed
 pub mod Views

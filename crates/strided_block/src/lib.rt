@@ -5,6 +5,7 @@ mod axes;
 mod block;
 mod cells;
 mod line;
+mod memory;
 mod place;
 mod row;
 mod typed;
@@ -15,6 +16,8 @@ mod zip;
 pub use block::Block;
 pub use cells::{CellBlock, CellView, CellWin};
 pub use line::scan_line;
+#[doc(hidden)]
+pub use memory::{Base, Cells};
 pub use typed::{TypedBlock, TypedView, TypedWin};
 pub use view::View;
 pub use win::Win;
