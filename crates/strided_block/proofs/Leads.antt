@@ -1,6 +1,6 @@
 -- The points that begin with a lead, and the run of their cells.
 use Rattle.std.proofs.Common.{◌≡◌, ◌<◌, ◌≤◌, ◌+◌, ◌*◌, ◌%◌, ℕ, zero, suc, min, List, [], ◌∷◌, ◌++◌, length, map, take, drop, get_or, inl, inr, refl, sym, ap, subst, ◌∙◌, arith, length-take}
-use Rattle.std.specs.Prelude.{Bool, true, leb, ◌||◌, bytes_eq, Some, None}
+use Rattle.std.specs.Prelude.{Bool, true, leb, ◌||◌, bytes_eq, Option, Some, None}
 use Rattle.std.proofs.Math.Nat.{mod-eq_of_lt}
 use Rattle.std.proofs.lemmas.Nat.{mod_below}
 use Rattle.std.proofs.lemmas.Bool.{cases_lt}
@@ -9,9 +9,11 @@ use Rattle.std.proofs.lemmas.List.{get_or-map, get_or-take, get_or-drop}
 use Rattle.xr_types.specs.Points.{size, place, IsPoint}
 use Rattle.strided_block.specs.Boxes.{zeros}
 use Rattle.strided_block.specs.Steps.{dot, spot, row_steps}
-use Rattle.strided_block.specs.Views.{Seen, shown, together, stepped_sight, IsClear}
+use Rattle.strided_block.specs.Parts.{IsRun}
+use Rattle.strided_block.specs.Views.{Seen, shown, together, stepped_sight, IsClear, IsThere}
 use Rattle.strided_block.specs.Zips.{point_at}
 use Rattle.strided_block.proofs.Boxes.{point_long, place_below}
+use Rattle.strided_block.proofs.Holdings.{there_below, every_run, seen_cell}
 use Rattle.strided_block.proofs.Splits.{point_there}
 use Rattle.strided_block.proofs.Steps.{round_first, row_place, row_long, row_drop, dot_append}
 
@@ -53,7 +55,7 @@ one_more a k = omega arith
 no_points : (ss q : List ℕ) → IsPoint ss q → size ss ≡ 0 → ⊥
 no_points ss q i e = let b = place_below ss q i in omega arith
 
-module _ {X : Type 0} (cells : List X) (start : ℕ) (steps shape : List ℕ) (w : Seen X) (e : stepped_sight cells start steps shape ≡ w) (clear : IsClear cells start steps shape)
+module _ {X : Type 0} (cells : List (Option X)) (start : ℕ) (steps shape : List ℕ) (w : Seen X) (e : stepped_sight cells start steps shape ≡ w) (clear : IsClear cells start steps shape)
     (ps : List ℕ) (i : IsPoint (take (length ps) w.shape) ps) (side : together w (length ps) ≡ true) where
   shapes : shape ≡ w.shape
   shapes = ap (λ u. u.shape) e
@@ -80,11 +82,14 @@ module _ {X : Type 0} (cells : List X) (start : ℕ) (steps shape : List ℕ) (w
       let apart : start + (dot ps steps + dot q (drop (length ps) steps)) ≡ a + dot q (drop (length ps) steps) = omega arith in
       ap (λ d. (start + d) % m) (dot_append ps q steps) ∙ ap (λ x. x % m) apart ∙ ap (λ t. (a + dot q t) % m) now_steps ∙ row_place rest q a ∙ sym (round_first a (place rest q) m)
 
+  reached_there : (k : ℕ) → k < size rest → IsThere cells ((spot start steps ps + k) % 18446744073709551616)
+  reached_there k lt =
+      let p = point_there rest k lt in let q = point_at rest k in
+      subst (IsThere cells) (lead_spot q ∙ ap (λ x. (spot start steps ps + x) % 18446744073709551616) p.1) (clear.inside (ps ++ q) (join_point shape ps q now_lead p.0))
+
   -- the cells of the run lie side by side
   reached : (k : ℕ) → k < size rest → (spot start steps ps + k) % 18446744073709551616 < length cells
-  reached k lt =
-      let p = point_there rest k lt in let q = point_at rest k in
-      subst (λ x. x < length cells) (lead_spot q ∙ ap (λ x. (spot start steps ps + x) % 18446744073709551616) p.1) (clear.inside (ps ++ q) (join_point shape ps q now_lead p.0))
+  reached k lt = there_below cells ((spot start steps ps + k) % 18446744073709551616) (reached_there k lt)
 
   pub walked : (k : ℕ) → k < size rest → spot start steps ps + k < length cells
   walked zero lt =
@@ -110,13 +115,22 @@ module _ {X : Type 0} (cells : List X) (start : ℕ) (steps shape : List ℕ) (w
   pub run_none : {P : Type 0} (n : ℕ) → n ≡ size rest → n ≡ 0 → (q : List ℕ) → IsPoint (drop (length ps) w.shape) q → P
   run_none n is none q j = absurd (no_points rest q (subst (λ s. IsPoint (drop (length ps) s) q) (sym shapes) j) (sym is ∙ none))
 
-  pub run_cell : (n at : ℕ) → n ≡ size rest → 0 < n → at ≡ spot start steps ps → (q : List ℕ) (x : X) → IsPoint (drop (length ps) w.shape) q
-      → shown w (ps ++ q) ≡ Some (get_or (take n (drop at cells)) (place (drop (length ps) w.shape) q) x)
-  run_cell n at is some where_at q x j =
-      let k : IsPoint rest q = subst (λ s. IsPoint (drop (length ps) s) q) (sym shapes) j in
+  pub all_run : (n at : ℕ) → n ≡ size rest → 0 < n → at ≡ spot start steps ps → IsRun cells at n
+  all_run n at is some where_at = every_run cells at n (run_within n at is some where_at) (λ j lt.
+      let in_rest : j < size rest = omega arith in let w = walked j in_rest in let s = clear.small in
+      let whole : (spot start steps ps + j) % 18446744073709551616 ≡ at + j = mod-eq_of_lt {n = spot start steps ps + j} {m = 18446744073709551616} (omega arith) ∙ ap (λ a. a + j) (sym where_at) in
+      subst (IsThere cells) whole (reached_there j in_rest))
+
+  -- where the cell of a point lies in the run
+  pub run_spot : (at : ℕ) → 0 < size rest → at ≡ spot start steps ps → (q : List ℕ) → IsPoint rest q → spot start steps (ps ++ q) ≡ at + place rest q
+  run_spot at some where_at q k =
       let b = place_below rest q k in let step = walked (place rest q) b in let s = clear.small in
-      let lt : at + place rest q < length cells = omega arith in let in_run : place rest q < n = omega arith in
-      let where_cell : spot start steps (ps ++ q) ≡ at + place rest q = lead_spot q ∙ ap (λ a. (a + place rest q) % 18446744073709551616) (sym where_at) ∙ mod-eq_of_lt {n = at + place rest q} {m = 18446744073709551616} (omega arith) in
-      ap (λ u. shown u (ps ++ q)) (sym e) ∙ ap (λ a. get_or (map Some cells) a None) where_cell ∙ get_or-map Some cells (at + place rest q) x None lt
-      ∙ ap Some (sym (get_or-take n (drop at cells) (place rest q) x in_run ∙ get_or-drop at cells (place rest q) x))
-      ∙ ap (λ s. Some (get_or (take n (drop at cells)) (place (drop (length ps) s) q) x)) shapes
+      lead_spot q ∙ ap (λ a. (a + place rest q) % 18446744073709551616) (sym where_at) ∙ mod-eq_of_lt {n = at + place rest q} {m = 18446744073709551616} (omega arith)
+
+  pub run_cell : (n at : ℕ) → n ≡ size rest → 0 < n → at ≡ spot start steps ps → (xs : List X) → take n (drop at cells) ≡ map Some xs → (q : List ℕ) (x : X) → IsPoint (drop (length ps) w.shape) q
+      → shown w (ps ++ q) ≡ Some (get_or xs (place (drop (length ps) w.shape) q) x)
+  run_cell n at is some where_at xs seen q x j =
+      let k : IsPoint rest q = subst (λ s. IsPoint (drop (length ps) s) q) (sym shapes) j in
+      let b = place_below rest q k in
+      ap (λ u. shown u (ps ++ q)) (sym e) ∙ ap (λ a. get_or cells a None) (run_spot at (omega arith) where_at q k) ∙ seen_cell cells at n xs (run_within n at is some where_at) seen (place rest q) x (omega arith)
+      ∙ ap (λ s. Some (get_or xs (place (drop (length ps) s) q) x)) shapes

@@ -1,7 +1,10 @@
 pub mod Boxes
 pub mod CellLaws
+pub mod Holdings
+pub mod Laid
 pub mod Leads
 pub mod Lines
+pub mod Owned
 pub mod Owners
 pub mod Orders
 pub mod Places
@@ -9,6 +12,7 @@ pub mod Puts
 pub mod Rows
 pub mod Sharing
 pub mod Sights
+pub mod Sounds
 pub mod Splits
 pub mod Steps
 pub mod Wholes

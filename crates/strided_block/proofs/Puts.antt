@@ -1,6 +1,6 @@
--- Cells that a caller gives as numbers or holes: as the cells of a block, and as a row of a window of a whole block.
+-- Cells that a caller gives as numbers or holes, as the cells of a block.
 use Rattle.std.proofs.Common.{◌≡◌, ◌<◌, ◌≤◌, ◌+◌, ◌-◌, ℕ, ℤ, zero, suc, pos, negsuc, unsigned_abs, List, length, map, get_or, ◌⊎◌, inl, inr, refl, sym, ap, subst, ◌∙◌, arith}
-use Rattle.std.specs.Prelude.{Option, Some, None, option_map, replicate, All}
+use Rattle.std.specs.Prelude.{Option, Some, None, option_map, replicate, All, Result, Ok, Err, IfOk}
 use Rattle.std.proofs.lemmas.Bool.{cases_lt}
 use Rattle.std.proofs.lemmas.Int.{ints}
 use Rattle.std.proofs.lemmas.List.{get_or-map, get_or-replicate, length-map, length-replicate, same_lists}
@@ -11,11 +11,11 @@ use Rattle.xr_types.specs.declared.kind.DType.{DType}
 use Rattle.xr_types.specs.declared.kind.DType.TheVariants.{Bool, Char, Int8, Int16, Int32, Int64, UInt16, UInt32, UInt64}
 use Rattle.xr_arrays.specs.Arrays.{IsCell}
 use Rattle.xr_types.specs.Points.{size, place, IsPoint}
-use Rattle.strided_block.specs.Boxes.{plus, zeros, along, IsRow}
+use Rattle.strided_block.specs.Boxes.{plus, zeros}
 use Rattle.strided_block.specs.Typed.{Box, IsWide, box_of, truth, number_or_zero}
-use Rattle.strided_block.specs.Views.{Stored, Window, kept, held, cell_at, wide_window, IsWhole, IsFull}
+use Rattle.strided_block.specs.Views.{Stored, Window, kept, held, cell_at, IsWhole}
 use Rattle.strided_block.proofs.Boxes.{place_below}
-use Rattle.strided_block.proofs.Rows.{laid, laid-length, laid_in, laid_out, plus_origin, row_starts, row_fits, row_full, row_written, row_others}
+use Rattle.strided_block.proofs.Sounds.{plus_origin}
 
 -- ---- a number of a kind is found again
 
@@ -93,6 +93,16 @@ module _ {X : Type 0} where
   pub whole_held : (cells : List X) (shape : List ℕ) (w : Window X) (cs : List ℕ) → w.whole ≡ shape → w.slots ≡ map Some cells → held w cs ≡ get_or (map Some cells) (place shape cs) None
   whole_held cells shape w cs whole slots = λ i. get_or (slots i) (place (whole i) cs) None
 
+  -- a block of given cells, each of which is made of one that is given
+  pub block_kept : (f : Option ℤ → X) (cs : List (Option ℤ)) (items all : List X) (b : Stored X) (ns p : List ℕ) → b ≡ record { shape = ns; cells = all } → all ≡ items → length items ≡ length cs → length cs ≡ size ns
+      → ((i : ℕ) (z : X) → i < length cs → get_or items i z ≡ f (get_or cs i None)) → IsPoint ns p → kept b p ≡ Some (f (get_or cs (place ns p) None))
+  block_kept f cs items all b ns p e same long count made i = ap (λ u. kept u p) e ∙ ap (λ l. get_or (map Some l) (place ns p) None) same ∙ made_kept f cs items ns p long count made i
+
+-- what holds of a result, by what is known of it
+pub if_ok : {X E : Type 0} (P Q : X → Type 0) (r : Result X E) → ((x : X) → P x → Q x) → IfOk r P → IfOk r Q
+if_ok P Q (Ok x) f h = f x h
+if_ok P Q (Err e) f h = tt
+
 -- the window's box, where it and another are whole
 pub wide_boxes : {X : Type 0} (w : Window X) (b : Box) → IsWhole w → IsWide b → w.whole ≡ b.whole → box_of w ≡ b
 wide_boxes w b m n e = λ i. record { whole = e i; low = (m.low ∙ ap zeros e ∙ sym n.low) i; shape = (m.shape ∙ e ∙ sym n.shape) i }
@@ -110,53 +120,3 @@ pub block_clear_of : (b : Stored ℕ) (w : Window ℕ) → IsWhole w → b.shape
 block_clear_of b w m e s was p i =
     let j : IsPoint w.whole p = subst (λ n. IsPoint n p) e i in
     sym (whole_held b.cells b.shape w p (sym e) (sym s)) ∙ sym (at_home w p m j) ∙ was p (subst (λ n. IsPoint n p) (sym m.shape) j)
-
--- ---- a row of a window
-
-module _ {X : Type 0} (f : Option ℤ → X) (cs : List (Option ℤ)) (cells : List X) (shape : List ℕ) (w : Window X) (e : wide_window cells shape ≡ w) (full : IsFull shape cells)
-    (ps : List ℕ) (row : IsRow w.shape ps (length cs)) where
-  made_long : length (map f cs) ≡ length cs
-  made_long = length-map cs f
-
-  made_row : IsRow w.shape ps (length (map f cs))
-  made_row = subst (λ n. IsRow w.shape ps n) (sym made_long) row
-
-  pub put_starts : IsPoint shape ps
-  put_starts = row_starts cells (map f cs) shape w e full ps made_row
-
-  module _ (at : ℕ) (is : at ≡ place shape ps) where
-    fits : at + length (map f cs) ≤ length cells
-    fits = row_fits cells (map f cs) shape w e full ps made_row at is
-
-    pub put_fits : at + length cs ≤ length cells
-    put_fits = let h = fits in omega (arith, made_long)
-
-    module _ (new : List X) (long : length new ≡ length cells) (put : (i : ℕ) (z : X) → i < length cs → get_or new (at + i) z ≡ f (get_or cs i None))
-        (rest : (k : ℕ) (z : X) → (k < at) ⊎ (at + length cs ≤ k) → get_or new k z ≡ get_or cells k z) where
-      same_at : (k : ℕ) (d : X) → get_or new k d ≡ get_or (laid cells at (map f cs)) k d
-      same_at k d = elim (cases_lt k at) [
-        | inl lt ↦ rest k d (inl lt) ∙ sym (laid_out cells (map f cs) at k d fits (inl lt))
-        | inr le ↦ elim (cases_lt k (at + length cs)) [
-          | inl lt ↦
-              let j : ℕ = k - at in let there : at + j ≡ k = omega arith in let within : j < length cs = omega arith in let in_row : j < length (map f cs) = omega (arith, made_long) in
-              ap (λ i. get_or new i d) (sym there) ∙ put j d within ∙ sym (get_or-map f cs j None d within) ∙ sym (laid_in cells (map f cs) at j k d fits in_row (sym there))
-          | inr past ↦ let behind : at + length (map f cs) ≤ k = omega (arith, made_long) in rest k d (inr past) ∙ sym (laid_out cells (map f cs) at k d fits (inr behind))
-        ]
-      ]
-
-      is_laid : new ≡ laid cells at (map f cs)
-      is_laid = same_lists new (laid cells at (map f cs)) (long ∙ sym (laid-length cells (map f cs) at fits)) (λ k d lt. same_at k d)
-
-      pub put_full : IsFull shape new
-      put_full = row_full cells (map f cs) shape w e full ps made_row at is new is_laid
-
-      pub put_written : (j : ℕ) → j < length cs → cell_at (wide_window new shape) (along ps j) ≡ Some (f (get_or cs j None))
-      put_written j lt =
-          let x : X = f (get_or cs j None) in let in_row : j < length (map f cs) = omega (arith, made_long) in
-          row_written cells (map f cs) shape w e full ps made_row at is new is_laid j x in_row ∙ ap Some (get_or-map f cs j None x lt)
-
-      none_made : (c : List ℕ) → ((j : ℕ) → j < length cs → ¬ (c ≡ plus w.low (along ps j))) → (j : ℕ) → j < length (map f cs) → ¬ (c ≡ plus w.low (along ps j))
-      none_made c none j lt = none j (omega (arith, made_long))
-
-      pub put_others : (c : List ℕ) → IsPoint w.whole c → ((j : ℕ) → j < length cs → ¬ (c ≡ plus w.low (along ps j))) → held (wide_window new shape) c ≡ held w c
-      put_others c i none = row_others cells (map f cs) shape w e full ps made_row at is new is_laid c i (none_made c none)

@@ -7,8 +7,9 @@ use Rattle.xr_types.specs.Points.{size, place, IsPoint}
 use Rattle.xr_arrays.specs.Nodes.{IsOrder, without, moved as in_order}
 use Rattle.strided_block.specs.Boxes.{zeros, moved}
 use Rattle.strided_block.specs.Steps.{dot, spot, row_steps, stepped, StepsWithin, IsRound, AreMoved}
-use Rattle.strided_block.specs.Views.{Seen, shown, together, sight, stepped_sight, IsClear, IsFull}
+use Rattle.strided_block.specs.Views.{Seen, shown, together, sight, stepped_sight, IsClear, IsFull, IsThere}
 use Rattle.strided_block.proofs.Boxes.{point_long, place_below}
+use Rattle.strided_block.proofs.Holdings.{all_there}
 use Rattle.strided_block.proofs.Leads.{zeros_place}
 use Rattle.strided_block.proofs.CellLaws.{moved_inside}
 use Rattle.strided_block.proofs.Orders.{order_inside}
@@ -29,7 +30,7 @@ same_sizes o p s t ss e a b = e ∙ (λ i. map (λ k. get_or (b i) k 0) (a i))
 pub same_moved : (o p s t ts : List ℕ) → AreMoved o s ts → o ≡ p → s ≡ t → AreMoved p t ts
 same_moved o p s t ts are a b = subst (λ l. AreMoved l t ts) a (subst (λ l. AreMoved o l ts) b are)
 
-module _ {X : Type 0} (cells : List X) (start : ℕ) (steps shape : List ℕ) (w : Seen X) (e : stepped_sight cells start steps shape ≡ w) (clear : IsClear cells start steps shape) where
+module _ {X : Type 0} (cells : List (Option X)) (start : ℕ) (steps shape : List ℕ) (w : Seen X) (e : stepped_sight cells start steps shape ≡ w) (clear : IsClear cells start steps shape) where
   shapes : shape ≡ w.shape
   shapes = ap (λ u. u.shape) e
 
@@ -46,20 +47,20 @@ module _ {X : Type 0} (cells : List X) (start : ℕ) (steps shape : List ℕ) (w
     pub seen_long : length ps ≤ length steps
     seen_long = let l = point_long shape ps now_point in let r = clear.ranks in omega arith
 
-    pub seen_below : (at : ℕ) → at ≡ spot start steps ps → at < length cells
-    seen_below at is = subst (λ k. k < length cells) (sym is) (clear.inside ps now_point)
+    pub seen_there : (at : ℕ) → at ≡ spot start steps ps → IsThere cells at
+    seen_there at is = subst (IsThere cells) (sym is) (clear.inside ps now_point)
 
-    pub seen_cell : (at : ℕ) (x : X) → at ≡ spot start steps ps → shown w ps ≡ Some (get_or cells at x)
-    seen_cell at x is = ap (λ u. shown u ps) (sym e) ∙ ap (λ k. get_or (map Some cells) k None) (sym is) ∙ get_or-map Some cells at x None (seen_below at is)
+    pub seen_cell : (at : ℕ) → at ≡ spot start steps ps → shown w ps ≡ get_or cells at None
+    seen_cell at is = ap (λ u. shown u ps) (sym e) ∙ ap (λ k. get_or cells k None) (sym is)
 
   -- a view whose points show what the view shows at other points
   module _ (start2 : ℕ) (steps2 shape2 : List ℕ) (f : List ℕ → List ℕ) (ranks : length steps2 ≡ length shape2) (inside : (ps : List ℕ) → IsPoint shape2 ps → IsPoint shape (f ps))
       (same : (ps : List ℕ) → IsPoint shape2 ps → spot start2 steps2 ps ≡ spot start steps (f ps)) where
     read_clear : IsClear cells start2 steps2 shape2
-    read_clear = record { small = clear.small; ranks = ranks; inside = λ ps i. subst (λ k. k < length cells) (sym (same ps i)) (clear.inside (f ps) (inside ps i)) }
+    read_clear = record { small = clear.small; ranks = ranks; inside = λ ps i. subst (IsThere cells) (sym (same ps i)) (clear.inside (f ps) (inside ps i)) }
 
     read_shown : (ps : List ℕ) → IsPoint shape2 ps → shown (stepped_sight cells start2 steps2 shape2) ps ≡ shown w (f ps)
-    read_shown ps i = ap (λ k. get_or (map Some cells) k None) (same ps i) ∙ ap (λ u. shown u (f ps)) e
+    read_shown ps i = ap (λ k. get_or cells k None) (same ps i) ∙ ap (λ u. shown u (f ps)) e
 
   pub together_is : (st own : List ℕ) (k : ℕ) → st ≡ steps → own ≡ row_steps shape → leb (length own) k || bytes_eq (drop k st) (drop k own) ≡ together w k
   together_is st own k is_st is_own =
@@ -190,15 +191,22 @@ module _ {X : Type 0} (cells : List X) (shape : List ℕ) (full : IsFull shape c
       let b = place_below shape ps i in let c = full.count in let s = full.small in
       row_place shape ps 0 ∙ mod-eq_of_lt {n = 0 + place shape ps} {m = 18446744073709551616} (omega arith) ∙ (let z : 0 + place shape ps ≡ place shape ps = omega arith in z)
 
-  first_clear : IsClear cells 0 (row_steps shape) shape
-  first_clear = record { small = full.small; ranks = row_long shape; inside = λ ps i. let b = place_below shape ps i in let c = full.count in let r = row_spot ps i in omega arith }
+  row_there : (ps : List ℕ) → IsPoint shape ps → IsThere (map Some cells) (place shape ps)
+  row_there ps i = let b = place_below shape ps i in all_there cells (place shape ps) (omega (arith, full.count))
 
-  module _ (seen : List X) (steps sizes : List ℕ) (a : seen ≡ cells) (b : steps ≡ row_steps shape) (c : sizes ≡ shape) where
+  first_clear : IsClear (map Some cells) 0 (row_steps shape) shape
+  first_clear = record {
+    small = omega (arith, full.small, length-map cells Some);
+    ranks = row_long shape;
+    inside = λ ps i. subst (IsThere (map Some cells)) (sym (row_spot ps i)) (row_there ps i);
+  }
+
+  module _ (seen : List (Option X)) (steps sizes : List ℕ) (a : seen ≡ map Some cells) (b : steps ≡ row_steps shape) (c : sizes ≡ shape) where
     pub block_clear : IsClear seen 0 steps sizes
-    block_clear = subst (λ x. IsClear x 0 steps sizes) (sym a) (subst (λ t. IsClear cells 0 t sizes) (sym b) (subst (λ s. IsClear cells 0 (row_steps shape) s) (sym c) first_clear))
+    block_clear = subst (λ x. IsClear x 0 steps sizes) (sym a) (subst (λ t. IsClear (map Some cells) 0 t sizes) (sym b) (subst (λ s. IsClear (map Some cells) 0 (row_steps shape) s) (sym c) first_clear))
 
     pub block_sight : stepped_sight seen 0 steps sizes ≡ sight cells shape (zeros shape) shape
     block_sight = let z = zeros_place shape in λ i. stepped_sight (a i) (sym z i) (b i) (c i)
 
     pub block_shown : (ps : List ℕ) → IsPoint shape ps → shown (stepped_sight seen 0 steps sizes) ps ≡ get_or (map Some cells) (place shape ps) None
-    block_shown ps i = (λ j. get_or (map Some (a j)) (spot 0 (b j) ps) None) ∙ ap (λ k. get_or (map Some cells) k None) (row_spot ps i)
+    block_shown ps i = (λ j. get_or (a j) (spot 0 (b j) ps) None) ∙ ap (λ k. get_or (map Some cells) k None) (row_spot ps i)

@@ -1,5 +1,5 @@
 -- Boxes of points in a block, and points that are moved.
-use Rattle.std.specs.Prelude.{◌+◌, ◌<◌, ◌≤◌, ℕ, zero, suc, List, [], ◌∷◌, get_or, slice_set, ⊤}
+use Rattle.std.specs.Prelude.{◌+◌, ◌<◌, ◌≤◌, ◌&&◌, ℕ, zero, suc, Bool, true, ltb, leb, List, [], ◌∷◌, get_or, slice_set, ⊤}
 use Rattle.xr_types.specs.Points.{IsPoint}
 
 -- a box of the sizes ss that begins at ls lies in a block of the sizes ns
@@ -16,6 +16,13 @@ abbrev pub plus : List ℕ → List ℕ → List ℕ
 plus [] ps = []
 plus (l ∷ ls) [] = l ∷ ls
 plus (l ∷ ls) (p ∷ ps) = (l + p) ∷ plus ls ps
+
+-- the point of the block lies in the box
+abbrev pub in_box : List ℕ → List ℕ → List ℕ → Bool
+in_box [] ss cs = true
+in_box (l ∷ ls) [] cs = true
+in_box (l ∷ ls) (s ∷ ss) [] = true
+in_box (l ∷ ls) (s ∷ ss) (c ∷ cs) = (leb l c && ltb c (l + s)) && in_box ls ss cs
 
 -- the first point of a block
 abbrev pub zeros : List ℕ → List ℕ

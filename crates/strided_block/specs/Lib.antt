@@ -1,5 +1,6 @@
 pub mod Boxes
 pub mod Cells
+pub mod Deeds
 pub mod Lends
 pub mod Lines
 pub mod Memory

@@ -48,7 +48,8 @@ pub(crate) fn moved_sizes(order: &[u64], shape: &[u64]) -> Shape
     sizes
 }
 
-fn zeros_for(order: &[u64]) -> Shape
+/// As many zeros.
+pub(crate) fn zeros_for(order: &[u64]) -> Shape
     requires { length order.now ≤ 16 }
     ensures { result ≡ map (λ k. 0) order.now }
 {

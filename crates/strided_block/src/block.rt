@@ -1,32 +1,115 @@
 //! Blocks of cells in row order.
-ghost use Rattle.std.specs.Prelude.{◌≡◌, ◌<◌, ℕ, pos, List, Option, Some, None, length, get_or, replicate, IfOk};
+ghost use Rattle.std.specs.Prelude.{◌≡◌, ◌<◌, ◌^◌, ℕ, pos, List, Option, Some, None, length, get_or, replicate, IfOk};
 ghost use Rattle.xr_types.specs.Points.{size, place, IsPoint};
 ghost use Rattle.strided_block.specs.Typed.{number_or_zero, mask_byte};
 ghost use Rattle.strided_block.specs.Views.{kept, shown, sight};
 ghost use Rattle.strided_block.specs.Boxes.{zeros};
+ghost use Rattle.core.specs.Mem.Slots.{slots_items, slots_ptr, slots_len, IsFull as IsRow};
+ghost use Rattle.strided_block.specs.Deeds.{deed_at, deed_count};
 
-use crate::place::{count, steps_of, twin};
+use crate::memory::{Base, Cells, Deed, copied, free};
+use crate::place::{count, points, steps_of, twin};
 use crate::row::{put_bytes, put_numbers};
 use crate::view::View;
+use core::slots::Slots;
 use std::alloc::Global;
 use std::marker::Model;
 use xr_types::{Elem, NoMemory, Shape};
 
 /// Cells of one type: one for each point of a shape. Contracts see its shape and its cells in row order.
-#[derive(Drop)]
 pub struct Block<T> {
-    pub(crate) cells: Vec<T>,
+    pub(crate) base: Base<T>,
+    pub(crate) cells: Cells<T>,
+    pub(crate) deed: Option<Deed<T>>,
     pub(crate) shape: Shape,
 }
 
 impl<T> Model for Block<T> {
-    ghost use Rattle.strided_block.specs.Views.{Stored, IsFull};
+    ghost use Rattle.strided_block.specs.Deeds.{base_at, cells_at, cells_slots, IsBlock};
+    ghost use Rattle.strided_block.specs.Parts.{somes};
+    ghost use Rattle.strided_block.specs.Views.{Stored};
 
     ghost Value = { Stored T };
 
-    ghost view = { λ b. record { shape = b.shape; cells = b.cells.items } };
+    ghost view = { λ b. record { shape = b.shape; cells = somes (cells_slots b.cells) } };
 
-    ghost invariant = { λ b. IsFull b.shape b.cells.items };
+    ghost invariant = { λ b. IsBlock b.shape (base_at b.base) (cells_at b.cells) (cells_slots b.cells) b.deed };
+}
+
+impl<T> Block<T> {
+    ghost use Rattle.strided_block.specs.Deeds.{base_at, cells_at, cells_slots, IsBlock};
+    ghost use Rattle.strided_block.specs.Parts.{somes};
+
+    /// The block's fields.
+    pub(crate) fn into_parts(self) -> (Base<T>, Cells<T>, Option<Deed<T>>, Shape)
+        ensures fields { IsBlock result.3 (base_at result.0) (cells_at result.1) (cells_slots result.1) result.2 }
+        ensures value { self ≡ record { shape = result.3; cells = somes (cells_slots result.1) } }
+    {
+        let Block {
+            base,
+            cells,
+            deed,
+            shape,
+        } = self;
+        (base, cells, deed, shape)
+    }
+}
+
+impl<T: Drop> Drop for Block<T> {
+    fn drop(self) {
+        let Block {
+            base,
+            cells,
+            deed,
+            shape,
+        } = self;
+        if let Some(deed) = deed {
+            let count = points(shape.as_slice()) as usize;
+            free(cells.into_row(base, count), deed);
+        }
+    }
+}
+
+// The block of a row of cells. One without a cell needs no memory.
+fn of_row<T>(row: Slots<T>, deed: Deed<T>, shape: Shape) -> Block<T>
+    requires row { IsRow row × (slots_len row ≡ size shape) × (slots_len row < 2 ^ 63) }
+    requires deed { (deed_at deed ≡ slots_ptr row) × (deed_count deed ≡ slots_len row) }
+    ensures { result ≡ record { shape = shape; cells = slots_items row } }
+{
+    let count = row.len();
+    let (base, cells) = Cells::of(row);
+    if count == 0 {
+        let (cells, none) = cells.cut(1, 1, 1);
+        free(none.into_row(base, 0), deed);
+        Block {
+            base,
+            cells,
+            deed: None,
+            shape,
+        }
+    } else {
+        Block {
+            base,
+            cells,
+            deed: Some(deed),
+            shape,
+        }
+    }
+}
+
+// The block of these cells, in memory of its own.
+fn of_slice<T: Copy>(alloc: Global, shape: &Shape, cells: &[T]) -> Result<Block<T>, NoMemory>
+    requires { length cells.now ≡ size shape.now }
+    ensures { IfOk result (λ b. b ≡ record { shape = shape.now; cells = cells.now }) }
+{
+    if cells.len() < 1 << 63 {
+        match copied(alloc, cells) {
+            Ok((row, deed)) => Ok(of_row(row, deed, twin(shape))),
+            Err(_) => Err(NoMemory),
+        }
+    } else {
+        Err(NoMemory)
+    }
 }
 
 // The numbers of cells, 0 for a missing one.
@@ -70,10 +153,7 @@ pub(crate) fn mask_of(
     ensures cells { IfOk result (λ b. (p : List ℕ) → IsPoint shape.now p → kept b p ≡ Some (mask_byte (get_or cells.now (place shape.now p) None))) }
 {
     let cells = bytes(alloc, cells)?;
-    Ok(Block {
-        cells,
-        shape: twin(shape),
-    })
+    of_slice(alloc, shape, cells.as_slice())
 }
 
 impl<T: Elem + Drop> Block<T> {
@@ -88,10 +168,7 @@ impl<T: Elem + Drop> Block<T> {
         ensures cells { IfOk result (λ b. (p : List ℕ) → IsPoint shape.now p → kept b p ≡ Some (T.of (number_or_zero (get_or cells.now (place shape.now p) None)))) }
     {
         let cells = numbers(alloc, cells)?;
-        Ok(Block {
-            cells,
-            shape: twin(shape),
-        })
+        of_slice(alloc, shape, cells.as_slice())
     }
 
     /// The sizes of the block.
@@ -108,10 +185,7 @@ impl<T: Elem + Drop> Block<T> {
         let count = count(shape)?;
         let mut cells = Vec::new(alloc);
         match cells.resize(count, T::wrap_from(0)) {
-            Ok(()) => Ok(Block {
-                cells,
-                shape: twin(shape),
-            }),
+            Ok(()) => of_slice(alloc, shape, cells.as_slice()),
             Err(_) => Err(NoMemory),
         }
     }
@@ -121,13 +195,7 @@ impl<T: Elem + Drop> Block<T> {
         requires { length cells.now ≡ size shape.now }
         ensures { IfOk result (λ b. b ≡ record { shape = shape.now; cells = cells.now }) }
     {
-        match Vec::from_slice(alloc, cells) {
-            Ok(cells) => Ok(Block {
-                cells,
-                shape: twin(shape),
-            }),
-            Err(_) => Err(NoMemory),
-        }
+        of_slice(alloc, shape, cells)
     }
 
     /// The cells of the block.
@@ -136,7 +204,8 @@ impl<T: Elem + Drop> Block<T> {
         ensures cells { (p : List ℕ) → IsPoint self.now.shape p → shown result p ≡ kept self.now p }
     {
         View {
-            cells: self.cells.as_slice(),
+            cells: &self.cells,
+            base: self.base,
             start: 0,
             shape: twin(&self.shape),
             steps: steps_of(&self.shape),

@@ -8,6 +8,7 @@ mod line;
 mod memory;
 mod place;
 mod row;
+mod runs;
 mod typed;
 mod view;
 mod win;
@@ -17,7 +18,7 @@ pub use block::Block;
 pub use cells::{CellBlock, CellView, CellWin};
 pub use line::scan_line;
 #[doc(hidden)]
-pub use memory::{Base, Cells};
+pub use memory::{Base, Cells, Deed};
 pub use typed::{TypedBlock, TypedView, TypedWin};
 pub use view::View;
 pub use win::Win;

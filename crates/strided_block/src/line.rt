@@ -1,11 +1,15 @@
 //! Cells along a line of a window, each made from the one before it.
-ghost use Rattle.std.specs.Prelude.{◌≡◌, ◌+◌, ◌*◌, ◌<◌, ℕ, List, Some, length, get_or, slice_set};
+ghost use Rattle.std.specs.Prelude.{◌≡◌, ◌+◌, ◌*◌, ◌<◌, ◌^◌, ℕ, List, Some, None, length, get_or, slice_set};
 ghost use Rattle.xr_types.specs.Points.{IsPoint};
 ghost use Rattle.strided_block.specs.Boxes.{plus, zeros};
 ghost use Rattle.strided_block.specs.Lines.{IsLine, prior, Follows};
 ghost use Rattle.strided_block.specs.Steps.{spot_on};
-ghost use Rattle.strided_block.specs.Views.{Cut, shown, held, cell_at};
+ghost use Rattle.strided_block.specs.Deeds.{base_at, cells_at, cells_slots};
+ghost use Rattle.strided_block.specs.Parts.{Changes, OnLine};
+ghost use Rattle.strided_block.specs.Views.{Cut, IsThere, shown, held, cell_at};
 
+use crate::memory::{Base, Cells};
+use crate::runs::{cell, put_cell};
 use crate::view::View;
 use crate::win::Win;
 use xr_types::{Elem, Shape};
@@ -26,102 +30,66 @@ impl Places {
     }
 }
 
-// What f gives of the result before and of two cells.
-fn next_result<A: Copy + Drop, B: Copy + Drop, T: Copy + Drop, F: Fn(T, A, B) -> T>(
+// What f gives of the result before and of a cell of each of two views.
+fn next_result<'v, A: Elem, B: Elem, T: Copy, F: Fn(T, A, B) -> T>(
     f: &F,
     last: T,
-    a: &[A],
+    a: &View<'v, A>,
     i: usize,
-    b: &[B],
+    b: &View<'v, B>,
     k: usize,
 ) -> T
     requires callable { F.IsAlwaysCallable f.now }
-    requires inside { (i < length a.now) × (k < length b.now) }
-    ensures { (x : A) (y : B) → F.post f.now last (get_or a.now i x) (get_or b.now k y) result }
+    requires inside { IsThere a.now.slots i × IsThere b.now.slots k }
+    ensures { (x : A) (y : B) → get_or a.now.slots i None ≡ Some x → get_or b.now.slots k None ≡ Some y → F.post f.now last x y result }
 {
-    f(last, a[i], b[k])
+    f(last, cell(a.cells, a.base, i), cell(b.cells, b.base, k))
 }
 
 // Writes what f gives, one after another, at the places of a line.
-fn scan_places<A: Copy + Drop, B: Copy + Drop, T: Copy + Drop, F: Fn(T, A, B) -> T>(
+fn scan_places<'v, A: Elem, B: Elem, T: Copy, F: Fn(T, A, B) -> T>(
     f: &F,
     start: T,
-    a: &[A],
+    a: &View<'v, A>,
     from_a: Places,
-    b: &[B],
+    b: &View<'v, B>,
     from_b: Places,
-    all: &mut [T],
+    all: &mut Cells<T>,
+    base: Base<T>,
     to: Places,
     count: usize,
 )
     requires callable { F.IsAlwaysCallable f.now }
-    requires first { (j : ℕ) → j < count → spot_on from_a.first from_a.step j < length a.now }
-    requires second { (j : ℕ) → j < count → spot_on from_b.first from_b.step j < length b.now }
-    requires room { (j : ℕ) → j < count → to.first + j * to.step < length all.old }
+    requires base { base_at base ≡ cells_at all.old }
+    requires first { (j : ℕ) → j < count → IsThere a.now.slots (spot_on from_a.first from_a.step j) }
+    requires second { (j : ℕ) → j < count → IsThere b.now.slots (spot_on from_b.first from_b.step j) }
+    requires room { (j : ℕ) → j < count → IsThere (cells_slots all.old) (to.first + j * to.step) }
     requires apart { 0 < to.step }
-    ensures cells { (j : ℕ) (x : A) (y : B) (z : T) → j < count → F.post f.now (prior start (λ i. get_or all.new (to.first + i * to.step) z) j) (get_or a.now (spot_on from_a.first from_a.step j) x) (get_or b.now (spot_on from_b.first from_b.step j) y) (get_or all.new (to.first + j * to.step) z) }
-    ensures others { (k : ℕ) (z : T) → ((j : ℕ) → j < count → ¬ (k ≡ to.first + j * to.step)) → get_or all.new k z ≡ get_or all.old k z }
+    requires small { length (cells_slots all.old) < 2 ^ 63 }
+    ensures block { cells_at all.new ≡ cells_at all.old }
+    ensures cells { (j : ℕ) → j < count → Follows (F.post f.now) (prior (Some start) (λ i. get_or (cells_slots all.new) (to.first + i * to.step) None) j) (get_or a.now.slots (spot_on from_a.first from_a.step j) None) (get_or b.now.slots (spot_on from_b.first from_b.step j) None) (get_or (cells_slots all.new) (to.first + j * to.step) None) }
+    ensures others { Changes (cells_slots all.old) (cells_slots all.new) (OnLine to.first to.step count) }
 {
     let mut last = start;
     for j in 0..count {
         last = next_result(f, last, a, from_a.spot(j), b, from_b.spot(j));
-        all[to.first + j * to.step] = last;
+        put_cell(all, base, to.first + j * to.step, last);
     }
-}
-
-fn scan_vec<A: Copy + Drop, B: Copy + Drop, T: Copy + Drop, F: Fn(T, A, B) -> T>(
-    f: &F,
-    start: T,
-    a: &[A],
-    from_a: Places,
-    b: &[B],
-    from_b: Places,
-    all: &mut Vec<T>,
-    to: Places,
-    count: usize,
-)
-    requires callable { F.IsAlwaysCallable f.now }
-    requires first { (j : ℕ) → j < count → spot_on from_a.first from_a.step j < length a.now }
-    requires second { (j : ℕ) → j < count → spot_on from_b.first from_b.step j < length b.now }
-    requires room { (j : ℕ) → j < count → to.first + j * to.step < length all.old.items }
-    requires apart { 0 < to.step }
-    ensures long { length all.new.items ≡ length all.old.items }
-    ensures cells { (j : ℕ) (x : A) (y : B) (z : T) → j < count → F.post f.now (prior start (λ i. get_or all.new.items (to.first + i * to.step) z) j) (get_or a.now (spot_on from_a.first from_a.step j) x) (get_or b.now (spot_on from_b.first from_b.step j) y) (get_or all.new.items (to.first + j * to.step) z) }
-    ensures others { (k : ℕ) (z : T) → ((j : ℕ) → j < count → ¬ (k ≡ to.first + j * to.step)) → get_or all.new.items k z ≡ get_or all.old.items k z }
-{
-    scan_places(
-        f,
-        start,
-        a,
-        from_a,
-        b,
-        from_b,
-        all.as_mut_slice(),
-        to,
-        count,
-    );
 }
 
 // Writes one cell at the places of a line.
-fn fill_places<T: Copy + Drop>(all: &mut [T], to: Places, count: usize, cell: T)
-    requires room { (j : ℕ) → j < count → to.first + j * to.step < length all.old }
+fn fill_places<T: Copy>(all: &mut Cells<T>, base: Base<T>, to: Places, count: usize, item: T)
+    requires base { base_at base ≡ cells_at all.old }
+    requires room { (j : ℕ) → j < count → IsThere (cells_slots all.old) (to.first + j * to.step) }
     requires apart { 0 < to.step }
-    ensures cells { (j : ℕ) (z : T) → j < count → get_or all.new (to.first + j * to.step) z ≡ cell }
-    ensures others { (k : ℕ) (z : T) → ((j : ℕ) → j < count → ¬ (k ≡ to.first + j * to.step)) → get_or all.new k z ≡ get_or all.old k z }
+    requires small { length (cells_slots all.old) < 2 ^ 63 }
+    ensures block { cells_at all.new ≡ cells_at all.old }
+    ensures cells { (j : ℕ) → j < count → get_or (cells_slots all.new) (to.first + j * to.step) None ≡ Some item }
+    ensures others { Changes (cells_slots all.old) (cells_slots all.new) (OnLine to.first to.step count) }
 {
     for j in 0..count {
-        all[to.first + j * to.step] = cell;
+        put_cell(all, base, to.first + j * to.step, item);
     }
-}
-
-fn fill_vec<T: Copy + Drop>(all: &mut Vec<T>, to: Places, count: usize, cell: T)
-    requires room { (j : ℕ) → j < count → to.first + j * to.step < length all.old.items }
-    requires apart { 0 < to.step }
-    ensures long { length all.new.items ≡ length all.old.items }
-    ensures cells { (j : ℕ) (z : T) → j < count → get_or all.new.items (to.first + j * to.step) z ≡ cell }
-    ensures others { (k : ℕ) (z : T) → ((j : ℕ) → j < count → ¬ (k ≡ to.first + j * to.step)) → get_or all.new.items k z ≡ get_or all.old.items k z }
-{
-    fill_places(all.as_mut_slice(), to, count, cell);
 }
 
 impl<T: Elem + Drop> Win<T> {
@@ -135,7 +103,8 @@ impl<T: Elem + Drop> Win<T> {
     {
         let count = self.shape.as_slice()[axis] as usize;
         let to = self.places(axis, at);
-        fill_vec(&mut self.cells, to, count, cell);
+        let base = self.base;
+        fill_places(&mut self.cells, base, to, count, cell);
     }
 }
 
@@ -161,14 +130,16 @@ pub fn scan_line<'v, A: Elem + Drop, B: Elem + Drop, T: Elem + Drop, F: Fn(T, A,
     let to = out.places(axis, at);
     let from_a = a.places(axis);
     let from_b = b.places(axis);
-    scan_vec(
+    let base = out.base;
+    scan_places(
         &f,
         start,
-        a.cells,
+        a,
         from_a,
-        b.cells,
+        b,
         from_b,
         &mut out.cells,
+        base,
         to,
         count,
     );

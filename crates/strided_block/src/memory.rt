@@ -1,17 +1,18 @@
 //! The memory of blocks: where a block begins, and the cells of it that one owner has.
-ghost use Rattle.std.specs.Prelude.{◌≡◌, ℕ, List, Option, Some, length, map, take, drop};
+ghost use Rattle.std.specs.Prelude.{◌≡◌, ℕ, List, Option, Some, length, map, take, drop, IfOk};
 ghost use Rattle.std.specs.Borrow.{sem};
-ghost use Rattle.core.specs.Mem.Slots.{slots_items, slots_ptr, slots_len, IsFull};
+ghost use Rattle.core.specs.Mem.Slots.{slots_items, slots_ptr, slots_len, lease_ptr, lease_len, lease_heap, IsFull};
 ghost use denote.RawPtr.{Ptr};
 ghost use Rattle.strided_block.specs.Memory.{cells_owned, cells_lent};
 ghost use Rattle.strided_block.specs.Parts.{dealt, joined, below, above, IsRun};
 
-use core::slots::Slots;
-use std::alloc::AllocError;
+use core::slots::{Lease, Slots, release, reserve};
+use std::alloc::{AllocError, Global};
 use std::marker::{Model, PhantomData, Send, Sync};
 use std::slice;
 
 /// Where a block begins. It owns nothing.
+#[derive(Drop)]
 pub struct Base<T> {
     ptr: *mut T,
 }
@@ -35,6 +36,7 @@ unsafe impl<T> Send for Base<T> {}
 unsafe impl<T> Sync for Base<T> {}
 
 /// Some cells of a block, of which other owners may have the rest. It takes no space.
+#[derive(Drop)]
 pub struct Cells<T> {
     mark: PhantomData<*const T>,
     ghost at: { Ptr },
@@ -50,6 +52,34 @@ impl<T> Model for Cells<T> {
 unsafe impl<T: Send> Send for Cells<T> {}
 
 unsafe impl<T: Sync> Sync for Cells<T> {}
+
+/// The right to free a block.
+pub struct Deed<T> {
+    lease: Lease<T, Global>,
+    heap: Global,
+    ghost own: { lease_heap lease ≡ heap },
+}
+
+/// The cells in memory of their own, and the right to free it.
+pub(crate) fn copied<T: Copy>(
+    heap: Global,
+    cells: &[T],
+) -> Result<(Slots<T>, Deed<T>), AllocError>
+    ensures row { IfOk result (λ r. IsFull r.0 × (slots_items r.0 ≡ cells.now)) }
+    ensures deed { IfOk result (λ r. (lease_ptr r.1.lease ≡ slots_ptr r.0) × (lease_len r.1.lease ≡ slots_len r.0)) }
+{
+    let (mut row, lease) = unsafe { reserve(&heap, cells) }?;
+    row.copy_in(0, cells);
+    Ok((row, Deed { lease, heap }))
+}
+
+/// Frees the memory of a block.
+pub(crate) fn free<T>(row: Slots<T>, deed: Deed<T>)
+    requires { (lease_ptr deed.lease ≡ slots_ptr row) × (lease_len deed.lease ≡ slots_len row) }
+{
+    let Deed { lease, heap } = deed;
+    release(&heap, row, lease);
+}
 
 impl<T> Cells<T> {
     ghost use Rattle.strided_block.specs.Lends.{lends_run};

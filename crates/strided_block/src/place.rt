@@ -84,7 +84,7 @@ fn position(low: &[u64], point: &[u64], axis: usize) -> u64
 }
 
 /// The place in row order of a point of a box that begins at `low`.
-fn place_in(whole: &[u64], low: &[u64], point: &[u64]) -> usize
+pub(crate) fn place_in(whole: &[u64], low: &[u64], point: &[u64]) -> usize
     requires inside { IsPoint whole.now (plus low.now point.now) }
     requires small { size whole.now < 2 ^ 63 }
     ensures { result ≡ place whole.now (plus low.now point.now) }

@@ -5,16 +5,18 @@ ghost use Rattle.xr_arrays.specs.Nodes.{IsOrder, without, moved as in_order};
 ghost use Rattle.strided_block.specs.Boxes.{moved, zeros};
 ghost use Rattle.strided_block.specs.Lines.{IsLine};
 ghost use Rattle.strided_block.specs.Steps.{spot, spot_on, stepped, StepsWithin};
-ghost use Rattle.strided_block.specs.Views.{shown, together};
+ghost use Rattle.strided_block.specs.Views.{shown, together, IsThere};
 
 use crate::axes::{added, moved_sizes, moved_steps, round};
 use crate::line::Places;
+use crate::memory::{Base, Cells};
 use crate::place::{points, spot_of, steps_of};
+use crate::runs::cell;
 use std::marker::Model;
 use xr_types::{Elem, Shape};
 
-// Whether two lists of numbers agree from an axis on.
-fn agree_from(axis: usize, a: &[u64], b: &[u64]) -> bool
+/// Whether two lists of numbers agree from an axis on.
+pub(crate) fn agree_from(axis: usize, a: &[u64], b: &[u64]) -> bool
     requires { length b.now ≡ length a.now }
     ensures { result ≡ leb (length b.now) axis || bytes_eq (drop axis a.now) (drop axis b.now) }
 {
@@ -25,26 +27,11 @@ fn agree_from(axis: usize, a: &[u64], b: &[u64]) -> bool
     }
 }
 
-// The cell at a place.
-fn cell<T: Copy>(cells: &[T], at: usize) -> T
-    requires { at < length cells.now }
-    ensures { result ≡ get_or cells.now at result }
-{
-    cells[at]
-}
-
-// The cells from a place on.
-fn part<T>(cells: &[T], at: usize, count: usize) -> &[T]
-    requires { at + count ≤ length cells.now }
-    ensures { result.now ≡ take count (drop at cells.now) }
-{
-    &cells[at..at + count]
-}
-
 /// A lent view of cells of a block: a first cell, sizes, and along each axis a step from one cell to the next. A step may be 0, which repeats a cell, or go back.
 #[derive(Drop)]
 pub struct View<'a, T> {
-    pub(crate) cells: &'a [T],
+    pub(crate) cells: &'a Cells<T>,
+    pub(crate) base: Base<T>,
     pub(crate) start: u64,
     pub(crate) shape: Shape,
     // steps back are counted round 2^64
@@ -52,13 +39,15 @@ pub struct View<'a, T> {
 }
 
 impl<'a, T> Model for View<'a, T> {
+    ghost use Rattle.std.specs.Prelude.{◌≡◌};
+    ghost use Rattle.strided_block.specs.Deeds.{base_at, cells_at, cells_slots};
     ghost use Rattle.strided_block.specs.Views.{Seen, stepped_sight, IsClear};
 
     ghost Value = { Seen T };
 
-    ghost view = { λ v. stepped_sight v.cells.now v.start v.steps v.shape };
+    ghost view = { λ v. stepped_sight (cells_slots v.cells.now) v.start v.steps v.shape };
 
-    ghost invariant = { λ v. IsClear v.cells.now v.start v.steps v.shape };
+    ghost invariant = { λ v. (base_at v.base ≡ cells_at v.cells.now) × IsClear (cells_slots v.cells.now) v.start v.steps v.shape };
 }
 
 impl<'a, T: Elem> View<'a, T> {
@@ -75,7 +64,7 @@ impl<'a, T: Elem> View<'a, T> {
         ensures { shown self.now point.now ≡ Some result }
     {
         let at = spot_of(self.start, self.steps.as_slice(), point.as_slice()) as usize;
-        cell(self.cells, at)
+        cell(self.cells, self.base, at)
     }
 
     /// Whether the cells of the points that agree before an axis lie side by side, in row order.
@@ -97,18 +86,19 @@ impl<'a, T: Elem> View<'a, T> {
         ensures cells { (q : List ℕ) (x : T) → IsPoint (drop (length lead.now) self.now.shape) q → shown self.now (lead.now ++ q) ≡ Some (get_or result.now (place (drop (length lead.now) self.now.shape) q) x) }
     {
         let count = points(self.shape.as_slice().split_at(lead.len()).1);
+        let cells = self.cells;
         if count == 0 {
-            return part(self.cells, 0, 0);
+            return cells.run(self.base, 0, 0);
         }
         let at = spot_of(self.start, self.steps.as_slice(), lead.as_slice()) as usize;
-        part(self.cells, at, count as usize)
+        cells.run(self.base, at, count as usize)
     }
 
     /// Where the cells of a view of one line lie.
     pub(crate) fn places(&self, axis: usize) -> Places
         requires some { 0 < get_or self.now.shape axis 0 }
         requires line { IsLine self.now.shape axis (get_or self.now.shape axis 0) }
-        ensures within { (j : ℕ) → j < get_or self.now.shape axis 0 → spot_on result.first result.step j < length self.now.slots }
+        ensures within { (j : ℕ) → j < get_or self.now.shape axis 0 → IsThere self.now.slots (spot_on result.first result.step j) }
         ensures cells { (j : ℕ) → j < get_or self.now.shape axis 0 → spot self.now.start self.now.steps (slice_set (zeros self.now.shape) axis j) ≡ spot_on result.first result.step j }
     {
         Places {
@@ -126,6 +116,7 @@ impl<'a, T: Elem> View<'a, T> {
     {
         let View {
             cells,
+            base,
             start,
             mut shape,
             steps,
@@ -135,6 +126,7 @@ impl<'a, T: Elem> View<'a, T> {
         shape.set(axis, to - from);
         View {
             cells,
+            base,
             start,
             shape,
             steps,
@@ -150,6 +142,7 @@ impl<'a, T: Elem> View<'a, T> {
     {
         let View {
             cells,
+            base,
             start,
             mut shape,
             mut steps,
@@ -160,6 +153,7 @@ impl<'a, T: Elem> View<'a, T> {
         shape.set(axis, count);
         View {
             cells,
+            base,
             start,
             shape,
             steps,
@@ -174,12 +168,14 @@ impl<'a, T: Elem> View<'a, T> {
     {
         let View {
             cells,
+            base,
             start,
             shape,
             steps,
         } = self;
         View {
             cells,
+            base,
             start,
             shape: moved_sizes(order.as_slice(), shape.as_slice()),
             steps: moved_steps(order.as_slice(), steps.as_slice()),
@@ -195,12 +191,14 @@ impl<'a, T: Elem> View<'a, T> {
     {
         let View {
             cells,
+            base,
             start,
             shape,
             steps,
         } = self;
         View {
             cells,
+            base,
             start,
             shape: added(shape.as_slice(), axis, size),
             steps: added(steps.as_slice(), axis, 0),

@@ -1,92 +1,40 @@
 //! Windows: owned cells of a block, to be written.
-ghost use Rattle.std.specs.Prelude.{◌≡◌, ◌+◌, ◌*◌, ◌<◌, ◌≤◌, ◌++◌, ◌⊎◌, ℕ, List, Option, Some, None, length, get_or, map, take, drop, slice_set};
+ghost use Rattle.std.specs.Prelude.{◌≡◌, ◌+◌, ◌-◌, ◌*◌, ◌<◌, ◌≤◌, ℕ, List, Option, Some, length, get_or, map, slice_set, None, true};
 ghost use Rattle.xr_types.specs.Points.{place, IsPoint};
 ghost use Rattle.strided_block.specs.Boxes.{plus, along, IsRow};
 ghost use Rattle.strided_block.specs.Typed.{number_or_zero, mask_byte};
-ghost use Rattle.strided_block.specs.Views.{Cut, KeptOutside, IsWhole, shown, held, cell_at};
+ghost use Rattle.strided_block.specs.Views.{Cut, KeptOutside, SameIn, Halves, IsWhole, IsThere, shown, held, cell_at, window_sight, together};
 
+use crate::axes::zeros_for;
 use crate::block::Block;
 use crate::line::Places;
-use crate::place::{place_at, points, steps_of, twin};
-use crate::row::{put_bytes, put_numbers};
-use crate::view::View;
+use crate::memory::{Base, Cells, Deed};
+use crate::place::{place_in, points, spot_of, steps_of, twin};
+use crate::runs::{put_byte_run, put_cell, put_number_run, put_run};
+use crate::view::{View, agree_from};
+use crate::zip::fill_rows;
 use std::marker::Model;
 use xr_types::{Elem, Shape};
 
-/// The owned cells of a box in a block, to be written. It has to be spent, by `into_block`.
+/// The owned cells of a box in a block, to be written. Other windows may have the block's other cells. It has to be spent, by `join` or `into_block`.
 pub struct Win<T> {
-    pub(crate) cells: Vec<T>,
+    pub(crate) base: Base<T>,
+    pub(crate) cells: Cells<T>,
+    pub(crate) deed: Option<Deed<T>>,
+    pub(crate) whole: Shape,
+    pub(crate) low: Shape,
     pub(crate) shape: Shape,
 }
 
 impl<T> Model for Win<T> {
-    ghost use Rattle.strided_block.specs.Views.{Window, wide_window, IsFull};
+    ghost use Rattle.strided_block.specs.Deeds.{base_at, cells_at, cells_slots, IsOwner};
+    ghost use Rattle.strided_block.specs.Views.{Window, IsSound};
 
     ghost Value = { Window T };
 
-    ghost view = { λ w. wide_window w.cells.items w.shape };
+    ghost view = { λ w. record { block = cells_at w.cells; whole = w.whole; low = w.low; shape = w.shape; slots = cells_slots w.cells } };
 
-    ghost invariant = { λ w. IsFull w.shape w.cells.items };
-}
-
-// Writes the cell at a place.
-fn put<T: Copy>(all: &mut Vec<T>, at: usize, cell: T)
-    requires { at < length all.old.items }
-    ensures { all.new.items ≡ slice_set all.old.items at cell }
-{
-    all[at] = cell;
-}
-
-// Writes one cell everywhere.
-fn fill_slice<T: Copy>(all: &mut [T], cell: T)
-    ensures { (i : ℕ) (y : T) → i < length all.new → get_or all.new i y ≡ cell }
-{
-    for i in 0..all.len() {
-        all[i] = cell;
-    }
-}
-
-fn fill_all<T: Copy>(all: &mut Vec<T>, cell: T)
-    ensures long { length all.new.items ≡ length all.old.items }
-    ensures cells { (i : ℕ) (y : T) → i < length all.new.items → get_or all.new.items i y ≡ cell }
-{
-    fill_slice(all.as_mut_slice(), cell);
-}
-
-// Writes cells from a place on.
-fn put_run<T: Copy>(all: &mut Vec<T>, at: usize, cells: &[T])
-    requires { at + length cells.now ≤ length all.old.items }
-    ensures { all.new.items ≡ take at all.old.items ++ (cells.now ++ drop (at + length cells.now) all.old.items) }
-{
-    put_slice(all.as_mut_slice(), at, cells);
-}
-
-fn put_slice<T: Copy>(all: &mut [T], at: usize, cells: &[T])
-    requires { at + length cells.now ≤ length all.old }
-    ensures { all.new ≡ take at all.old ++ (cells.now ++ drop (at + length cells.now) all.old) }
-{
-    let end = at + cells.len();
-    all[at..end].copy_from_slice(cells);
-}
-
-// Writes the numbers of cells from a place on, 0 for a missing one.
-fn put_number_run<T: Elem>(all: &mut Vec<T>, at: usize, cells: &[Option<i128>])
-    requires { at + length cells.now ≤ length all.old.items }
-    ensures long { length all.new.items ≡ length all.old.items }
-    ensures cells { (i : ℕ) (z : T) → i < length cells.now → get_or all.new.items (at + i) z ≡ T.of (number_or_zero (get_or cells.now i None)) }
-    ensures others { (k : ℕ) (z : T) → (k < at) ⊎ (at + length cells.now ≤ k) → get_or all.new.items k z ≡ get_or all.old.items k z }
-{
-    put_numbers(all.as_mut_slice(), at, cells);
-}
-
-// Writes the mask's bytes of cells from a place on.
-fn put_byte_run(all: &mut Vec<u8>, at: usize, cells: &[Option<i128>])
-    requires { at + length cells.now ≤ length all.old.items }
-    ensures long { length all.new.items ≡ length all.old.items }
-    ensures cells { (i z : ℕ) → i < length cells.now → get_or all.new.items (at + i) z ≡ mask_byte (get_or cells.now i None) }
-    ensures others { (k z : ℕ) → (k < at) ⊎ (at + length cells.now ≤ k) → get_or all.new.items k z ≡ get_or all.old.items k z }
-{
-    put_bytes(all.as_mut_slice(), at, cells);
+    ghost invariant = { λ w. IsOwner (base_at w.base) (cells_at w.cells) (cells_slots w.cells) w.deed × IsSound record { block = cells_at w.cells; whole = w.whole; low = w.low; shape = w.shape; slots = cells_slots w.cells } };
 }
 
 impl Win<u8> {
@@ -97,8 +45,56 @@ impl Win<u8> {
         ensures written { (j : ℕ) → j < length cells.now → cell_at self.new (along point.now j) ≡ Some (mask_byte (get_or cells.now j None)) }
         ensures others { (cs : List ℕ) → IsPoint self.old.whole cs → ((j : ℕ) → j < length cells.now → ¬ (cs ≡ plus self.old.low (along point.now j))) → held self.new cs ≡ held self.old cs }
     {
-        let at = place_at(&self.shape, point);
-        put_byte_run(&mut self.cells, at, cells);
+        let base = self.base;
+        let at = self.place_of(point);
+        put_byte_run(&mut self.cells, base, at, cells);
+    }
+}
+
+impl<T> Win<T> {
+    // Where the cell of a point lies in row order.
+    pub(crate) fn place_of(&self, point: &Shape) -> usize
+        requires { IsPoint self.now.shape point.now }
+        ensures { result ≡ place self.now.whole (plus self.now.low point.now) }
+    {
+        place_in(
+            self.whole.as_slice(),
+            self.low.as_slice(),
+            point.as_slice(),
+        )
+    }
+
+    // Where the box begins, counted in steps.
+    pub(crate) fn start(&self) -> u64
+        ensures { result ≡ (window_sight self.now).start }
+    {
+        let steps = steps_of(&self.whole);
+        spot_of(0, steps.as_slice(), self.low.as_slice())
+    }
+
+    // Whether the cells of the points that agree before an axis lie side by side, in row order.
+    pub(crate) fn lies_together(&self, axis: usize) -> bool
+        ensures { result ≡ together (window_sight self.now) axis }
+    {
+        agree_from(
+            axis,
+            steps_of(&self.whole).as_slice(),
+            steps_of(&self.shape).as_slice(),
+        )
+    }
+
+    // The first axis from which on the cells lie side by side.
+    fn merged(&self) -> usize
+        ensures within { result ≤ length self.now.shape }
+        ensures first { together (window_sight self.now) result ≡ true }
+    {
+        let rank = self.shape.len();
+        for axis in 0..rank {
+            if self.lies_together(axis) {
+                return axis;
+            }
+        }
+        rank
     }
 }
 
@@ -110,8 +106,9 @@ impl<T: Elem + Drop> Win<T> {
         ensures written { (j : ℕ) → j < length cells.now → cell_at self.new (along point.now j) ≡ Some (T.of (number_or_zero (get_or cells.now j None))) }
         ensures others { (cs : List ℕ) → IsPoint self.old.whole cs → ((j : ℕ) → j < length cells.now → ¬ (cs ≡ plus self.old.low (along point.now j))) → held self.new cs ≡ held self.old cs }
     {
-        let at = place_at(&self.shape, point);
-        put_number_run(&mut self.cells, at, cells);
+        let base = self.base;
+        let at = self.place_of(point);
+        put_number_run(&mut self.cells, base, at, cells);
     }
 
     /// The window of a whole block.
@@ -120,9 +117,15 @@ impl<T: Elem + Drop> Win<T> {
         ensures shape { result.whole ≡ block.shape }
         ensures cells { result.slots ≡ map Some block.cells }
     {
+        let (base, cells, deed, shape) = block.into_parts();
+        let low = zeros_for(shape.as_slice());
         Win {
-            cells: block.cells,
-            shape: block.shape,
+            base,
+            cells,
+            deed,
+            whole: twin(&shape),
+            low,
+            shape,
         }
     }
 
@@ -139,10 +142,11 @@ impl<T: Elem + Drop> Win<T> {
         ensures cells { (ps : List ℕ) → IsPoint self.now.shape ps → shown result ps ≡ cell_at self.now ps }
     {
         View {
-            cells: self.cells.as_slice(),
-            start: 0,
+            cells: &self.cells,
+            base: self.base,
+            start: self.start(),
             shape: twin(&self.shape),
-            steps: steps_of(&self.shape),
+            steps: steps_of(&self.whole),
         }
     }
 
@@ -153,8 +157,9 @@ impl<T: Elem + Drop> Win<T> {
         ensures written { cell_at self.new point.now ≡ Some cell }
         ensures others { (cs : List ℕ) → IsPoint self.old.whole cs → ¬ (cs ≡ plus self.old.low point.now) → held self.new cs ≡ held self.old cs }
     {
-        let at = place_at(&self.shape, point);
-        put(&mut self.cells, at, cell);
+        let base = self.base;
+        let at = self.place_of(point);
+        put_cell(&mut self.cells, base, at, cell);
     }
 
     /// Writes cells from a point on along the last axis.
@@ -164,8 +169,9 @@ impl<T: Elem + Drop> Win<T> {
         ensures written { (j : ℕ) (x : T) → j < length cells.now → cell_at self.new (along point.now j) ≡ Some (get_or cells.now j x) }
         ensures others { (cs : List ℕ) → IsPoint self.old.whole cs → ((j : ℕ) → j < length cells.now → ¬ (cs ≡ plus self.old.low (along point.now j))) → held self.new cs ≡ held self.old cs }
     {
-        let at = place_at(&self.shape, point);
-        put_run(&mut self.cells, at, cells);
+        let base = self.base;
+        let at = self.place_of(point);
+        put_run(&mut self.cells, base, at, cells);
     }
 
     /// Where the cells of the line along an axis through a point lie.
@@ -173,13 +179,13 @@ impl<T: Elem + Drop> Win<T> {
         requires axis { axis < length self.now.shape }
         requires at { IsPoint self.now.shape at.now }
         ensures apart { 0 < result.step }
-        ensures within { (j : ℕ) → j < get_or self.now.shape axis 0 → result.first + j * result.step < length self.now.slots }
+        ensures within { (j : ℕ) → j < get_or self.now.shape axis 0 → IsThere self.now.slots (result.first + j * result.step) }
         ensures cells { (j : ℕ) → j < get_or self.now.shape axis 0 → place self.now.whole (plus self.now.low (slice_set at.now axis j)) ≡ result.first + j * result.step }
     {
         let mut begin = twin(at);
         begin.set(axis, 0);
-        let first = place_at(&self.shape, &begin);
-        let step = points(self.shape.as_slice().split_at(axis + 1).1) as usize;
+        let first = self.place_of(&begin);
+        let step = points(self.whole.as_slice().split_at(axis + 1).1) as usize;
         Places { first, step }
     }
 
@@ -189,7 +195,19 @@ impl<T: Elem + Drop> Win<T> {
         ensures cells { (p : List ℕ) → IsPoint self.old.shape p → cell_at self.new p ≡ Some cell }
         ensures others { KeptOutside self.old self.new }
     {
-        fill_all(&mut self.cells, cell);
+        let base = self.base;
+        let axis = self.merged();
+        let start = self.start();
+        let steps = steps_of(&self.whole);
+        fill_rows(
+            &mut self.cells,
+            base,
+            start,
+            &steps,
+            &self.shape,
+            axis,
+            cell,
+        );
     }
 
     /// The block of a window of the whole.
@@ -198,7 +216,19 @@ impl<T: Elem + Drop> Win<T> {
         ensures shape { result.shape ≡ self.whole }
         ensures cells { map Some result.cells ≡ self.slots }
     {
-        let Win { cells, shape } = self;
-        Block { cells, shape }
+        let Win {
+            base,
+            cells,
+            deed,
+            whole,
+            low: _,
+            shape: _,
+        } = self;
+        Block {
+            base,
+            cells,
+            deed,
+            shape: whole,
+        }
     }
 }

@@ -1,10 +1,15 @@
 //! A window whose cells are made from those of views, a run at a time.
 ghost use Rattle.std.specs.Prelude.{◌≡◌, ◌+◌, ◌*◌, ◌<◌, ◌≤◌, ◌^◌, ◌++◌, ◌⊎◌, ◌&&◌, ℕ, List, None, Some, true, length, get_or, map, take, drop};
 ghost use Rattle.xr_types.specs.Points.{size, place, IsPoint};
-ghost use Rattle.strided_block.specs.Views.{Cut, KeptOutside, shown, together, cell_at};
-ghost use Rattle.strided_block.specs.Zips.{Zips, point_at, stored};
+ghost use Rattle.strided_block.specs.Deeds.{base_at, cells_at, cells_slots};
+ghost use Rattle.strided_block.specs.Parts.{IsRun, Changes, InRun, AtPoint};
+ghost use Rattle.strided_block.specs.Steps.{spot};
+ghost use Rattle.strided_block.specs.Views.{Cut, KeptOutside, IsLaid, shown, together, cell_at, stepped_sight, window_sight};
+ghost use Rattle.strided_block.specs.Zips.{Zips, point_at};
 
-use crate::place::points;
+use crate::memory::{Base, Cells};
+use crate::place::{points, spot_of, steps_of};
+use crate::runs::fill_run;
 use crate::view::View;
 use crate::win::Win;
 use xr_types::{Elem, Shape};
@@ -47,43 +52,48 @@ fn point_of(sizes: &[u64], at: u64) -> Shape
     point
 }
 
-// Whether the cells of the points that agree before an axis lie side by side in all of the views.
-fn all_together<'v, A: Elem, B: Elem, C: Elem, D: Elem>(
+// Whether the cells of the points that agree before an axis lie side by side in all of the views and in a window.
+fn all_together<'v, A: Elem, B: Elem, C: Elem, D: Elem, T>(
     axis: usize,
     a: &View<'v, A>,
     b: &View<'v, B>,
     c: &View<'v, C>,
     d: &View<'v, D>,
+    out: &Win<T>,
 ) -> bool
-    ensures { result ≡ (together a.now axis && together b.now axis) && (together c.now axis && together d.now axis) }
+    ensures { result ≡ ((together a.now axis && together b.now axis) && (together c.now axis && together d.now axis)) && together (window_sight out.now) axis }
 {
     let first = a.lies_together(axis) && b.lies_together(axis);
     let last = c.lies_together(axis) && d.lies_together(axis);
-    first && last
+    let all = first && last;
+    all && out.lies_together(axis)
 }
 
-// The first axis from which on the cells of all of the views lie side by side.
-fn merged<'v, A: Elem, B: Elem, C: Elem, D: Elem>(
+// The first axis from which on the cells of all of the views and of a window lie side by side.
+fn merged<'v, A: Elem, B: Elem, C: Elem, D: Elem, T>(
     rank: usize,
     a: &View<'v, A>,
     b: &View<'v, B>,
     c: &View<'v, C>,
     d: &View<'v, D>,
+    out: &Win<T>,
 ) -> usize
-    requires { (length a.now.shape ≡ rank) × (length b.now.shape ≡ rank) × (length c.now.shape ≡ rank) × (length d.now.shape ≡ rank) }
+    requires views { (length a.now.shape ≡ rank) × (length b.now.shape ≡ rank) × (length c.now.shape ≡ rank) × (length d.now.shape ≡ rank) }
+    requires out { length out.now.shape ≡ rank }
     ensures within { result ≤ rank }
     ensures first { (together a.now result ≡ true) × (together b.now result ≡ true) }
     ensures last { (together c.now result ≡ true) × (together d.now result ≡ true) }
+    ensures out { together (window_sight out.now) result ≡ true }
 {
     for axis in 0..rank {
-        if all_together(axis, a, b, c, d) {
+        if all_together(axis, a, b, c, d, out) {
             return axis;
         }
     }
     rank
 }
 
-// Writes a run of the window's cells, which begins at a place in row order.
+// Writes a run of cells, from a place on.
 fn zip_lead<
     'v,
     A: Elem + Drop,
@@ -99,7 +109,8 @@ fn zip_lead<
     c: &View<'v, C>,
     d: &View<'v, D>,
     lead: &Shape,
-    all: &mut [T],
+    all: &mut Cells<T>,
+    base: Base<T>,
     at: usize,
 )
     requires callable { F.IsAlwaysCallable f.now }
@@ -107,22 +118,24 @@ fn zip_lead<
     requires lead { IsPoint (take (length lead.now) a.now.shape) lead.now }
     requires first { (together a.now (length lead.now) ≡ true) × (together b.now (length lead.now) ≡ true) }
     requires last { (together c.now (length lead.now) ≡ true) × (together d.now (length lead.now) ≡ true) }
-    requires room { at + size (drop (length lead.now) a.now.shape) ≤ length all.old }
-    ensures cells { (q : List ℕ) → IsPoint (drop (length lead.now) a.now.shape) q → Zips (F.post f.now) (shown a.now (lead.now ++ q)) (shown b.now (lead.now ++ q)) (shown c.now (lead.now ++ q)) (shown d.now (lead.now ++ q)) (get_or (map Some all.new) (at + place (drop (length lead.now) a.now.shape) q) None) }
-    ensures others { (k : ℕ) (z : T) → (k < at) ⊎ (at + size (drop (length lead.now) a.now.shape) ≤ k) → get_or all.new k z ≡ get_or all.old k z }
+    requires room { (base_at base ≡ cells_at all.old) × IsRun (cells_slots all.old) at (size (drop (length lead.now) a.now.shape)) }
+    ensures block { cells_at all.new ≡ cells_at all.old }
+    ensures others { Changes (cells_slots all.old) (cells_slots all.new) (InRun at (size (drop (length lead.now) a.now.shape))) }
+    ensures cells { (q : List ℕ) → IsPoint (drop (length lead.now) a.now.shape) q → Zips (F.post f.now) (shown a.now (lead.now ++ q)) (shown b.now (lead.now ++ q)) (shown c.now (lead.now ++ q)) (shown d.now (lead.now ++ q)) (get_or (cells_slots all.new) (at + place (drop (length lead.now) a.now.shape) q) None) }
 {
+    let first = a.run(lead);
     zip_run(
         f,
-        a.run(lead),
+        first,
         b.run(lead),
         c.run(lead),
         d.run(lead),
-        all,
-        at,
+        all.run_mut(base, at, first.len()),
+        0,
     );
 }
 
-// Writes all runs of a window of a whole block.
+// Writes all cells of a window, a run after another.
 fn zip_rows<
     'v,
     A: Elem + Drop,
@@ -138,17 +151,52 @@ fn zip_rows<
     c: &View<'v, C>,
     d: &View<'v, D>,
     axis: usize,
-    all: &mut [T],
+    all: &mut Cells<T>,
+    base: Base<T>,
+    start: u64,
+    steps: &Shape,
 )
     requires callable { F.IsAlwaysCallable f.now }
     requires shapes { (b.now.shape ≡ a.now.shape) × (c.now.shape ≡ a.now.shape) × (d.now.shape ≡ a.now.shape) }
     requires axis { (axis ≤ length a.now.shape) × (length a.now.shape ≤ 16) }
     requires first { (together a.now axis ≡ true) × (together b.now axis ≡ true) }
     requires last { (together c.now axis ≡ true) × (together d.now axis ≡ true) }
-    requires room { (length all.old ≡ size a.now.shape) × (length all.old < 2 ^ 63) }
-    ensures { (p : List ℕ) → IsPoint a.now.shape p → Zips (F.post f.now) (shown a.now p) (shown b.now p) (shown c.now p) (shown d.now p) (stored a.now.shape all.new p) }
+    requires base { base_at base ≡ cells_at all.old }
+    requires laid { IsLaid (cells_slots all.old) start steps.now a.now.shape × (together (stepped_sight (cells_slots all.old) start steps.now a.now.shape) axis ≡ true) }
+    ensures block { cells_at all.new ≡ cells_at all.old }
+    ensures others { Changes (cells_slots all.old) (cells_slots all.new) (AtPoint start steps.now a.now.shape) }
+    ensures cells { (p : List ℕ) → IsPoint a.now.shape p → Zips (F.post f.now) (shown a.now p) (shown b.now p) (shown c.now p) (shown d.now p) (get_or (cells_slots all.new) (spot start steps.now p) None) }
 {
     let (outer, inner) = a.shape().as_slice().split_at(axis);
+    if points(inner) == 0 {
+        return;
+    }
+    let rows = points(outer);
+    for row in 0..rows {
+        let lead = point_of(outer, row);
+        let at = spot_of(start, steps.as_slice(), lead.as_slice()) as usize;
+        zip_lead(f, a, b, c, d, &lead, all, base, at);
+    }
+}
+
+/// Writes one cell at all points of a window, a run after another.
+pub(crate) fn fill_rows<T: Copy>(
+    all: &mut Cells<T>,
+    base: Base<T>,
+    start: u64,
+    steps: &Shape,
+    shape: &Shape,
+    axis: usize,
+    item: T,
+)
+    requires axis { axis ≤ length shape.now }
+    requires base { base_at base ≡ cells_at all.old }
+    requires laid { IsLaid (cells_slots all.old) start steps.now shape.now × (together (stepped_sight (cells_slots all.old) start steps.now shape.now) axis ≡ true) }
+    ensures block { cells_at all.new ≡ cells_at all.old }
+    ensures others { Changes (cells_slots all.old) (cells_slots all.new) (AtPoint start steps.now shape.now) }
+    ensures cells { (p : List ℕ) → IsPoint shape.now p → get_or (cells_slots all.new) (spot start steps.now p) None ≡ Some item }
+{
+    let (outer, inner) = shape.as_slice().split_at(axis);
     let count = points(inner) as usize;
     if count == 0 {
         return;
@@ -156,37 +204,9 @@ fn zip_rows<
     let rows = points(outer);
     for row in 0..rows {
         let lead = point_of(outer, row);
-        zip_lead(f, a, b, c, d, &lead, all, row as usize * count);
+        let at = spot_of(start, steps.as_slice(), lead.as_slice()) as usize;
+        fill_run(all, base, at, count, item);
     }
-}
-
-fn zip_vec<
-    'v,
-    A: Elem + Drop,
-    B: Elem + Drop,
-    C: Elem + Drop,
-    D: Elem + Drop,
-    T: Elem + Drop,
-    F: Fn(A, B, C, D) -> T,
->(
-    f: &F,
-    a: &View<'v, A>,
-    b: &View<'v, B>,
-    c: &View<'v, C>,
-    d: &View<'v, D>,
-    axis: usize,
-    all: &mut Vec<T>,
-)
-    requires callable { F.IsAlwaysCallable f.now }
-    requires shapes { (b.now.shape ≡ a.now.shape) × (c.now.shape ≡ a.now.shape) × (d.now.shape ≡ a.now.shape) }
-    requires axis { (axis ≤ length a.now.shape) × (length a.now.shape ≤ 16) }
-    requires first { (together a.now axis ≡ true) × (together b.now axis ≡ true) }
-    requires last { (together c.now axis ≡ true) × (together d.now axis ≡ true) }
-    requires room { (length all.old.items ≡ size a.now.shape) × (length all.old.items < 2 ^ 63) }
-    ensures long { length all.new.items ≡ length all.old.items }
-    ensures cells { (p : List ℕ) → IsPoint a.now.shape p → Zips (F.post f.now) (shown a.now p) (shown b.now p) (shown c.now p) (shown d.now p) (stored a.now.shape all.new.items p) }
-{
-    zip_rows(f, a, b, c, d, axis, all.as_mut_slice());
 }
 
 /// Writes what a function gives of the cells of four views at each point of a window.
@@ -206,6 +226,20 @@ pub fn zip_cells<
     ensures cells { (p : List ℕ) → IsPoint out.old.shape p → Zips (F.post f) (shown a.now p) (shown b.now p) (shown c.now p) (shown d.now p) (cell_at out.new p) }
     ensures others { KeptOutside out.old out.new }
 {
-    let axis = merged(a.shape().len(), a, b, c, d);
-    zip_vec(&f, a, b, c, d, axis, &mut out.cells);
+    let axis = merged(a.shape().len(), a, b, c, d, out);
+    let base = out.base;
+    let start = out.start();
+    let steps = steps_of(&out.whole);
+    zip_rows(
+        &f,
+        a,
+        b,
+        c,
+        d,
+        axis,
+        &mut out.cells,
+        base,
+        start,
+        &steps,
+    );
 }

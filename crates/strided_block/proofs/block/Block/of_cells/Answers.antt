@@ -1,11 +1,9 @@
-use Rattle.std.proofs.Common.{map, get_or, ap, ◌∙◌}
-use Rattle.std.specs.Prelude.{Some, None}
-use Rattle.xr_types.specs.Points.{place}
+use Rattle.std.proofs.Common.{◌≡◌}
 use Rattle.strided_block.specs.Typed.{number_or_zero}
-use Rattle.strided_block.proofs.Puts.{made_kept}
+use Rattle.strided_block.proofs.Puts.{block_kept, if_ok}
 use Rattle.strided_block.proofs.block.Block.of_cells.Goals as goal
 
 pub returns-clause-cells : goal.returns-clause-cells
-returns-clause-cells g c = λ p i.
-    ap (λ s. get_or (map Some c.in_ok-cells.cells.items) (place s p) None) c.twin.ensures
-    ∙ made_kept (λ v. g.T.Elem.of (number_or_zero v)) c.args.cells.now c.in_ok-cells.cells.items c.args.shape.now p c.in_ok-cells.ensures.long c.requires c.in_ok-cells.ensures.cells i
+returns-clause-cells g c =
+    if_ok (λ b. b ≡ record { shape = c.args.shape.now; cells = c.as_slice.result.now }) _ c.of_slice.result
+    (λ b e p i. block_kept (λ v. g.T.Elem.of (number_or_zero v)) c.args.cells.now c.in_ok-cells.cells.items c.as_slice.result.now b c.args.shape.now p e c.as_slice.ensures.value c.in_ok-cells.ensures.long c.requires c.in_ok-cells.ensures.cells i) c.of_slice.ensures
