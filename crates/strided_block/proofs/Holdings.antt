@@ -108,6 +108,9 @@ module _ {X : Type 0} where
       ];
     }
 
+    pub put_changes_in : (m : ℕ) → n ≡ m → Changes cs ds (InRun at m)
+    put_changes_in m e = subst (λ k. Changes cs ds (InRun at k)) e put_changes
+
   -- ---- changes one after another
 
   pub no_change : (cs : List (Option X)) (P : ℕ → Type 0) → Changes cs cs P

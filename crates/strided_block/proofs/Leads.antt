@@ -44,7 +44,7 @@ same_from steps shape k long e = elim (cases_lt k (length shape)) [
 ]
 
 -- a lead and a point behind it
-join_point : (ns ps q : List ℕ) → IsPoint (take (length ps) ns) ps → IsPoint (drop (length ps) ns) q → IsPoint ns (ps ++ q)
+pub join_point : (ns ps q : List ℕ) → IsPoint (take (length ps) ns) ps → IsPoint (drop (length ps) ns) q → IsPoint ns (ps ++ q)
 join_point ns [] q i j = j
 join_point [] (p ∷ ps) q i j = absurd i
 join_point (n ∷ ns) (p ∷ ps) q i j = (i.0, join_point ns ps q i.1 j)

@@ -65,6 +65,17 @@ place_plus (n ∷ ns) [] ps a b = absurd (omega arith)
 place_plus (n ∷ ns) (l ∷ ls) [] a b = absurd (omega arith)
 place_plus (n ∷ ns) (l ∷ ls) (p ∷ ps) a b = spread l p (size ns) (place ns ls) (place ns ps) ∙ ap (λ r. (l + p) * size ns + r) (place_plus ns ls ps (omega arith) (omega arith))
 
+times_most : (s n a b : ℕ) → s ≤ n → a ≤ b → s * a ≤ n * b
+times_most s n a b h k = grind arith
+
+pub fits_size : (ns ls ss : List ℕ) → Fits ns ls ss → size ss ≤ size ns
+fits_size [] [] [] f = omega arith
+fits_size [] [] (s ∷ ss) f = absurd f
+fits_size [] (l ∷ ls) ss f = absurd f
+fits_size (n ∷ ns) [] ss f = absurd f
+fits_size (n ∷ ns) (l ∷ ls) [] f = absurd f
+fits_size (n ∷ ns) (l ∷ ls) (s ∷ ss) f = let h = f.0 in times_most s n (size ss) (size ns) (omega arith) (fits_size ns ls ss f.1)
+
 module _ {X : Type 0} (w : Window X) (so : IsSound w) where
   pub lows : (length w.low ≡ length w.whole) × (length w.shape ≡ length w.whole)
   lows = fits_long w.whole w.low w.shape so.fits
@@ -291,16 +302,26 @@ module _ {X : Type 0} (v w : Window X) (e : v ≡ w) (so : IsSound v) where
     pub all_cell : (p : List ℕ) → IsPoint w.shape p → cell_at (after v.block ds (AtPoint start steps shape) changes) p ≡ get_or ds (spot start steps p) None
     all_cell p i = ap (λ k. get_or ds k None) (sym (spot_is p (now_point p i)))
 
-    all_point : (p : List ℕ) → IsPoint w.shape p → IsPoint shape p
+    pub all_point : (p : List ℕ) → IsPoint w.shape p → IsPoint shape p
     all_point p i = subst (λ s. IsPoint s p) (sym sizes) (now_point p i)
 
   pub all_laid : (start : ℕ) (steps shape : List ℕ) → start ≡ spot 0 (row_steps v.whole) v.low → steps ≡ row_steps v.whole → shape ≡ v.shape → IsLaid v.slots start steps shape
   all_laid start steps shape a b c =
       let P : ℕ × List ℕ × List ℕ → Type 0 = λ t. IsLaid v.slots t.0 t.1 t.2 in subst P (λ k. (sym a k, sym b k, sym c k)) (window_laid v so)
 
+  pub all_small : (shape : List ℕ) → shape ≡ v.shape → size shape < 9223372036854775808
+  all_small shape c = let f = fits_size v.whole v.low v.shape so.fits in let n = ap size c in let m = whole_small v so in omega arith
+
   module _ (start : ℕ) (steps shape : List ℕ) (a : start ≡ (window_sight w).start) (b : steps ≡ row_steps v.whole) (c : shape ≡ v.shape) where
-    start_is : start ≡ spot 0 (row_steps v.whole) v.low
+    pub start_is : start ≡ spot 0 (row_steps v.whole) v.low
     start_is = a ∙ ap (λ u. (window_sight u).start) (sym e)
+
+    pub now_laid : IsLaid v.slots start steps shape
+    now_laid = all_laid start steps shape start_is b c
+
+    pub all_together : (k : ℕ) → together (window_sight w) k ≡ true → together (stepped_sight v.slots start steps shape) k ≡ true
+    all_together k h = (λ i. leb (length (c i)) k || bytes_eq (drop k (b i)) (drop k (row_steps (c i)))) ∙ ap (λ u. together (window_sight u) k) e ∙ h
+
 
     pub view_clear : IsClear v.slots start steps shape
     view_clear = (all_laid start steps shape start_is b c).clear

@@ -4,7 +4,7 @@ use Rattle.std.proofs.lemmas.Nat.{div-add-mod', div_below, mod_below}
 use Rattle.std.proofs.Math.Nat.{mul_comm}
 use Rattle.xr_types.specs.Points.{size, place, IsPoint}
 use Rattle.strided_block.specs.Zips.{point_at}
-use Rattle.strided_block.proofs.Boxes.{within}
+use Rattle.strided_block.proofs.Boxes.{within, place_below, point_drop}
 
 pub lead_point : (ns p : List ℕ) (k : ℕ) → IsPoint ns p → IsPoint (take k ns) (take k p)
 lead_point ns p zero i = tt
@@ -101,6 +101,13 @@ counts s k n row is some lt small =
     let a = at_least r m (omega arith) in let b = at_least m r (omega arith) in let turn = mul_comm m r in
     let exact : n ≡ m = omega arith in let near = within row r m (omega arith) in
     record { count = exact; inside = omega arith; small = omega arith; room = rw exact (omega arith) }
+
+-- what code counts, by the shape
+pub part_is : (n : ℕ) (part slice shape : List ℕ) (f : List ℕ → List ℕ) → n ≡ min (size part) 18446744073709551615 → part ≡ f slice → slice ≡ shape → n ≡ min (size (f shape)) 18446744073709551615
+part_is n part slice shape f a b c = a ∙ ap (λ l. min (size l) 18446744073709551615) (b ∙ ap f c)
+
+pub none_there : {P : Type 0} (s p : List ℕ) (k n : ℕ) → n ≡ min (size (drop k s)) 18446744073709551615 → n ≡ 0 → IsPoint s p → P
+none_there s p k n is none i = let b = place_below (drop k s) (drop k p) (point_drop s p k i) in absurd (omega arith)
 
 pub lead_long : (s : List ℕ) (k row : ℕ) (lead : List ℕ) → lead ≡ point_at (take k s) row → k ≤ length s → length lead ≡ k
 lead_long s k row lead e le = let l : length (take k s) ≡ k = omega (arith, length-take k s) in ap length e ∙ point_at_long (take k s) row ∙ l

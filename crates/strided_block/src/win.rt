@@ -1,7 +1,8 @@
 //! Windows: owned cells of a block, to be written.
-ghost use Rattle.std.specs.Prelude.{◌≡◌, ◌+◌, ◌-◌, ◌*◌, ◌<◌, ◌≤◌, ℕ, List, Option, Some, length, get_or, map, slice_set, None, true};
+ghost use Rattle.std.specs.Prelude.{◌≡◌, ◌+◌, ◌-◌, ◌*◌, ◌<◌, ◌≤◌, ℕ, List, Option, Some, length, get_or, map, slice_set, None, true, nat_lt, if◌then◌else◌, ◌⊎◌};
 ghost use Rattle.xr_types.specs.Points.{place, IsPoint};
 ghost use Rattle.strided_block.specs.Boxes.{plus, along, IsRow};
+ghost use Rattle.strided_block.specs.Parts.{either};
 ghost use Rattle.strided_block.specs.Typed.{number_or_zero, mask_byte};
 ghost use Rattle.strided_block.specs.Views.{Cut, KeptOutside, SameIn, Halves, IsWhole, IsThere, shown, held, cell_at, window_sight, together};
 
@@ -35,6 +36,42 @@ impl<T> Model for Win<T> {
     ghost view = { λ w. record { block = cells_at w.cells; whole = w.whole; low = w.low; shape = w.shape; slots = cells_slots w.cells } };
 
     ghost invariant = { λ w. IsOwner (base_at w.base) (cells_at w.cells) (cells_slots w.cells) w.deed × IsSound record { block = cells_at w.cells; whole = w.whole; low = w.low; shape = w.shape; slots = cells_slots w.cells } };
+}
+
+// The numbers of the axes, another at one of them.
+fn with_number(numbers: &Shape, axis: usize, number: u64) -> Shape
+    requires { axis < length numbers.now }
+    ensures { result ≡ slice_set numbers.now axis number }
+{
+    let mut all = twin(numbers);
+    all.set(axis, number);
+    all
+}
+
+// The right to free the block, where a window is parted at a bound: it goes with the block's first cell.
+fn part_deed<T>(deed: Option<Deed<T>>, bound: u64) -> (Option<Deed<T>>, Option<Deed<T>>)
+    ensures first { result.0 ≡ (if nat_lt 0 bound then deed else None) }
+    ensures second { result.1 ≡ (if nat_lt 0 bound then None else deed) }
+{
+    if 0 < bound {
+        (deed, None)
+    } else {
+        (None, deed)
+    }
+}
+
+// The right of one of two windows.
+fn joined_deed<T>(first: Option<Deed<T>>, second: Option<Deed<T>>) -> Option<Deed<T>>
+    requires { (first ≡ None) ⊎ (second ≡ None) }
+    ensures { result ≡ either first second }
+{
+    match first {
+        Some(deed) => {
+            let None = second else { unreachable!() };
+            Some(deed)
+        }
+        None => second,
+    }
 }
 
 impl Win<u8> {
@@ -208,6 +245,84 @@ impl<T: Elem + Drop> Win<T> {
             axis,
             cell,
         );
+    }
+
+    /// The part below `at` along an axis, and the rest.
+    pub fn split(self, axis: usize, at: u64) -> (Win<T>, Win<T>)
+        requires axis { axis < length self.shape }
+        requires at { at ≤ get_or self.shape axis 0 }
+        ensures first { Cut self result.0 self.low (slice_set self.shape axis at) × SameIn result.0 self }
+        ensures second { Cut self result.1 (slice_set self.low axis (get_or self.low axis 0 + at)) (slice_set self.shape axis (get_or self.shape axis 0 - at)) × SameIn result.1 self }
+    {
+        let Win {
+            base,
+            cells,
+            deed,
+            whole,
+            low,
+            shape,
+        } = self;
+        let bound = low.as_slice()[axis] + at;
+        let rest = shape.as_slice()[axis] - at;
+        let size = whole.as_slice()[axis];
+        let step = points(whole.as_slice().split_at(axis + 1).1);
+        let (one, two) = cells.cut(step, size, bound);
+        let (first, second) = part_deed(deed, bound);
+        let first_shape = with_number(&shape, axis, at);
+        let second_low = with_number(&low, axis, bound);
+        let second_shape = with_number(&shape, axis, rest);
+        (
+            Win {
+                base,
+                cells: one,
+                deed: first,
+                whole: twin(&whole),
+                low,
+                shape: first_shape,
+            },
+            Win {
+                base,
+                cells: two,
+                deed: second,
+                whole,
+                low: second_low,
+                shape: second_shape,
+            },
+        )
+    }
+
+    /// The two halves of a split, as one window.
+    pub fn join(self, other: Win<T>, axis: usize) -> Win<T>
+        requires axis { axis < length self.shape }
+        requires halves { Halves self other axis }
+        ensures place { Cut self result self.low (slice_set self.shape axis (get_or self.shape axis 0 + get_or other.shape axis 0)) }
+        ensures cells { SameIn self result × SameIn other result }
+    {
+        let Win {
+            base,
+            cells,
+            deed,
+            whole,
+            low,
+            shape,
+        } = self;
+        let Win {
+            base: _,
+            cells: others,
+            deed: second,
+            whole: _,
+            low: _,
+            shape: rest,
+        } = other;
+        let size = shape.as_slice()[axis] + rest.as_slice()[axis];
+        Win {
+            base,
+            cells: cells.meet(others),
+            deed: joined_deed(deed, second),
+            whole,
+            low,
+            shape: with_number(&shape, axis, size),
+        }
     }
 
     /// The block of a window of the whole.

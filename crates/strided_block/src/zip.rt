@@ -159,6 +159,7 @@ fn zip_rows<
     requires callable { F.IsAlwaysCallable f.now }
     requires shapes { (b.now.shape ≡ a.now.shape) × (c.now.shape ≡ a.now.shape) × (d.now.shape ≡ a.now.shape) }
     requires axis { (axis ≤ length a.now.shape) × (length a.now.shape ≤ 16) }
+    requires small { size a.now.shape < 2 ^ 63 }
     requires first { (together a.now axis ≡ true) × (together b.now axis ≡ true) }
     requires last { (together c.now axis ≡ true) × (together d.now axis ≡ true) }
     requires base { base_at base ≡ cells_at all.old }
@@ -190,6 +191,7 @@ pub(crate) fn fill_rows<T: Copy>(
     item: T,
 )
     requires axis { axis ≤ length shape.now }
+    requires small { size shape.now < 2 ^ 63 }
     requires base { base_at base ≡ cells_at all.old }
     requires laid { IsLaid (cells_slots all.old) start steps.now shape.now × (together (stepped_sight (cells_slots all.old) start steps.now shape.now) axis ≡ true) }
     ensures block { cells_at all.new ≡ cells_at all.old }

@@ -1,8 +1,16 @@
-use Rattle.std.proofs.Common.{◌<◌, ℕ, List, take}
+use Rattle.std.proofs.Common.{◌≡◌, ◌<◌, ℕ, List, take, get_or}
+use Rattle.std.specs.Prelude.{None}
 use Rattle.xr_types.specs.Points.{place, IsPoint}
+use Rattle.strided_block.specs.Deeds.{cells_at, cells_slots}
+use Rattle.strided_block.specs.Parts.{Changes, AtPoint}
+use Rattle.strided_block.specs.Steps.{spot}
 use Rattle.strided_block.specs.Views.{shown}
-use Rattle.strided_block.specs.Zips.{Zips, stored}
+use Rattle.strided_block.specs.Zips.{Zips}
 use Rattle.strided_block.proofs.zip.zip_rows.Given as goal
 
 abbrev pub invariant-loop-row : goal.invariant-loop-row
-invariant-loop-row g l = (p : List ℕ) → IsPoint l.a.shape p → place (take l.axis l.a.shape) (take l.axis p) < l.row → Zips (goal.F-post g l.f) (shown l.a p) (shown l.b p) (shown l.c p) (shown l.d p) (stored l.a.shape l.all p)
+invariant-loop-row g l = record {
+  block : cells_at l.all ≡ cells_at l.fn.all;
+  others : Changes (cells_slots l.fn.all) (cells_slots l.all) (AtPoint l.start l.steps l.a.shape);
+  cells : (p : List ℕ) → IsPoint l.a.shape p → place (take l.axis l.a.shape) (take l.axis p) < l.row → Zips (goal.F-post g l.f) (shown l.a p) (shown l.b p) (shown l.c p) (shown l.d p) (get_or (cells_slots l.all) (spot l.start l.steps p) None);
+}
