@@ -1,6 +1,8 @@
 pub mod Boxes
 pub mod CellLaws
+pub mod Halves
 pub mod Holdings
+pub mod Joins
 pub mod Laid
 pub mod Leads
 pub mod Lines

@@ -38,6 +38,14 @@ impl<T> Model for Win<T> {
     ghost invariant = { λ w. IsOwner (base_at w.base) (cells_at w.cells) (cells_slots w.cells) w.deed × IsSound record { block = cells_at w.cells; whole = w.whole; low = w.low; shape = w.shape; slots = cells_slots w.cells } };
 }
 
+// The number of an axis.
+fn number_at(numbers: &Shape, axis: usize) -> u64
+    requires { axis < length numbers.now }
+    ensures { result ≡ get_or numbers.now axis 0 }
+{
+    numbers.as_slice()[axis]
+}
+
 // The numbers of the axes, another at one of them.
 fn with_number(numbers: &Shape, axis: usize, number: u64) -> Shape
     requires { axis < length numbers.now }
@@ -262,9 +270,9 @@ impl<T: Elem + Drop> Win<T> {
             low,
             shape,
         } = self;
-        let bound = low.as_slice()[axis] + at;
-        let rest = shape.as_slice()[axis] - at;
-        let size = whole.as_slice()[axis];
+        let size = number_at(&whole, axis);
+        let bound = number_at(&low, axis) + at;
+        let rest = number_at(&shape, axis) - at;
         let step = points(whole.as_slice().split_at(axis + 1).1);
         let (one, two) = cells.cut(step, size, bound);
         let (first, second) = part_deed(deed, bound);
@@ -314,7 +322,8 @@ impl<T: Elem + Drop> Win<T> {
             low: _,
             shape: rest,
         } = other;
-        let size = shape.as_slice()[axis] + rest.as_slice()[axis];
+        let _most = number_at(&whole, axis);
+        let size = number_at(&shape, axis) + number_at(&rest, axis);
         Win {
             base,
             cells: cells.meet(others),
