@@ -11,7 +11,6 @@ pub mod Owners
 pub mod Orders
 pub mod Places
 pub mod Puts
-pub mod Rows
 pub mod Sharing
 pub mod Sights
 pub mod Sounds

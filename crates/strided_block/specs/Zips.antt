@@ -1,6 +1,6 @@
 -- A cell that a relation ties to the cells of four views.
-use Rattle.std.specs.Prelude.{◌≡◌, ◌/◌, ◌%◌, ℕ, List, [], ◌∷◌, map, get_or, Option, Some, None}
-use Rattle.xr_types.specs.Points.{size, place}
+use Rattle.std.specs.Prelude.{◌≡◌, ◌/◌, ◌%◌, ℕ, List, [], ◌∷◌, Option, Some}
+use Rattle.xr_types.specs.Points.{size}
 
 -- all cells are there, and the relation holds of them
 pub record Zips {A B C D T : Type 0} (R : A → B → C → D → T → Type 0) (a : Option A) (b : Option B) (c : Option C) (d : Option D) (r : Option T) : Type 0 where
@@ -20,7 +20,3 @@ pub record Zips {A B C D T : Type 0} (R : A → B → C → D → T → Type 0) 
 abbrev pub point_at : List ℕ → ℕ → List ℕ
 point_at [] i = []
 point_at (n ∷ ns) i = (i / size ns) ∷ point_at ns (i % size ns)
-
--- the cell at a point of a block whose cells stand in row order
-abbrev pub stored : {X : Type 0} → List ℕ → List X → List ℕ → Option X
-stored shape cells p = get_or (map Some cells) (place shape p) None

@@ -95,12 +95,3 @@ pub(crate) fn place_in(whole: &[u64], low: &[u64], point: &[u64]) -> usize
     }
     at as usize
 }
-
-/// The place in row order of a point of a block.
-pub(crate) fn place_at(whole: &Shape, point: &Shape) -> usize
-    requires inside { IsPoint whole.now point.now }
-    requires small { size whole.now < 2 ^ 63 }
-    ensures { result ≡ place whole.now point.now }
-{
-    place_in(whole.as_slice(), point.as_slice(), &[])
-}
