@@ -1,8 +1,9 @@
 -- What blocks, views and windows of cells with their mask show and hold: at each point a number or a missing cell.
-use Rattle.std.specs.Prelude.{◌≡◌, ℕ, ℤ, List, Option}
-use Rattle.strided_block.specs.Boxes.{plus}
+use Rattle.std.specs.Prelude.{◌≡◌, ℕ, ℤ, true, List, Option}
+use Rattle.xr_types.specs.Points.{IsPoint}
+use Rattle.strided_block.specs.Boxes.{plus, in_box}
 use Rattle.strided_block.specs.Views.{shown, kept, held}
-use Rattle.strided_block.specs.Typed.{unless_hidden, number_shown, number_kept, number_held, win_kind, win_box}
+use Rattle.strided_block.specs.Typed.{unless_hidden, number_shown, number_kept, number_held, win_kind, win_box, win_block, Box, box_of}
 use Rattle.strided_block.specs.declared.cells.CellBlock.{CellBlock}
 use Rattle.strided_block.specs.declared.cells.CellView.{CellView}
 use Rattle.strided_block.specs.declared.cells.CellWin.{CellWin}
@@ -27,3 +28,19 @@ cell_in w p = cell_held w (plus w.mask.low p)
 pub record SameWindow (w v : CellWin) : Type 0 where
   pub kind : win_kind v.cells ≡ win_kind w.cells
   pub place : win_box v.cells ≡ win_box w.cells
+
+-- v is of the blocks of w
+pub record SameBlocks (w v : CellWin) : Type 0 where
+  pub cells : win_block v.cells ≡ win_block w.cells
+  pub mask : v.mask.block ≡ w.mask.block
+
+-- v holds what w holds at the points of v's box
+abbrev pub SameCells : CellWin → CellWin → Type 0
+SameCells v w = (cs : List ℕ) → IsPoint w.mask.whole cs → in_box v.mask.low v.mask.shape cs ≡ true → cell_held v cs ≡ cell_held w cs
+
+-- v is of w's blocks and kind, has this box, and holds there what w holds
+pub record IsPart (w v : CellWin) (b : Box) : Type 0 where
+  pub blocks : SameBlocks w v
+  pub kind : win_kind v.cells ≡ win_kind w.cells
+  pub place : box_of v.mask ≡ b
+  pub cells : SameCells v w

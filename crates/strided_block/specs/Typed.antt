@@ -1,8 +1,10 @@
 -- Blocks, views and windows of cells of one kind: their kind, their sizes, and the numbers at their points.
-use Rattle.std.specs.Prelude.{◌≡◌, ℕ, ℤ, zero, suc, pos, List, Option, Some, None, option_map}
+use Rattle.std.specs.Prelude.{◌≡◌, ◌+◌, ◌-◌, ℕ, ℤ, zero, suc, pos, true, List, get_or, slice_set, Option, Some, None, option_map}
+use denote.RawPtr.{Ptr}
+use Rattle.xr_types.specs.Points.{IsPoint}
 use Rattle.xr_types.specs.declared.kind.DType.{DType}
 use Rattle.xr_types.specs.declared.kind.DType.TheVariants as kinds
-use Rattle.strided_block.specs.Boxes.{zeros}
+use Rattle.strided_block.specs.Boxes.{zeros, in_box}
 use Rattle.strided_block.specs.Views.{Window, shown, kept, held}
 use Rattle.strided_block.specs.declared.typed.TypedBlock.{TypedBlock}
 use Rattle.strided_block.specs.declared.typed.TypedBlock.TheVariants as blocks
@@ -162,3 +164,44 @@ number_held (windows.UInt8 w) cs = option_map pos (held w cs)
 number_held (windows.UInt16 w) cs = option_map pos (held w cs)
 number_held (windows.UInt32 w) cs = option_map pos (held w cs)
 number_held (windows.UInt64 w) cs = option_map pos (held w cs)
+
+-- ---- windows that are split and joined
+
+-- which block a window is of
+abbrev pub win_block : TypedWin → Ptr
+win_block (windows.Bool w) = w.block
+win_block (windows.Char w) = w.block
+win_block (windows.Int8 w) = w.block
+win_block (windows.Int16 w) = w.block
+win_block (windows.Int32 w) = w.block
+win_block (windows.Int64 w) = w.block
+win_block (windows.UInt8 w) = w.block
+win_block (windows.UInt16 w) = w.block
+win_block (windows.UInt32 w) = w.block
+win_block (windows.UInt64 w) = w.block
+
+-- the part of a box below a position along an axis, and the rest
+abbrev pub low_part : Box → ℕ → ℕ → Box
+low_part b axis at = record { whole = b.whole; low = b.low; shape = slice_set b.shape axis at }
+
+abbrev pub high_part : Box → ℕ → ℕ → Box
+high_part b axis at = record { whole = b.whole; low = slice_set b.low axis (get_or b.low axis 0 + at); shape = slice_set b.shape axis (get_or b.shape axis 0 - at) }
+
+-- c goes on along the axis where b ends
+pub record AreHalves (b c : Box) (axis : ℕ) : Type 0 where
+  pub whole : c.whole ≡ b.whole
+  pub low : c.low ≡ slice_set b.low axis (get_or b.low axis 0 + get_or b.shape axis 0)
+  pub shape : c.shape ≡ slice_set b.shape axis (get_or c.shape axis 0)
+
+-- both of them
+abbrev pub both_parts : Box → Box → ℕ → Box
+both_parts b c axis = record { whole = b.whole; low = b.low; shape = slice_set b.shape axis (get_or b.shape axis 0 + get_or c.shape axis 0) }
+
+-- v is of w's block and kind
+pub record OfBlock (w v : TypedWin) : Type 0 where
+  pub kind : win_kind v ≡ win_kind w
+  pub block : win_block v ≡ win_block w
+
+-- v holds what w holds at the points of v's box
+abbrev pub SameNumbers : TypedWin → TypedWin → Type 0
+SameNumbers v w = (cs : List ℕ) → IsPoint (win_box w).whole cs → in_box (win_box v).low (win_box v).shape cs ≡ true → number_held v cs ≡ number_held w cs

@@ -245,13 +245,13 @@ impl<'a> CellView<'a> {
 }
 
 impl CellWin {
-    ghost use Rattle.std.specs.Prelude.{◌≡◌, ◌<◌, ℕ, List, Option, None, length, get_or, All};
+    ghost use Rattle.std.specs.Prelude.{◌≡◌, ◌<◌, ◌≤◌, ℕ, List, Option, None, length, get_or, All};
     ghost use Rattle.xr_types.specs.Points.{IsPoint};
     ghost use Rattle.xr_arrays.specs.Arrays.{IsCell};
     ghost use Rattle.strided_block.specs.Boxes.{plus, along, IsRow};
-    ghost use Rattle.strided_block.specs.Typed.{view_kind, block_kind, win_kind};
+    ghost use Rattle.strided_block.specs.Typed.{view_kind, block_kind, win_kind, AreHalves, low_part, high_part, both_parts};
     ghost use Rattle.strided_block.specs.Views.{IsWhole};
-    ghost use Rattle.strided_block.specs.Cells.{cell_shown, cell_kept, cell_held, cell_in, SameWindow};
+    ghost use Rattle.strided_block.specs.Cells.{cell_shown, cell_kept, cell_held, cell_in, SameWindow, SameBlocks, SameCells, IsPart};
 
     /// The window of a whole block.
     pub fn whole(block: CellBlock) -> CellWin
@@ -304,6 +304,7 @@ impl CellWin {
         requires inside { IsPoint self.old.mask.shape point.now }
         requires range { IsCell (win_kind self.old.cells) cell }
         ensures place { SameWindow self.old self.new }
+        ensures blocks { SameBlocks self.old self.new }
         ensures written { cell_in self.new point.now ≡ cell }
         ensures others { (cs : List ℕ) → IsPoint self.old.mask.whole cs → ¬ (cs ≡ plus self.old.mask.low point.now) → cell_held self.new cs ≡ cell_held self.old cs }
     {
@@ -324,6 +325,7 @@ impl CellWin {
         requires row { IsRow self.old.mask.shape point.now (length cells.now) }
         requires range { All (IsCell (win_kind self.old.cells)) cells.now }
         ensures place { SameWindow self.old self.new }
+        ensures blocks { SameBlocks self.old self.new }
         ensures written { (j : ℕ) → j < length cells.now → cell_in self.new (along point.now j) ≡ get_or cells.now j None }
         ensures others { (cs : List ℕ) → IsPoint self.old.mask.whole cs → ((j : ℕ) → j < length cells.now → ¬ (cs ≡ plus self.old.mask.low (along point.now j))) → cell_held self.new cs ≡ cell_held self.old cs }
     {
@@ -332,6 +334,60 @@ impl CellWin {
         self.mask.put_mask(point, cells);
         let masked = self.masked | missing;
         self.masked = masked;
+    }
+
+    /// The part below `at` along an axis, and the rest.
+    pub fn split(self, axis: usize, at: u64) -> (CellWin, CellWin)
+        requires axis { axis < length self.mask.shape }
+        requires at { at ≤ get_or self.mask.shape axis 0 }
+        ensures first { IsPart self result.0 (low_part (box_of self.mask) axis at) }
+        ensures second { IsPart self result.1 (high_part (box_of self.mask) axis at) }
+    {
+        let CellWin {
+            cells,
+            mask,
+            masked,
+        } = self;
+        let (one, two) = cells.split(axis, at);
+        let (first, second) = mask.split(axis, at);
+        (
+            CellWin {
+                cells: one,
+                mask: first,
+                masked,
+            },
+            CellWin {
+                cells: two,
+                mask: second,
+                masked,
+            },
+        )
+    }
+
+    /// The two halves of a split, as one window.
+    pub fn join(self, other: CellWin, axis: usize) -> CellWin
+        requires axis { axis < length self.mask.shape }
+        requires blocks { SameBlocks self other × (win_kind other.cells ≡ win_kind self.cells) }
+        requires halves { AreHalves (box_of self.mask) (box_of other.mask) axis }
+        ensures blocks { SameBlocks self result × (win_kind result.cells ≡ win_kind self.cells) }
+        ensures place { box_of result.mask ≡ both_parts (box_of self.mask) (box_of other.mask) axis }
+        ensures cells { SameCells self result × SameCells other result }
+    {
+        let CellWin {
+            cells,
+            mask,
+            masked,
+        } = self;
+        let CellWin {
+            cells: others,
+            mask: bytes,
+            masked: hides,
+        } = other;
+        CellWin {
+            cells: cells.join(others, axis),
+            mask: mask.join(bytes, axis),
+            masked: masked | hides,
+        }
     }
 
     /// The block of a window of the whole.
@@ -357,6 +413,7 @@ impl CellWin {
     pub fn fill(&mut self, cell: Option<i128>)
         requires { IsCell (win_kind self.old.cells) cell }
         ensures place { SameWindow self.old self.new }
+        ensures blocks { SameBlocks self.old self.new }
         ensures cells { (p : List ℕ) → IsPoint self.old.mask.shape p → cell_in self.new p ≡ cell }
         ensures others { (cs : List ℕ) → IsPoint self.old.mask.whole cs → ((p : List ℕ) → IsPoint self.old.mask.shape p → ¬ (cs ≡ plus self.old.mask.low p)) → cell_held self.new cs ≡ cell_held self.old cs }
     {

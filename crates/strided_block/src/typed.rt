@@ -277,12 +277,12 @@ impl<'a> TypedView<'a> {
 }
 
 impl TypedWin {
-    ghost use Rattle.std.specs.Prelude.{◌≡◌, ◌<◌, ℕ, ℤ, List, Option, Some, None, length, get_or, All};
+    ghost use Rattle.std.specs.Prelude.{◌≡◌, ◌<◌, ◌≤◌, ℕ, ℤ, List, Option, Some, None, length, get_or, All};
     ghost use Rattle.xr_types.specs.Kinds.{InRange};
     ghost use Rattle.xr_arrays.specs.Arrays.{IsCell};
     ghost use Rattle.xr_types.specs.Points.{IsPoint};
     ghost use Rattle.strided_block.specs.Boxes.{plus, along, IsRow};
-    ghost use Rattle.strided_block.specs.Typed.{view_kind, view_shape, block_kind, block_shape, win_kind, win_box, IsWide, number_shown, number_kept, number_held};
+    ghost use Rattle.strided_block.specs.Typed.{view_kind, view_shape, block_kind, block_shape, win_kind, win_box, win_block, IsWide, OfBlock, AreHalves, SameNumbers, low_part, high_part, both_parts, number_shown, number_kept, number_held};
 
     /// The window of a whole block.
     pub fn whole(block: TypedBlock) -> TypedWin
@@ -349,6 +349,7 @@ impl TypedWin {
         requires range { InRange (win_kind self.old) number }
         ensures kind { win_kind self.new ≡ win_kind self.old }
         ensures place { win_box self.new ≡ win_box self.old }
+        ensures block { win_block self.new ≡ win_block self.old }
         ensures written { number_held self.new (plus (win_box self.old).low point.now) ≡ Some number }
         ensures others { (cs : List ℕ) → IsPoint (win_box self.old).whole cs → ¬ (cs ≡ plus (win_box self.old).low point.now) → number_held self.new cs ≡ number_held self.old cs }
     {
@@ -372,6 +373,7 @@ impl TypedWin {
         requires range { All (IsCell (win_kind self.old)) cells.now }
         ensures kind { win_kind self.new ≡ win_kind self.old }
         ensures place { win_box self.new ≡ win_box self.old }
+        ensures block { win_block self.new ≡ win_block self.old }
         ensures written { (j : ℕ) (n : ℤ) → j < length cells.now → get_or cells.now j None ≡ Some n → number_held self.new (plus (win_box self.old).low (along point.now j)) ≡ Some n }
         ensures others { (cs : List ℕ) → IsPoint (win_box self.old).whole cs → ((j : ℕ) → j < length cells.now → ¬ (cs ≡ plus (win_box self.old).low (along point.now j))) → number_held self.new cs ≡ number_held self.old cs }
     {
@@ -386,6 +388,110 @@ impl TypedWin {
             TypedWin::UInt16(w) => w.put_cells(point, cells),
             TypedWin::UInt32(w) => w.put_cells(point, cells),
             TypedWin::UInt64(w) => w.put_cells(point, cells),
+        }
+    }
+
+    /// The part below `at` along an axis, and the rest.
+    pub fn split(self, axis: usize, at: u64) -> (TypedWin, TypedWin)
+        requires axis { axis < length (win_box self).shape }
+        requires at { at ≤ get_or (win_box self).shape axis 0 }
+        ensures blocks { OfBlock self result.0 × OfBlock self result.1 }
+        ensures first { (win_box result.0 ≡ low_part (win_box self) axis at) × SameNumbers result.0 self }
+        ensures second { (win_box result.1 ≡ high_part (win_box self) axis at) × SameNumbers result.1 self }
+    {
+        match self {
+            TypedWin::Bool(w) => {
+                let (one, two) = w.split(axis, at);
+                (TypedWin::Bool(one), TypedWin::Bool(two))
+            }
+            TypedWin::Char(w) => {
+                let (one, two) = w.split(axis, at);
+                (TypedWin::Char(one), TypedWin::Char(two))
+            }
+            TypedWin::Int8(w) => {
+                let (one, two) = w.split(axis, at);
+                (TypedWin::Int8(one), TypedWin::Int8(two))
+            }
+            TypedWin::Int16(w) => {
+                let (one, two) = w.split(axis, at);
+                (TypedWin::Int16(one), TypedWin::Int16(two))
+            }
+            TypedWin::Int32(w) => {
+                let (one, two) = w.split(axis, at);
+                (TypedWin::Int32(one), TypedWin::Int32(two))
+            }
+            TypedWin::Int64(w) => {
+                let (one, two) = w.split(axis, at);
+                (TypedWin::Int64(one), TypedWin::Int64(two))
+            }
+            TypedWin::UInt8(w) => {
+                let (one, two) = w.split(axis, at);
+                (TypedWin::UInt8(one), TypedWin::UInt8(two))
+            }
+            TypedWin::UInt16(w) => {
+                let (one, two) = w.split(axis, at);
+                (TypedWin::UInt16(one), TypedWin::UInt16(two))
+            }
+            TypedWin::UInt32(w) => {
+                let (one, two) = w.split(axis, at);
+                (TypedWin::UInt32(one), TypedWin::UInt32(two))
+            }
+            TypedWin::UInt64(w) => {
+                let (one, two) = w.split(axis, at);
+                (TypedWin::UInt64(one), TypedWin::UInt64(two))
+            }
+        }
+    }
+
+    /// The two halves of a split, as one window.
+    pub fn join(self, other: TypedWin, axis: usize) -> TypedWin
+        requires axis { axis < length (win_box self).shape }
+        requires halves { OfBlock self other × AreHalves (win_box self) (win_box other) axis }
+        ensures block { OfBlock self result }
+        ensures place { win_box result ≡ both_parts (win_box self) (win_box other) axis }
+        ensures cells { SameNumbers self result × SameNumbers other result }
+    {
+        match self {
+            TypedWin::Bool(w) => {
+                let TypedWin::Bool(v) = other else { unreachable!() };
+                TypedWin::Bool(w.join(v, axis))
+            }
+            TypedWin::Char(w) => {
+                let TypedWin::Char(v) = other else { unreachable!() };
+                TypedWin::Char(w.join(v, axis))
+            }
+            TypedWin::Int8(w) => {
+                let TypedWin::Int8(v) = other else { unreachable!() };
+                TypedWin::Int8(w.join(v, axis))
+            }
+            TypedWin::Int16(w) => {
+                let TypedWin::Int16(v) = other else { unreachable!() };
+                TypedWin::Int16(w.join(v, axis))
+            }
+            TypedWin::Int32(w) => {
+                let TypedWin::Int32(v) = other else { unreachable!() };
+                TypedWin::Int32(w.join(v, axis))
+            }
+            TypedWin::Int64(w) => {
+                let TypedWin::Int64(v) = other else { unreachable!() };
+                TypedWin::Int64(w.join(v, axis))
+            }
+            TypedWin::UInt8(w) => {
+                let TypedWin::UInt8(v) = other else { unreachable!() };
+                TypedWin::UInt8(w.join(v, axis))
+            }
+            TypedWin::UInt16(w) => {
+                let TypedWin::UInt16(v) = other else { unreachable!() };
+                TypedWin::UInt16(w.join(v, axis))
+            }
+            TypedWin::UInt32(w) => {
+                let TypedWin::UInt32(v) = other else { unreachable!() };
+                TypedWin::UInt32(w.join(v, axis))
+            }
+            TypedWin::UInt64(w) => {
+                let TypedWin::UInt64(v) = other else { unreachable!() };
+                TypedWin::UInt64(w.join(v, axis))
+            }
         }
     }
 
@@ -415,6 +521,7 @@ impl TypedWin {
         requires { InRange (win_kind self.old) number }
         ensures kind { win_kind self.new ≡ win_kind self.old }
         ensures place { win_box self.new ≡ win_box self.old }
+        ensures block { win_block self.new ≡ win_block self.old }
         ensures cells { (p : List ℕ) → IsPoint (win_box self.old).shape p → number_held self.new (plus (win_box self.old).low p) ≡ Some number }
         ensures others { (cs : List ℕ) → IsPoint (win_box self.old).whole cs → ((p : List ℕ) → IsPoint (win_box self.old).shape p → ¬ (cs ≡ plus (win_box self.old).low p)) → number_held self.new cs ≡ number_held self.old cs }
     {
