@@ -1,5 +1,6 @@
 pub mod Boxes
 pub mod CellLaws
+pub mod Clears
 pub mod Halves
 pub mod Holdings
 pub mod Joins
