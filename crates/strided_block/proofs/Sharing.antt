@@ -17,9 +17,11 @@ use denote.Shares.{Shares-less}
 use denote.Struct.Lending.{Lends, Lends-both, Lends-nothing, Lends-said, Lends-false}
 use denote.Struct.Struct.{exits_of}
 use denote.Struct.Owning.{shape, fields, to}
-use Rattle.std_alloc.proofs.SendSync.{quiet}
+use Rattle.std_alloc.proofs.SendSync.{FreesAnywhere, quiet}
 use Rattle.strided_block.specs.Memory.{one_owned, all_owned, one_lent, all_lent, small, cells_owned, cells_lent}
+use Rattle.core.specs.declared.alloc.Allocator.{Ghosts}
 use Rattle.strided_block.specs.contracts.memory.Cells as Cells
+use Rattle.strided_block.specs.contracts.memory.Right as Right
 
 module _ (R : RattleType) (L : RowLaws R) where
   one_laws : (b o : ℕ) (c : Option R.Denot) → ShrLaws (one_lent R b o c)
@@ -74,3 +76,12 @@ module _ (R : RattleType) where
 
   pub Cells-sync : IsSync R → IsSync (Cells.the_row R)
   Cells-sync y = let O = Cells.the_type R in record { shared = λ c b o κ. ((struct_sync (shape O) (search sendable, tt)).shared (to O c) b o κ, cells-Common y c.at c.slots κ) }
+
+  module _ (A : RattleType) (g : Ghosts A.Denot) where
+    pub Right-send : FreesAnywhere A.Denot g → IsSend (Right.the_row R A g)
+    Right-send f =
+        let O = Right.the_type R A g in let own : AllSend (fields O) = (search sendable, tt) in
+        owning_send O own (λ r. f.frees r.alloc _ r.at) (λ k. quiet (to O) (exits_of k (fields O)) ((struct_send (shape O) own).leaving k))
+
+    pub Right-sync : FreesAnywhere A.Denot g → IsSync (Right.the_row R A g)
+    Right-sync f = record { shared = λ r b o κ q. part_keyless (Right.the_row R A g) (Right-send f) q r b o }

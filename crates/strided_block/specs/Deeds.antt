@@ -1,7 +1,6 @@
 -- The right to free a block: it goes with the block's first cell.
 use Rattle.std.specs.Prelude.{◌≡◌, ℕ, Bool, true, false, List, length, map, get_or, Option, Some, None, is_some}
 use denote.RawPtr.{Ptr}
-use Rattle.core.specs.Mem.Slots.{lease_ptr, lease_len}
 use Rattle.strided_block.specs.Parts.{somes}
 use Rattle.strided_block.specs.Views.{Window, IsFull, IsSound}
 use Rattle.strided_block.specs.declared.memory.Base.{Base}
@@ -19,10 +18,10 @@ module _ {X : Type 0} where
   cells_slots c = c.slots
 
   abbrev pub deed_at : Deed X → Ptr
-  deed_at d = lease_ptr d.lease
+  deed_at d = d.right.at
 
   abbrev pub deed_count : Deed X → ℕ
-  deed_count d = lease_len d.lease
+  deed_count d = d.right.count
 
   -- who has the first cell of a block has the right to free it
   abbrev pub HasDeed : Ptr → List (Option X) → Option (Deed X) → Type 0

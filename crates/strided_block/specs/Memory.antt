@@ -4,7 +4,9 @@ use Rattle.std.specs.Mem.{type_size}
 use base.Fraction.{full_share}
 use base.Fml.{Lft, Fml, ftrue, ffalse, fsep, flt}
 use denote.RattleType.{RattleType}
-use denote.Memory.{part_at, shared_of}
+use mir.Syntax.{Ty, ty_array}
+use mir.Raw.{raw}
+use denote.Memory.{lone, part_at, shared_of}
 use denote.Sharing.{nothing, said, beside}
 use denote.RawPtr.{Ptr, block_ptr, null_ptr}
 
@@ -38,3 +40,7 @@ module _ (R : RattleType) where
   abbrev pub cells_lent : Ptr → List (Option R.Denot) → Lft → Fml
   cells_lent (block_ptr b o) cs = beside (said (small cs)) (all_lent b o cs)
   cells_lent null_ptr cs = said ffalse
+
+-- the allocator's right to free the memory of so many cells
+abbrev pub right_owned : (Ty → Ptr → Fml) → RattleType → Ptr → ℕ → Fml
+right_owned token R p n = token (raw (ty_array (lone R.mir) n)) p

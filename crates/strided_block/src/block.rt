@@ -7,7 +7,7 @@ ghost use Rattle.strided_block.specs.Boxes.{zeros};
 ghost use Rattle.core.specs.Mem.Slots.{slots_items, slots_ptr, slots_len, IsFull as IsRow};
 ghost use Rattle.strided_block.specs.Deeds.{deed_at, deed_count};
 
-use crate::memory::{Base, Cells, Deed, copied, free};
+use crate::memory::{Base, Cells, Deed, copied, filled, free};
 use crate::place::{count, points, steps_of, twin};
 use crate::row::{put_bytes, put_numbers};
 use crate::view::View;
@@ -98,7 +98,7 @@ fn of_row<T>(row: Slots<T>, deed: Deed<T>, shape: Shape) -> Block<T>
 }
 
 // The block of these cells, in memory of its own.
-fn of_slice<T: Copy>(alloc: Global, shape: &Shape, cells: &[T]) -> Result<Block<T>, NoMemory>
+fn of_slice<T: Elem>(alloc: Global, shape: &Shape, cells: &[T]) -> Result<Block<T>, NoMemory>
     requires { length cells.now ≡ size shape.now }
     ensures { IfOk result (λ b. b ≡ record { shape = shape.now; cells = cells.now }) }
 {
@@ -183,9 +183,8 @@ impl<T: Elem + Drop> Block<T> {
         ensures { IfOk result (λ b. b ≡ record { shape = shape.now; cells = replicate (size shape.now) (T.of (pos 0)) }) }
     {
         let count = count(shape)?;
-        let mut cells = Vec::new(alloc);
-        match cells.resize(count, T::wrap_from(0)) {
-            Ok(()) => of_slice(alloc, shape, cells.as_slice()),
+        match filled(alloc, count, T::wrap_from(0)) {
+            Ok((row, deed)) => Ok(of_row(row, deed, twin(shape))),
             Err(_) => Err(NoMemory),
         }
     }

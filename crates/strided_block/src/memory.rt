@@ -1,15 +1,18 @@
 //! The memory of blocks: where a block begins, and the cells of it that one owner has.
-ghost use Rattle.std.specs.Prelude.{◌≡◌, ℕ, List, Option, Some, length, map, take, drop, IfOk};
+ghost use Rattle.std.specs.Prelude.{◌≡◌, ℕ, List, Option, Some, length, map, take, drop, replicate, IfOk};
 ghost use Rattle.std.specs.Borrow.{sem};
-ghost use Rattle.core.specs.Mem.Slots.{slots_items, slots_ptr, slots_len, lease_ptr, lease_len, lease_heap, IsFull};
+ghost use Rattle.core.specs.Mem.Slots.{slots_items, slots_ptr, slots_len, IsFull};
 ghost use denote.RawPtr.{Ptr};
-ghost use Rattle.strided_block.specs.Memory.{cells_owned, cells_lent};
+ghost use Rattle.std.specs.Vec.Ownership.{FitsInBlock};
+ghost use Rattle.strided_block.specs.Memory.{cells_owned, cells_lent, right_owned};
 ghost use Rattle.strided_block.specs.Parts.{dealt, joined, below, above, IsRun};
 
-use core::slots::{Lease, Slots, release, reserve};
-use std::alloc::{AllocError, Global};
+use core::slots::Slots;
+use std::alloc::{AllocError, Allocator, Global};
 use std::marker::{Model, PhantomData, Send, Sync};
+use std::mem::{align_of, size_of};
 use std::slice;
+use std_alloc::room::may_hold;
 
 /// Where a block begins. It owns nothing.
 #[derive(Drop)]
@@ -53,11 +56,67 @@ unsafe impl<T: Send> Send for Cells<T> {}
 
 unsafe impl<T: Sync> Sync for Cells<T> {}
 
+/// The right to give the memory of so many cells back to an allocator. It takes no space.
+pub struct Right<T, A: Allocator> {
+    mark: PhantomData<*const (T, A)>,
+    ghost at: { Ptr },
+    ghost count: { ℕ },
+    ghost alloc: { A },
+}
+
+impl<T, A: Allocator> Model for Right<T, A> {
+    ghost also_owns = { λ r. right_owned (A.dealloc_token r.alloc) T.row r.at r.count };
+}
+
+unsafe impl<T, A: Allocator + Send> Send for Right<T, A> {}
+
+unsafe impl<T, A: Allocator + Send> Sync for Right<T, A> {}
+
+/// A row of empty places, and the right to free it.
+fn take<T, A: Allocator>(
+    alloc: &A,
+    count: usize,
+) -> Result<(Slots<T>, Right<T, A>), AllocError>
+    requires { FitsInBlock T.row count × T }
+    ensures { IfOk result (λ r. (slots_len r.0 ≡ count) × (r.1.at ≡ slots_ptr r.0) × (r.1.count ≡ count) × (r.1.alloc ≡ alloc.now)) }
+{
+    match alloc.allocate(count * size_of::<T>(), align_of::<T>()) {
+        Ok(block) => {
+            let row = unsafe { Slots::from_raw_parts(block as *mut T, count) };
+            Ok((row, Right { mark: PhantomData }))
+        }
+        Err(refused) => Err(refused),
+    }
+}
+
+/// Gives the memory of a row back.
+fn give<T, A: Allocator>(alloc: &A, row: Slots<T>, right: Right<T, A>)
+    requires { (right.at ≡ slots_ptr row) × (right.count ≡ slots_len row) × (right.alloc ≡ alloc.now) }
+{
+    let Right { mark: _ } = right;
+    let parts = unsafe { row.into_raw_parts() };
+    unsafe {
+        alloc.deallocate(parts.0 as *mut u8, parts.1 * size_of::<T>(), align_of::<T>());
+    }
+}
+
 /// The right to free a block.
 pub struct Deed<T> {
-    lease: Lease<T, Global>,
+    right: Right<T, Global>,
     heap: Global,
-    ghost own: { lease_heap lease ≡ heap },
+    ghost own: { right.alloc ≡ heap },
+}
+
+// A row of empty places in memory of its own.
+fn reserve<T>(heap: Global, count: usize) -> Result<(Slots<T>, Deed<T>), AllocError>
+    requires { T }
+    ensures { IfOk result (λ r. (slots_len r.0 ≡ count) × (r.1.right.at ≡ slots_ptr r.0) × (r.1.right.count ≡ slots_len r.0)) }
+{
+    if !may_hold::<T>(count) {
+        return Err(AllocError);
+    }
+    let (row, right) = take(&heap, count)?;
+    Ok((row, Deed { right, heap }))
 }
 
 /// The cells in memory of their own, and the right to free it.
@@ -65,20 +124,45 @@ pub(crate) fn copied<T: Copy>(
     heap: Global,
     cells: &[T],
 ) -> Result<(Slots<T>, Deed<T>), AllocError>
+    requires { T }
     ensures row { IfOk result (λ r. IsFull r.0 × (slots_items r.0 ≡ cells.now)) }
-    ensures deed { IfOk result (λ r. (lease_ptr r.1.lease ≡ slots_ptr r.0) × (lease_len r.1.lease ≡ slots_len r.0)) }
+    ensures deed { IfOk result (λ r. (r.1.right.at ≡ slots_ptr r.0) × (r.1.right.count ≡ slots_len r.0)) }
 {
-    let (mut row, lease) = unsafe { reserve(&heap, cells) }?;
+    let (mut row, deed) = reserve(heap, cells.len())?;
     row.copy_in(0, cells);
-    Ok((row, Deed { lease, heap }))
+    Ok((row, deed))
+}
+
+// Writes one cell everywhere. The loop writes nothing else, so that it can become a `memset`.
+fn fill_row<T: Copy>(row: &mut Slots<T>, count: usize, cell: T)
+    requires { slots_len row.old ≡ count }
+    ensures { IsFull row.new × (slots_items row.new ≡ replicate count cell) × (slots_ptr row.new ≡ slots_ptr row.old) × (slots_len row.new ≡ slots_len row.old) }
+{
+    for i in 0..count {
+        row.put(i, cell);
+    }
+}
+
+/// As many times one cell in memory of its own, and the right to free it.
+pub(crate) fn filled<T: Copy>(
+    heap: Global,
+    count: usize,
+    cell: T,
+) -> Result<(Slots<T>, Deed<T>), AllocError>
+    ensures row { IfOk result (λ r. IsFull r.0 × (slots_items r.0 ≡ replicate count cell)) }
+    ensures deed { IfOk result (λ r. (r.1.right.at ≡ slots_ptr r.0) × (r.1.right.count ≡ slots_len r.0)) }
+{
+    let (mut row, deed) = reserve(heap, count)?;
+    fill_row(&mut row, count, cell);
+    Ok((row, deed))
 }
 
 /// Frees the memory of a block.
 pub(crate) fn free<T>(row: Slots<T>, deed: Deed<T>)
-    requires { (lease_ptr deed.lease ≡ slots_ptr row) × (lease_len deed.lease ≡ slots_len row) }
+    requires { (deed.right.at ≡ slots_ptr row) × (deed.right.count ≡ slots_len row) }
 {
-    let Deed { lease, heap } = deed;
-    release(&heap, row, lease);
+    let Deed { right, heap } = deed;
+    give(&heap, row, right);
 }
 
 impl<T> Cells<T> {
