@@ -6,7 +6,6 @@ use strided_block::{Block, Win};
 use xr_types::Shape;
 
 /// A block of two rows of three: 7 in the first column, 9 in the others.
-#[tactic(auto, using(strided_block::proofs::Wholes::joined_whole))]
 fn two_columns(block: Block<i32>) -> Block<i32>
     requires { block.shape ≡ 2 ∷ 3 ∷ [] }
     ensures { result.shape ≡ 2 ∷ 3 ∷ [] }

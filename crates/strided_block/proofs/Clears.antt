@@ -3,10 +3,10 @@ use Rattle.std.proofs.Common.{◌≡◌, ℕ, zero, suc, ◌+◌, ◌-◌, ◌<�
 use Rattle.std.specs.Prelude.{Bool, true, false, ◌||◌, Some, slice_set}
 use Rattle.std.proofs.lemmas.Bool.{cases_lt}
 use Rattle.xr_types.specs.Points.{IsPoint}
-use Rattle.strided_block.specs.Boxes.{Fits, plus, moved, in_box}
-use Rattle.strided_block.specs.Typed.{Box, box_of, low_part, high_part, both_parts}
+use Rattle.strided_block.specs.Boxes.{plus, moved, in_box}
+use Rattle.strided_block.specs.Typed.{box_of}
 use Rattle.strided_block.specs.Views.{Window, Cut, SameIn, held, cell_at}
-use Rattle.strided_block.proofs.Boxes.{point_long, fits_long, plus_inside, point_at}
+use Rattle.strided_block.proofs.Boxes.{point_long, fits_long, plus_inside}
 use Rattle.strided_block.proofs.CellLaws.{moved_inside}
 use Rattle.strided_block.proofs.Sounds.{plus_in_box}
 

@@ -6,11 +6,11 @@ use Rattle.std.proofs.lemmas.Nat.{div-mul-add}
 use denote.RawPtr.{Ptr}
 use Rattle.xr_types.specs.Points.{size, place, IsPoint}
 use Rattle.strided_block.specs.Boxes.{Fits, in_box}
-use Rattle.strided_block.specs.Deeds.{deed_at, deed_count, HasDeed, IsOwner}
+use Rattle.strided_block.specs.Deeds.{HasDeed}
 use Rattle.strided_block.specs.Parts.{dealt, below, above}
 use Rattle.strided_block.specs.Views.{Window, Cut, held, IsSound, SameIn}
 use Rattle.strided_block.specs.declared.memory.Deed.{Deed}
-use Rattle.strided_block.proofs.Boxes.{point_long, fits_long, place_below}
+use Rattle.strided_block.proofs.Boxes.{point_long, place_below}
 use Rattle.strided_block.proofs.Lines.{step_is}
 use Rattle.strided_block.proofs.Owners.{length-dealt}
 use Rattle.strided_block.proofs.Sounds.{lows, whole_small}

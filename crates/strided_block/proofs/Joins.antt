@@ -1,11 +1,11 @@
 -- Two halves of a window are one window, and it has the cells of both.
-use Rattle.std.proofs.Common.{◌≡◌, ℕ, zero, suc, ◌+◌, ◌-◌, ◌<◌, ◌≤◌, ◌⊎◌, inl, inr, List, [], ◌∷◌, length, get_or, refl, sym, ap, ◌∙◌, subst, arith}
+use Rattle.std.proofs.Common.{◌≡◌, ℕ, zero, suc, ◌+◌, ◌<◌, ◌≤◌, ◌⊎◌, inl, inr, List, [], ◌∷◌, length, get_or, refl, sym, ap, ◌∙◌, subst, arith}
 use Rattle.std.specs.Prelude.{Bool, true, false, ◌&&◌, ◌||◌, ltb, leb, Option, Some, None, is_some, slice_set}
 use Rattle.std.proofs.lemmas.List.{get_or-set_same}
 use denote.RawPtr.{Ptr}
 use Rattle.xr_types.specs.Points.{size, place, IsPoint}
 use Rattle.strided_block.specs.Boxes.{Fits, in_box}
-use Rattle.strided_block.specs.Deeds.{HasDeed, IsOwner}
+use Rattle.strided_block.specs.Deeds.{HasDeed}
 use Rattle.strided_block.specs.Parts.{either, joined}
 use Rattle.strided_block.specs.Views.{Window, Cut, held, IsSound, SameIn, Halves}
 use Rattle.strided_block.specs.Zips.{point_at}

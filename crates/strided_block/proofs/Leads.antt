@@ -1,11 +1,10 @@
 -- The points that begin with a lead, and the run of their cells.
-use Rattle.std.proofs.Common.{◌≡◌, ◌<◌, ◌≤◌, ◌+◌, ◌*◌, ◌%◌, ℕ, zero, suc, min, List, [], ◌∷◌, ◌++◌, length, map, take, drop, get_or, inl, inr, refl, sym, ap, subst, ◌∙◌, arith, length-take}
+use Rattle.std.proofs.Common.{◌≡◌, ◌<◌, ◌≤◌, ◌+◌, ◌%◌, ℕ, zero, suc, min, List, [], ◌∷◌, ◌++◌, length, map, take, drop, get_or, inl, inr, refl, sym, ap, subst, ◌∙◌, arith, length-take}
 use Rattle.std.specs.Prelude.{Bool, true, leb, ◌||◌, bytes_eq, Option, Some, None}
 use Rattle.std.proofs.Math.Nat.{mod-eq_of_lt}
 use Rattle.std.proofs.lemmas.Nat.{mod_below}
 use Rattle.std.proofs.lemmas.Bool.{cases_lt}
 use Rattle.std.proofs.lemmas.Slice.Eq.{bytes_eq-Decides}
-use Rattle.std.proofs.lemmas.List.{get_or-map, get_or-take, get_or-drop}
 use Rattle.xr_types.specs.Points.{size, place, IsPoint}
 use Rattle.strided_block.specs.Boxes.{zeros}
 use Rattle.strided_block.specs.Steps.{dot, spot, row_steps}
@@ -15,7 +14,7 @@ use Rattle.strided_block.specs.Zips.{point_at}
 use Rattle.strided_block.proofs.Boxes.{point_long, place_below}
 use Rattle.strided_block.proofs.Holdings.{there_below, every_run, seen_cell}
 use Rattle.strided_block.proofs.Splits.{point_there}
-use Rattle.strided_block.proofs.Steps.{round_first, row_place, row_long, row_drop, dot_append}
+use Rattle.strided_block.proofs.Steps.{round_first, row_place, row_drop, dot_append}
 
 pub lead_short : (ss ps : List ℕ) → IsPoint (take (length ps) ss) ps → length ps ≤ length ss
 lead_short ss ps i = let l = point_long (take (length ps) ss) ps i in omega (arith, length-take (length ps) ss)

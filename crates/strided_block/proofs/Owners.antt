@@ -15,7 +15,7 @@ use lib.Seq.{drop-drop}
 use seplogic.Ra.Ura.{Ura}
 use base.Fraction.{full_share}
 use mir.Val.{Val, vstruct, vcons, vnil, of_list}
-use base.Logic.{SProp, ent, sep, emp, via, snd∗, id⊢, mono_r}
+use base.Logic.{ent, sep, emp, via, snd∗, id⊢, mono_r}
 use base.Fml.{Fml, Lft, ftrue, fsep}
 use types.Logic.{Logic, sem}
 use types.SemTy.{cells}

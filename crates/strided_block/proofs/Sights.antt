@@ -1,9 +1,9 @@
 -- What views show, whose cells are counted in steps.
 use Rattle.std.proofs.Common.{◌≡◌, ◌<◌, ◌≤◌, ◌+◌, ◌-◌, ◌*◌, ◌%◌, ℕ, ℤ, zero, suc, List, [], ◌∷◌, length, map, drop, get_or, insert, refl, sym, ap, subst, ◌∙◌, arith}
-use Rattle.std.specs.Prelude.{Bool, Option, Some, None, slice_set, leb, ◌||◌, bytes_eq}
+use Rattle.std.specs.Prelude.{Option, Some, None, slice_set, leb, ◌||◌, bytes_eq}
 use Rattle.std.proofs.Math.Nat.{mod-eq_of_lt}
-use Rattle.std.proofs.lemmas.List.{get_or-map, length-map}
-use Rattle.xr_types.specs.Points.{size, place, IsPoint}
+use Rattle.std.proofs.lemmas.List.{length-map}
+use Rattle.xr_types.specs.Points.{place, IsPoint}
 use Rattle.xr_arrays.specs.Nodes.{IsOrder, without, moved as in_order}
 use Rattle.strided_block.specs.Boxes.{zeros, moved}
 use Rattle.strided_block.specs.Steps.{dot, spot, row_steps, stepped, StepsWithin, IsRound, AreMoved}

@@ -1,7 +1,6 @@
 -- Windows: where the cells of a box lie, and what stays of a window whose cells change.
-use Rattle.std.proofs.Common.{◌≡◌, ◌<◌, ◌≤◌, ◌+◌, ◌-◌, ◌*◌, ◌%◌, ℕ, zero, suc, List, [], ◌∷◌, length, map, take, drop, get_or, inl, inr, refl, sym, ap, subst, ◌∙◌, arith}
-use Rattle.std.specs.Prelude.{Bool, true, false, ◌&&◌, ◌||◌, ltb, leb, bytes_eq, Option, Some, None, is_some, slice_set}
-use Rattle.std.proofs.lemmas.Bool.{cases_lt}
+use Rattle.std.proofs.Common.{◌≡◌, ◌<◌, ◌≤◌, ◌+◌, ◌-◌, ◌*◌, ◌%◌, ℕ, zero, suc, List, [], ◌∷◌, length, map, drop, get_or, refl, sym, ap, subst, ◌∙◌, arith}
+use Rattle.std.specs.Prelude.{true, ◌&&◌, ◌||◌, ltb, leb, bytes_eq, Option, Some, None, is_some, slice_set}
 use Rattle.std.proofs.lemmas.List.{length-map}
 use Rattle.std.proofs.Math.Nat.{mod-eq_of_lt}
 use denote.RawPtr.{Ptr}
@@ -10,9 +9,9 @@ use Rattle.strided_block.specs.Boxes.{Fits, plus, zeros, along, in_box, IsRow}
 use Rattle.strided_block.specs.Deeds.{IsOwner, IsBlock}
 use Rattle.strided_block.specs.Parts.{somes, IsRun, Changes, InRun, OnLine, AtPoint}
 use Rattle.strided_block.specs.Steps.{dot, spot, row_steps}
-use Rattle.strided_block.specs.Views.{Window, Cut, held, cell_at, shown, KeptOutside, IsWhole, IsSound, IsThere, IsFull, IsClear, IsLaid, window_sight, stepped_sight, together}
+use Rattle.strided_block.specs.Views.{Window, Cut, held, cell_at, shown, KeptOutside, IsWhole, IsSound, IsThere, IsClear, IsLaid, window_sight, stepped_sight, together}
 use Rattle.strided_block.specs.declared.memory.Deed.{Deed}
-use Rattle.strided_block.proofs.Boxes.{point_long, plus_long, fits_long, plus_inside, zeros_fit, zeros_long, plus-zeros, place_below, one_point, along_place}
+use Rattle.strided_block.proofs.Boxes.{point_long, fits_long, plus_inside, zeros_fit, plus-zeros, place_below, one_point, along_place}
 use Rattle.strided_block.proofs.Holdings.{every_run, there_below, all_there, all_some}
 use Rattle.strided_block.proofs.Owned.{row_cells}
 use Rattle.strided_block.proofs.Splits.{point_there}
@@ -321,7 +320,6 @@ module _ {X : Type 0} (v w : Window X) (e : v ≡ w) (so : IsSound v) where
 
     pub all_together : (k : ℕ) → together (window_sight w) k ≡ true → together (stepped_sight v.slots start steps shape) k ≡ true
     all_together k h = (λ i. leb (length (c i)) k || bytes_eq (drop k (b i)) (drop k (row_steps (c i)))) ∙ ap (λ u. together (window_sight u) k) e ∙ h
-
 
     pub view_clear : IsClear v.slots start steps shape
     view_clear = (all_laid start steps shape start_is b c).clear

@@ -1,14 +1,13 @@
 -- Places that are counted in steps, round 2^64.
-use Rattle.std.proofs.Common.{map, ◌≡◌, ◌<◌, ◌≤◌, ◌+◌, ◌-◌, ◌*◌, ◌/◌, ◌%◌, ℕ, ℤ, zero, suc, pos, negsuc, List, [], ◌∷◌, ◌++◌, length, take, drop, get_or, refl, sym, ap, subst, ◌∙◌, arith, insert, drop-cons, add-one, append_assoc}
+use Rattle.std.proofs.Common.{map, ◌≡◌, ◌<◌, ◌≤◌, ◌+◌, ◌-◌, ◌*◌, ◌/◌, ◌%◌, ℕ, ℤ, zero, suc, pos, negsuc, List, [], ◌∷◌, ◌++◌, length, take, drop, get_or, refl, sym, ap, ◌∙◌, arith, insert, drop-cons, add-one, append_assoc}
 use Rattle.std.specs.Prelude.{slice_set}
-use Rattle.std.proofs.Math.Nat.{add-mod-mod, add-mul-mod_self_right, mod-eq_of_lt}
+use Rattle.std.proofs.Math.Nat.{add-mod-mod, add-mul-mod_self_right}
 use Rattle.std.proofs.lemmas.List.{take_all}
 use Rattle.std.proofs.lemmas.Nat.{div-add-mod', mul-mod_second}
 use Rattle.xr_types.specs.Points.{size, place, IsPoint}
 use Rattle.xr_arrays.specs.Nodes.{without}
 use Rattle.strided_block.specs.Boxes.{moved, zeros}
 use Rattle.strided_block.specs.Steps.{dot, row_steps, stepped, StepsWithin, IsRound}
-use Rattle.strided_block.proofs.Boxes.{point_at}
 
 -- ---- sums round a number
 

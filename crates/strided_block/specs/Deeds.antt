@@ -1,8 +1,8 @@
 -- The right to free a block: it goes with the block's first cell.
-use Rattle.std.specs.Prelude.{◌≡◌, ℕ, Bool, true, false, List, length, map, get_or, Option, Some, None, is_some}
+use Rattle.std.specs.Prelude.{◌≡◌, ℕ, true, false, List, length, map, get_or, Option, Some, None, is_some}
 use denote.RawPtr.{Ptr}
 use Rattle.strided_block.specs.Parts.{somes}
-use Rattle.strided_block.specs.Views.{Window, IsFull, IsSound}
+use Rattle.strided_block.specs.Views.{IsFull}
 use Rattle.strided_block.specs.declared.memory.Base.{Base}
 use Rattle.strided_block.specs.declared.memory.Cells.{Cells}
 use Rattle.strided_block.specs.declared.memory.Deed.{Deed}

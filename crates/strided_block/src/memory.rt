@@ -73,10 +73,7 @@ unsafe impl<T, A: Allocator + Send> Send for Right<T, A> {}
 unsafe impl<T, A: Allocator + Send> Sync for Right<T, A> {}
 
 /// A row of empty places, and the right to free it.
-fn take<T, A: Allocator>(
-    alloc: &A,
-    count: usize,
-) -> Result<(Slots<T>, Right<T, A>), AllocError>
+fn take<T, A: Allocator>(alloc: &A, count: usize) -> Result<(Slots<T>, Right<T, A>), AllocError>
     requires { FitsInBlock T.row count × T }
     ensures { IfOk result (λ r. (slots_len r.0 ≡ count) × (r.1.at ≡ slots_ptr r.0) × (r.1.count ≡ count) × (r.1.alloc ≡ alloc.now)) }
 {
@@ -96,7 +93,11 @@ fn give<T, A: Allocator>(alloc: &A, row: Slots<T>, right: Right<T, A>)
     let Right { mark: _ } = right;
     let parts = unsafe { row.into_raw_parts() };
     unsafe {
-        alloc.deallocate(parts.0 as *mut u8, parts.1 * size_of::<T>(), align_of::<T>());
+        alloc.deallocate(
+            parts.0 as *mut u8,
+            parts.1 * size_of::<T>(),
+            align_of::<T>(),
+        );
     }
 }
 
@@ -120,10 +121,7 @@ fn reserve<T>(heap: Global, count: usize) -> Result<(Slots<T>, Deed<T>), AllocEr
 }
 
 /// The cells in memory of their own, and the right to free it.
-pub(crate) fn copied<T: Copy>(
-    heap: Global,
-    cells: &[T],
-) -> Result<(Slots<T>, Deed<T>), AllocError>
+pub(crate) fn copied<T: Copy>(heap: Global, cells: &[T]) -> Result<(Slots<T>, Deed<T>), AllocError>
     requires { T }
     ensures row { IfOk result (λ r. IsFull r.0 × (slots_items r.0 ≡ cells.now)) }
     ensures deed { IfOk result (λ r. (r.1.right.at ≡ slots_ptr r.0) × (r.1.right.count ≡ slots_len r.0)) }

@@ -47,7 +47,13 @@ fn fill_slice<T: Copy>(all: &mut [T], item: T)
 }
 
 /// Writes one cell at so many places.
-pub(crate) fn fill_run<T: Copy>(cells: &mut Cells<T>, base: Base<T>, at: usize, count: usize, item: T)
+pub(crate) fn fill_run<T: Copy>(
+    cells: &mut Cells<T>,
+    base: Base<T>,
+    at: usize,
+    count: usize,
+    item: T,
+)
     requires { (base_at base ≡ cells_at cells.old) × IsRun (cells_slots cells.old) at count }
     ensures block { cells_at cells.new ≡ cells_at cells.old }
     ensures others { Changes (cells_slots cells.old) (cells_slots cells.new) (InRun at count) }

@@ -453,43 +453,63 @@ impl TypedWin {
     {
         match self {
             TypedWin::Bool(w) => {
-                let TypedWin::Bool(v) = other else { unreachable!() };
+                let TypedWin::Bool(v) = other else {
+                    unreachable!()
+                };
                 TypedWin::Bool(w.join(v, axis))
             }
             TypedWin::Char(w) => {
-                let TypedWin::Char(v) = other else { unreachable!() };
+                let TypedWin::Char(v) = other else {
+                    unreachable!()
+                };
                 TypedWin::Char(w.join(v, axis))
             }
             TypedWin::Int8(w) => {
-                let TypedWin::Int8(v) = other else { unreachable!() };
+                let TypedWin::Int8(v) = other else {
+                    unreachable!()
+                };
                 TypedWin::Int8(w.join(v, axis))
             }
             TypedWin::Int16(w) => {
-                let TypedWin::Int16(v) = other else { unreachable!() };
+                let TypedWin::Int16(v) = other else {
+                    unreachable!()
+                };
                 TypedWin::Int16(w.join(v, axis))
             }
             TypedWin::Int32(w) => {
-                let TypedWin::Int32(v) = other else { unreachable!() };
+                let TypedWin::Int32(v) = other else {
+                    unreachable!()
+                };
                 TypedWin::Int32(w.join(v, axis))
             }
             TypedWin::Int64(w) => {
-                let TypedWin::Int64(v) = other else { unreachable!() };
+                let TypedWin::Int64(v) = other else {
+                    unreachable!()
+                };
                 TypedWin::Int64(w.join(v, axis))
             }
             TypedWin::UInt8(w) => {
-                let TypedWin::UInt8(v) = other else { unreachable!() };
+                let TypedWin::UInt8(v) = other else {
+                    unreachable!()
+                };
                 TypedWin::UInt8(w.join(v, axis))
             }
             TypedWin::UInt16(w) => {
-                let TypedWin::UInt16(v) = other else { unreachable!() };
+                let TypedWin::UInt16(v) = other else {
+                    unreachable!()
+                };
                 TypedWin::UInt16(w.join(v, axis))
             }
             TypedWin::UInt32(w) => {
-                let TypedWin::UInt32(v) = other else { unreachable!() };
+                let TypedWin::UInt32(v) = other else {
+                    unreachable!()
+                };
                 TypedWin::UInt32(w.join(v, axis))
             }
             TypedWin::UInt64(w) => {
-                let TypedWin::UInt64(v) = other else { unreachable!() };
+                let TypedWin::UInt64(v) = other else {
+                    unreachable!()
+                };
                 TypedWin::UInt64(w.join(v, axis))
             }
         }

@@ -102,11 +102,7 @@ impl<T> Win<T> {
         requires { IsPoint self.now.shape point.now }
         ensures { result ≡ place self.now.whole (plus self.now.low point.now) }
     {
-        place_in(
-            self.whole.as_slice(),
-            self.low.as_slice(),
-            point.as_slice(),
-        )
+        place_in(self.whole.as_slice(), self.low.as_slice(), point.as_slice())
     }
 
     // Where the box begins, counted in steps.

@@ -232,16 +232,5 @@ pub fn zip_cells<
     let base = out.base;
     let start = out.start();
     let steps = steps_of(&out.whole);
-    zip_rows(
-        &f,
-        a,
-        b,
-        c,
-        d,
-        axis,
-        &mut out.cells,
-        base,
-        start,
-        &steps,
-    );
+    zip_rows(&f, a, b, c, d, axis, &mut out.cells, base, start, &steps);
 }

@@ -1,4 +1,4 @@
-use Rattle.std.proofs.Common.{◌+◌, ◌∷◌, [], length, ap, ◌∙◌, arith, length-append}
+use Rattle.std.proofs.Common.{◌∷◌, [], length, ap, ◌∙◌, arith, length-append}
 use Rattle.strided_block.proofs.Steps.{zero_next}
 use Rattle.strided_block.proofs.axes.zeros_for.Goals as goal
 

@@ -1,6 +1,5 @@
-use Rattle.std.proofs.Common.{◌≡◌, List, ℕ, length, sym, ap, ◌∙◌, arith}
+use Rattle.std.proofs.Common.{List, sym, ap, ◌∙◌, arith}
 use Rattle.core.specs.Mem.Slots.{slots_items, slots_counts}
-use Rattle.strided_block.specs.Views.{Stored}
 use Rattle.strided_block.proofs.Owned.{row_block, row_cells}
 use Rattle.strided_block.proofs.block.of_row.Goals as goal
 

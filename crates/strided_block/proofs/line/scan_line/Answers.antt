@@ -1,6 +1,6 @@
-use Rattle.std.proofs.Common.{◌+◌, ◌*◌, ◌<◌, ℕ, get_or, sym, ap, subst, ◌∙◌, arith}
-use Rattle.std.specs.Prelude.{Some, None, slice_set}
-use Rattle.strided_block.specs.Views.{IsThere, cell_at}
+use Rattle.std.proofs.Common.{◌+◌, ◌*◌, ◌<◌, ℕ, get_or, sym, ap, subst, arith}
+use Rattle.std.specs.Prelude.{Some, None}
+use Rattle.strided_block.specs.Views.{IsThere}
 use Rattle.strided_block.proofs.Owned.{owner_kept}
 use Rattle.strided_block.proofs.Sounds.{now_sound, now_cut, line_others, line_cell}
 use Rattle.strided_block.proofs.Lines.{same_below, same_back, line_below, same_line, some_cells, on_line, follows}

@@ -1,5 +1,5 @@
 -- The places of a row go back to the allocator. Assumes `Logic`.
-use Rattle.atomic_table.proofs.Names.{◌≡◌, ℕ, ◌*◌, ◌^◌, ◌<◌, List, [], ◌∷◌, ◌++◌, length, sym, refl, ap, ◌∙◌, subst, arith, named, Val, vunit, vptr, vint, w64, inst_fn, SProp, ent, emp, id⊢, Lft, Share, ftrue, flft, ‵, raw, ◌⊛◌, given, later, at_ret, ◌$◌, ◌∵◌, !, qed, by, move, keep, drop, split, join, group, split3, suffices, fsplit, fsplit3, fjoin, feq_l, vstruct, of_list, feq_i, learn, use1, use2, use3, await, rewrite, stop, fld, of_opd, unit_lit, bin, size_word, no_more, and_then, first, blocks, exec, returns, enter, alloc_all, pass_all, free_all, look_at, get, get_in, sets, lands_last, is, env, sub, whole, tables, yes, no, RattleType, owns, types_at, plain, Ptr, block_ptr, nothing, Stays, stay_dropped, walk_of, Goes-dropped, fact, heard, RefOf, WT, WpFn, ◌⊑◌, mem, calls_at_last, capped, Bool}
+use Rattle.atomic_table.proofs.Names.{◌≡◌, ℕ, ◌*◌, ◌^◌, ◌<◌, List, [], ◌∷◌, ◌++◌, length, sym, refl, ap, ◌∙◌, subst, arith, Val, vunit, vptr, vint, w64, inst_fn, SProp, ent, id⊢, Lft, Share, ftrue, flft, ‵, raw, ◌⊛◌, given, later, at_ret, ◌$◌, ◌∵◌, !, qed, by, move, keep, split, join, group, split3, suffices, fsplit, fsplit3, fjoin, feq_l, vstruct, of_list, feq_i, learn, use1, use2, use3, await, rewrite, stop, fld, of_opd, unit_lit, bin, size_word, no_more, and_then, first, blocks, exec, returns, enter, alloc_all, pass_all, free_all, look_at, get, get_in, sets, lands_last, is, env, sub, whole, tables, yes, no, RattleType, owns, types_at, plain, Ptr, nothing, Stays, stay_dropped, walk_of, Goes-dropped, fact, heard, RefOf, WT, WpFn, ◌⊑◌, calls_at_last, capped, Bool}
 use base.Fml.{froom, Incl-trans}
 use lib.Dec.{T}
 use mir.Syntax.{ty_array, ty_unit}

@@ -1,5 +1,5 @@
 -- A new row of empty places, with the right to free it. Assumes `Logic`.
-use Rattle.atomic_table.proofs.Names.{◌≡◌, ℕ, ◌*◌, ◌^◌, ◌<◌, List, [], ◌∷◌, ◌++◌, length, sym, refl, ap, ◌∙◌, subst, arith, lit<, named, Val, vunit, vptr, vint, vstruct, vcons, vnil, w64, inst_fn, SProp, emp, id⊢, Lft, Share, ftrue, flft, ‵, raw, ◌⊛◌, some, given, later, at_ret, ◌$◌, ◌∵◌, !, qed, by, move, keep, split, split3, join, group, fsplit, fjoin, pick, learn, use0, use1, use2, await, rewrite, stop, fld, of_opd, lit, bin, size_word, no_more, and_then, first, blocks, exec, returns, enter, alloc_all, pass_all, free_all, look_at, get, get_in, sets, sets_last, lands_last, lands_as, is, env, Env, agg, sub, whole, tables, yes, RattleType, owns, types_at, plain, Ptr, block_ptr, nothing, Stays, stay_dropped, walk_of, Goes-dropped, fact, fact_i, heard, RefOf, usize, shr_vals, shr_Tells, uint_vals, uint_Tells, WT, ◌⊑◌, mem, calls_at, calls_at_last, capped, Bool, replicate, length-replicate, live, Tuple, makes_shadow}
+use Rattle.atomic_table.proofs.Names.{◌≡◌, ℕ, ◌*◌, ◌^◌, ◌<◌, List, [], ◌∷◌, length, sym, refl, ap, ◌∙◌, subst, arith, lit<, named, Val, vptr, vint, vstruct, vcons, vnil, w64, inst_fn, SProp, emp, Lft, Share, ftrue, flft, ‵, raw, ◌⊛◌, some, given, later, at_ret, ◌$◌, ◌∵◌, !, qed, by, move, keep, split, split3, join, group, fsplit, fjoin, pick, learn, use0, use1, use2, await, rewrite, stop, fld, of_opd, lit, bin, size_word, no_more, and_then, first, blocks, exec, returns, enter, alloc_all, pass_all, free_all, look_at, get, get_in, sets, sets_last, lands_last, lands_as, is, env, Env, agg, whole, tables, yes, RattleType, owns, types_at, plain, block_ptr, nothing, Stays, stay_dropped, walk_of, Goes-dropped, fact, fact_i, heard, RefOf, usize, shr_vals, shr_Tells, uint_vals, uint_Tells, WT, ◌⊑◌, calls_at, calls_at_last, capped, Bool, replicate, length-replicate, live, Tuple, makes_shadow}
 use base.Fml.{froom, Incl-trans}
 use mathlib.Core.Bool.{true, false}
 use mir.Syntax.{Body, ty_array}
@@ -18,7 +18,7 @@ use denote.Struct.Declared as Declared
 use Rattle.atomic_table.proofs.Walks.{leaves, proved}
 use Rattle.atomic_table.proofs.Calls.{fm}
 use Rattle.atomic_table.proofs.Raw.{Row, all as places, row_Typed, From, at_from, Made, from_goes, from_gives}
-use Rattle.core.proofs.alloc.Calls.{Al, token, Answer-typed, Takes, at_takes, Answered, Takes-goes, Takes-gives, answers}
+use Rattle.core.proofs.alloc.Calls.{Al, Answer-typed, Takes, at_takes, Answered, Takes-goes, Takes-gives, answers}
 use Rattle.core.proofs.mem.Param.{El, R, elτ}
 use Rattle.core.proofs.slots.Leases.{uncapped, block_ty, block_size, block_align, args, P}
 use Rattle.core.proofs.slots.Opens.{row_val}
@@ -31,7 +31,6 @@ use Rattle.std.specs.Prelude.{Ok, Err}
 use Rattle.std.specs.Vec.Ownership.{FitsInBlock}
 use Rattle.std_alloc.proofs.VecSteps.Shapes.{after, head, arm_body}
 use Rattle.std_alloc.proofs.ResultValues.{ok_of, err_of}
-use Rattle.strided_block.specs.Memory.{right_owned}
 use Rattle.strided_block.specs.contracts.memory.Right as Rights
 use Rattle.strided_block.specs.contracts.memory.take as F
 use Rattle.strided_block.specs.contracts.memory.take.Key.{name as #self}

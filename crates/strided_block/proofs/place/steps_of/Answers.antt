@@ -1,4 +1,4 @@
-use Rattle.std.proofs.Common.{◌≡◌, ◌+◌, ◌%◌, ◌∷◌, [], length, ap, ◌∙◌, arith, length-append}
+use Rattle.std.proofs.Common.{◌%◌, ◌∷◌, [], length, ap, ◌∙◌, arith, length-append}
 use Rattle.xr_types.specs.Points.{size}
 use Rattle.strided_block.proofs.Steps.{row_next}
 use Rattle.strided_block.proofs.place.steps_of.Goals as goal

@@ -1,4 +1,4 @@
-use Rattle.strided_block.proofs.Holdings.{one_run, seen_long, seen_cell}
+use Rattle.strided_block.proofs.Holdings.{one_run}
 use Rattle.strided_block.proofs.runs.cell.Goals as goal
 
 pub run-requires : goal.run-requires

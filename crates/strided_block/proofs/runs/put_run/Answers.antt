@@ -1,4 +1,4 @@
-use Rattle.std.proofs.Common.{◌≡◌, length, get_or, refl, sym, ap, ◌∙◌, arith}
+use Rattle.std.proofs.Common.{length, get_or, refl, ap, ◌∙◌}
 use Rattle.std.specs.Prelude.{Some}
 use Rattle.strided_block.proofs.Holdings.{seen_long, put_changes, put_cell_at}
 use Rattle.strided_block.proofs.runs.put_run.Goals as goal

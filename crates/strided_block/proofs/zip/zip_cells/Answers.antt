@@ -1,4 +1,4 @@
-use Rattle.std.proofs.Common.{◌≡◌, sym, ap, subst, ◌∙◌}
+use Rattle.std.proofs.Common.{sym, ap, subst, ◌∙◌}
 use Rattle.xr_types.specs.Points.{IsPoint}
 use Rattle.strided_block.specs.Views.{shown}
 use Rattle.strided_block.specs.Zips.{Zips}

@@ -1,5 +1,4 @@
 use Rattle.std.proofs.Common.{◌≡◌, ◌<◌, ◌+◌, length, drop, get_or, refl, sym, ap, subst, ◌∙◌, arith}
-use Rattle.std.specs.Prelude.{Some}
 use Rattle.xr_types.specs.Points.{size, place}
 use Rattle.strided_block.specs.Parts.{IsRun}
 use Rattle.strided_block.proofs.Boxes.{place_below}

@@ -1,12 +1,10 @@
-use Rattle.std.proofs.Common.{◌≡◌, ◌<◌, ◌+◌, ℕ, List, min, length, take, drop, get_or, refl, sym, ap, subst, ◌∙◌, arith}
-use Rattle.std.specs.Prelude.{Some}
-use Rattle.xr_types.specs.Points.{size, place, IsPoint}
-use Rattle.strided_block.specs.Parts.{IsRun, InRun, Changes}
+use Rattle.std.proofs.Common.{◌≡◌, ◌<◌, length, take, drop, sym, ap, ◌∙◌, arith}
+use Rattle.xr_types.specs.Points.{size}
+use Rattle.strided_block.specs.Parts.{InRun, Changes}
 use Rattle.strided_block.specs.Steps.{spot}
 use Rattle.strided_block.specs.Views.{shown}
 use Rattle.strided_block.specs.Zips.{Zips, point_at}
-use Rattle.strided_block.proofs.Boxes.{place_below}
-use Rattle.strided_block.proofs.Splits.{Counts, counts, part_is, none_there, lead_there, lead_long}
+use Rattle.strided_block.proofs.Splits.{counts, part_is, none_there, lead_there, lead_long}
 use Rattle.strided_block.proofs.Zipped.{row_run, row_changes, one_more, lead_below}
 use Rattle.strided_block.proofs.zip.zip_rows.Goals as goal
 

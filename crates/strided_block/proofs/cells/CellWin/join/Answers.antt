@@ -1,4 +1,4 @@
-use Rattle.std.proofs.Common.{sym, ap, ◌∙◌}
+use Rattle.std.proofs.Common.{sym, ◌∙◌}
 use Rattle.strided_block.specs.Typed.{both_parts}
 use Rattle.strided_block.proofs.Clears.{or_false, cut_box, clear_both}
 use Rattle.strided_block.proofs.cells.CellWin.join.Goals as goal

@@ -1,5 +1,5 @@
 -- A run of the cells is seen as a slice. Assumes `Logic`.
-use Rattle.atomic_table.proofs.Names.{◌≡◌, ℕ, ◌+◌, ◌*◌, ◌^◌, ◌<◌, List, [], ◌∷◌, length, sym, refl, ap, ◌∙◌, subst, arith, w64, a_type, named, Val, vptr, vint, inst_fn, SProp, ent, emp, id⊢, Lft, Share, ftrue, flft, ‵, raw, ◌⊛◌, at_ret, ◌$◌, ◌∵◌, !, qed, by, move, keep, drop as skip, split, join, fsplit, fjoin, use0, use1, rewrite, stop, fld, of_opd, bin, size_word, no_more, and_then, first, blocks, exec, returns, enter, alloc_all, pass_all, free_all, look_at, get, get_in, sets, sets_last, is, env, agg, sub, whole, tables, yes, no, RattleType, owns, types_at, plain, Ptr, block_ptr, nothing, layouts, Stays, stay_dropped, walk_of, Goes-dropped, fact, fact_i, heard, flt_i, feq_i, RefOf, usize, shr_vals, shr_Tells, uint_vals, uint_Tells, ◌⊑◌, unhide, hidden_shr, full_share}
+use Rattle.atomic_table.proofs.Names.{◌≡◌, ℕ, ◌+◌, ◌*◌, ◌^◌, ◌<◌, List, [], ◌∷◌, length, sym, refl, ap, ◌∙◌, subst, arith, w64, a_type, named, Val, vptr, vint, inst_fn, SProp, emp, id⊢, Lft, Share, ftrue, flft, ‵, raw, ◌⊛◌, at_ret, ◌$◌, ◌∵◌, !, qed, by, move, keep, drop as skip, split, join, fsplit, fjoin, use0, use1, rewrite, stop, fld, of_opd, bin, size_word, no_more, and_then, first, blocks, exec, returns, enter, alloc_all, pass_all, free_all, look_at, get, get_in, sets, sets_last, is, env, agg, sub, whole, tables, yes, no, RattleType, owns, types_at, plain, Ptr, nothing, layouts, Stays, stay_dropped, walk_of, Goes-dropped, fact, fact_i, heard, flt_i, feq_i, RefOf, usize, shr_vals, shr_Tells, uint_vals, uint_Tells, ◌⊑◌, unhide, full_share}
 use base.Logic.{never}
 use base.Fml.{fat}
 use types.Kit.{flt_l}
@@ -10,7 +10,7 @@ use denote.RawPtr.{in_a_block}
 use denote.Opens.{hide}
 use denote.Ref.{Bor}
 use denote.Param.{layout}
-use denote.Slice.{ShrSlice, slice_val, elements_shared}
+use denote.Slice.{slice_val, elements_shared}
 use Rattle.atomic_table.proofs.Walks.{proved, leaves}
 use Rattle.core.proofs.atomic.Steps.{tail}
 use Rattle.core.proofs.mem.Param.{El, R}

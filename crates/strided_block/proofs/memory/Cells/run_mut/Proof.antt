@@ -1,10 +1,10 @@
 -- A run of the cells is lent to be written, and the cells follow it. Assumes `Logic`.
 use Rattle.atomic_table.proofs.Names.{◌≡◌, ℕ, ◌+◌, ◌*◌, ◌^◌, ◌<◌, ◌≤◌, List, [], ◌∷◌, ◌++◌, length, sym, refl, ap, ◌∙◌, subst, arith, w64, a_type, named, Val, vptr, vint, inst_fn, SProp, ent, sep, emp, id⊢, Lft, Share, Fml, ftrue, fsep, flft, ‵, raw, ◌⊛◌, some, later, at_ret, ◌$◌, ◌∵◌, !, qed, by, move, keep, split, split3, join, group, fsplit, fsplit3, fjoin, fjoin3, fpack, pick, use0, use1, use2, await, rewrite, stop, fld, of_opd, bin, size_word, no_more, and_then, first, blocks, exec, returns, enter, alloc_all, pass_all, free_all, look_at, get, get_in, sets, sets_last, is, env, agg, sub, whole, tables, yes, no, RattleType, owns, types_at, plain, Ptr, block_ptr, nothing, opens, layouts, Stays, stay_dropped, walk_of, Goes-dropped, Goes-spent_ref, fact, fact_i, heard, flt_i, RefMutOf, usize, mut_vals, mut_Tells, uint_vals, uint_Tells, ◌⊑◌, full_share, mem, cell_at, follows, sem, Logic, Ura}
 use base.Logic.{never}
-use base.Fml.{GName, fat, fobs, fbor}
+use base.Fml.{GName, fat}
 use types.Kit.{flt_l}
 use types.ByLocal.{take_at, give_at}
-use types.SemTy.{Body as Borrowed, cells}
+use types.SemTy.{cells}
 use lib.ListN.{take, length-take, length-drop, length-append}
 use lib.ListN.{drop as drop_l}
 use lib.Seq.{take_at as take_front}

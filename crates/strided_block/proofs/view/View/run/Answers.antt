@@ -1,6 +1,5 @@
-use Rattle.std.proofs.Common.{◌≡◌, ◌<◌, ℕ, List, min, length, drop, take, get_or, sym, ap, ◌∙◌, arith, length-take, length-drop}
-use Rattle.std.specs.Prelude.{Some}
-use Rattle.xr_types.specs.Points.{size, place}
+use Rattle.std.proofs.Common.{◌≡◌, ◌<◌, ℕ, List, min, length, drop, sym, ap, ◌∙◌, arith}
+use Rattle.xr_types.specs.Points.{size}
 use Rattle.strided_block.specs.Steps.{spot}
 use Rattle.strided_block.specs.Parts.{IsRun}
 use Rattle.strided_block.proofs.Holdings.{no_run, seen_long}

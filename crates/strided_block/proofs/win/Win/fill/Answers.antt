@@ -1,4 +1,4 @@
-use Rattle.std.proofs.Common.{refl, sym, ◌∙◌}
+use Rattle.std.proofs.Common.{refl, ◌∙◌}
 use Rattle.strided_block.proofs.Owned.{owner_kept}
 use Rattle.strided_block.proofs.Sounds.{now_sound, now_cut, now_laid, start_is, all_small, all_together, all_others, all_cell, all_point}
 use Rattle.strided_block.proofs.win.Win.fill.Goals as goal

@@ -1,4 +1,4 @@
-use Rattle.std.proofs.Common.{◌≡◌, ◌+◌, ◌<◌, length, sym, ap, subst, ◌∙◌, arith}
+use Rattle.std.proofs.Common.{◌+◌, sym, ◌∙◌, arith}
 use Rattle.strided_block.proofs.Joins.{now_lt, now_halves, now_ends, now_joined, now_same, now_cut, one_deed, now_deed}
 use Rattle.strided_block.proofs.Sounds.{lows}
 use Rattle.strided_block.proofs.win.Win.join.Goals as goal
@@ -22,8 +22,7 @@ joined_deed-requires g c =
 pub invariant_of-result : goal.invariant_of-result
 invariant_of-result g c =
     let lt = now_lt _ _ _ _ c.self.view_is c.other.view_is c.args.axis c.self.invariant.1 c.other.invariant.1 c.requires.axis c.requires.halves in
-    let halves = now_halves _ _ _ _ c.self.view_is c.other.view_is c.args.axis c.self.invariant.1 c.other.invariant.1 c.requires.axis c.requires.halves in
-    (
+    let halves = now_halves _ _ _ _ c.self.view_is c.other.view_is c.args.axis c.self.invariant.1 c.other.invariant.1 c.requires.axis c.requires.halves in (
       record {
         base = c.self.invariant.0.base ∙ sym c.meet.ensures.0;
         deed = now_deed _ _ c.args.axis c.self.invariant.1 c.other.invariant.1 lt halves _ _ _ _ _ _ _ halves.block c.meet.ensures.0 c.joined_deed.ensures c.meet.ensures.1 c.self.invariant.0.deed c.other.invariant.0.deed;

@@ -1,4 +1,4 @@
-use Rattle.std.proofs.Common.{length, sym, ap, ◌∙◌, arith}
+use Rattle.std.proofs.Common.{length, sym, ap, ◌∙◌}
 use Rattle.strided_block.proofs.Sounds.{lows, win_together}
 use Rattle.strided_block.proofs.Steps.{row_long}
 use Rattle.strided_block.proofs.win.Win.lies_together.Goals as goal

@@ -1,4 +1,4 @@
-use Rattle.std.proofs.Common.{◌≡◌, ◌+◌, length, ap, ◌∙◌, arith}
+use Rattle.std.proofs.Common.{length, ap, ◌∙◌, arith}
 use Rattle.std.specs.Prelude.{slice_set}
 use Rattle.strided_block.proofs.Boxes.{point_long}
 use Rattle.strided_block.proofs.Lines.{line_start, win_axis, win_cells, win_within, win_apart}

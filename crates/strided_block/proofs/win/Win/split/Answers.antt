@@ -1,4 +1,4 @@
-use Rattle.std.proofs.Common.{◌≡◌, ◌+◌, ◌-◌, ◌<◌, ◌≤◌, length, refl, sym, ap, ◌∙◌, arith}
+use Rattle.std.proofs.Common.{◌+◌, ◌-◌, length, refl, sym, ap, ◌∙◌, arith}
 use Rattle.std.specs.Prelude.{slice_set}
 use Rattle.strided_block.proofs.Halves.{ends_within, axis_now, at_now, first_sound, first_says, second_sound, second_says, deed_below, deed_above}
 use Rattle.strided_block.proofs.Sounds.{lows}

@@ -1,4 +1,3 @@
-use Rattle.std.proofs.Common.{refl}
 use Rattle.strided_block.proofs.Sounds.{view_clear, view_shown}
 use Rattle.strided_block.proofs.win.Win.view.Goals as goal
 
