@@ -1,5 +1,5 @@
 -- What the walks over raw cells share. Assumes `Logic`.
---     base_told, mark_told, mark_made, two_of      the machine values of a `Base`, of a `Cells` and of a pair
+--     base_told, mark_told, mark_made, two_of      the machine values of an `Origin`, of a `Share` and of a pair
 --     run_out, run_in, run_seen      a run of cells is taken out of the block's, put back, or seen
 --     to_cells, of_cells      cells that are all there, as those of a slice
 --     deals, merges      the cells are dealt to two owners, and those of two come to one
@@ -40,8 +40,8 @@ use Rattle.core.specs.Mem.Slots.Ownership.{slots}
 use Rattle.std_alloc.proofs.RcSteps.{word}
 use Rattle.strided_block.specs.Memory.{one_owned, all_owned, one_lent, all_lent}
 use Rattle.strided_block.specs.Parts.{dealt, either, joined}
-use Rattle.strided_block.specs.contracts.memory.Cells as C-type
-use Rattle.strided_block.specs.contracts.memory.Base as B-type
+use Rattle.strided_block.specs.contracts.memory.Share as C-type
+use Rattle.strided_block.specs.contracts.memory.Origin as B-type
 
 module _ (E : El) where
   abbrev pub Cr : RattleType
@@ -50,7 +50,7 @@ module _ (E : El) where
   abbrev pub Bs : RattleType
   Bs = B-type.the_row (R E)
 
-  -- the one field of `Cells`, which takes no bytes
+  -- the one field of `Share`, which takes no bytes
   abbrev pub Mark : RattleType
   Mark = Struct (shape (C-type.the_type (R E)))
 

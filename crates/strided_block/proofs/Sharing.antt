@@ -20,7 +20,7 @@ use denote.Struct.Owning.{shape, fields, to}
 use Rattle.std_alloc.proofs.SendSync.{FreesAnywhere, quiet}
 use Rattle.strided_block.specs.Memory.{one_owned, all_owned, one_lent, all_lent, small, cells_owned, cells_lent}
 use Rattle.core.specs.declared.alloc.Allocator.{Ghosts}
-use Rattle.strided_block.specs.contracts.memory.Cells as Cells
+use Rattle.strided_block.specs.contracts.memory.Share as Share
 use Rattle.strided_block.specs.contracts.memory.Right as Right
 
 module _ (R : RattleType) (L : RowLaws R) where
@@ -69,13 +69,13 @@ module _ (R : RattleType) where
   cells-Common y null_ptr cs κ = tt
   cells-Common y (block_ptr b o) cs κ = (tt, all-Common y b o cs κ)
 
-  pub Cells-send : IsSend R → IsSend (Cells.the_row R)
-  Cells-send s =
-      let O = Cells.the_type R in let own : AllSend (fields O) = (search sendable, tt) in
+  pub Share-send : IsSend R → IsSend (Share.the_row R)
+  Share-send s =
+      let O = Share.the_type R in let own : AllSend (fields O) = (search sendable, tt) in
       owning_send O own (λ c. cells-Keyless s c.at c.slots) (λ k. quiet (to O) (exits_of k (fields O)) ((struct_send (shape O) own).leaving k))
 
-  pub Cells-sync : IsSync R → IsSync (Cells.the_row R)
-  Cells-sync y = let O = Cells.the_type R in record { shared = λ c b o κ. ((struct_sync (shape O) (search sendable, tt)).shared (to O c) b o κ, cells-Common y c.at c.slots κ) }
+  pub Share-sync : IsSync R → IsSync (Share.the_row R)
+  Share-sync y = let O = Share.the_type R in record { shared = λ c b o κ. ((struct_sync (shape O) (search sendable, tt)).shared (to O c) b o κ, cells-Common y c.at c.slots κ) }
 
   module _ (A : RattleType) (g : Ghosts A.Denot) where
     pub Right-send : FreesAnywhere A.Denot g → IsSend (Right.the_row R A g)

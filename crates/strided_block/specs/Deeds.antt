@@ -3,18 +3,18 @@ use Rattle.std.specs.Prelude.{◌≡◌, ℕ, true, false, List, length, map, ge
 use denote.RawPtr.{Ptr}
 use Rattle.strided_block.specs.Parts.{somes}
 use Rattle.strided_block.specs.Views.{IsFull}
-use Rattle.strided_block.specs.declared.memory.Base.{Base}
-use Rattle.strided_block.specs.declared.memory.Cells.{Cells}
+use Rattle.strided_block.specs.declared.memory.Origin.{Origin}
+use Rattle.strided_block.specs.declared.memory.Share.{Share}
 use Rattle.strided_block.specs.declared.memory.Deed.{Deed}
 
 module _ {X : Type 0} where
-  abbrev pub base_at : Base X → Ptr
+  abbrev pub base_at : Origin X → Ptr
   base_at b = b.ptr
 
-  abbrev pub cells_at : Cells X → Ptr
+  abbrev pub cells_at : Share X → Ptr
   cells_at c = c.at
 
-  abbrev pub cells_slots : Cells X → List (Option X)
+  abbrev pub cells_slots : Share X → List (Option X)
   cells_slots c = c.slots
 
   abbrev pub deed_at : Deed X → Ptr

@@ -7,7 +7,7 @@ ghost use Rattle.strided_block.specs.Boxes.{zeros};
 ghost use Rattle.core.specs.Mem.Slots.{slots_items, slots_ptr, slots_len, IsFull as IsRow};
 ghost use Rattle.strided_block.specs.Deeds.{deed_at, deed_count};
 
-use crate::memory::{Base, Cells, Deed, copied, filled, free};
+use crate::memory::{Deed, Origin, Share, copied, filled, free};
 use crate::place::{count, points, steps_of, twin};
 use crate::row::{put_bytes, put_numbers};
 use crate::view::View;
@@ -18,8 +18,8 @@ use xr_types::{Elem, NoMemory, Shape};
 
 /// Cells of one type: one for each point of a shape. Contracts see its shape and its cells in row order.
 pub struct Block<T> {
-    pub(crate) base: Base<T>,
-    pub(crate) cells: Cells<T>,
+    pub(crate) base: Origin<T>,
+    pub(crate) cells: Share<T>,
     pub(crate) deed: Option<Deed<T>>,
     pub(crate) shape: Shape,
 }
@@ -41,7 +41,7 @@ impl<T> Block<T> {
     ghost use Rattle.strided_block.specs.Parts.{somes};
 
     /// The block's fields.
-    pub(crate) fn into_parts(self) -> (Base<T>, Cells<T>, Option<Deed<T>>, Shape)
+    pub(crate) fn into_parts(self) -> (Origin<T>, Share<T>, Option<Deed<T>>, Shape)
         ensures fields { IsBlock result.3 (base_at result.0) (cells_at result.1) (cells_slots result.1) result.2 }
         ensures value { self ≡ record { shape = result.3; cells = somes (cells_slots result.1) } }
     {
@@ -77,7 +77,7 @@ fn of_row<T>(row: Slots<T>, deed: Deed<T>, shape: Shape) -> Block<T>
     ensures { result ≡ record { shape = shape; cells = slots_items row } }
 {
     let count = row.len();
-    let (base, cells) = Cells::of(row);
+    let (base, cells) = Share::of(row);
     if count == 0 {
         let (cells, none) = cells.cut(1, 1, 1);
         free(none.into_row(base, 0), deed);

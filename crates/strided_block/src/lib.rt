@@ -18,7 +18,7 @@ pub use block::Block;
 pub use cells::{CellBlock, CellView, CellWin};
 pub use line::scan_line;
 #[doc(hidden)]
-pub use memory::{Base, Cells, Deed, Right};
+pub use memory::{Deed, Origin, Right, Share};
 pub use typed::{TypedBlock, TypedView, TypedWin};
 pub use view::View;
 pub use win::Win;

@@ -8,7 +8,7 @@ ghost use Rattle.strided_block.specs.Deeds.{base_at, cells_at, cells_slots};
 ghost use Rattle.strided_block.specs.Parts.{Changes, OnLine};
 ghost use Rattle.strided_block.specs.Views.{Cut, IsThere, shown, held, cell_at};
 
-use crate::memory::{Base, Cells};
+use crate::memory::{Origin, Share};
 use crate::runs::{cell, put_cell};
 use crate::view::View;
 use crate::win::Win;
@@ -54,8 +54,8 @@ fn scan_places<'v, A: Elem, B: Elem, T: Copy, F: Fn(T, A, B) -> T>(
     from_a: Places,
     b: &View<'v, B>,
     from_b: Places,
-    all: &mut Cells<T>,
-    base: Base<T>,
+    all: &mut Share<T>,
+    base: Origin<T>,
     to: Places,
     count: usize,
 )
@@ -78,7 +78,7 @@ fn scan_places<'v, A: Elem, B: Elem, T: Copy, F: Fn(T, A, B) -> T>(
 }
 
 // Writes one cell at the places of a line.
-fn fill_places<T: Copy>(all: &mut Cells<T>, base: Base<T>, to: Places, count: usize, item: T)
+fn fill_places<T: Copy>(all: &mut Share<T>, base: Origin<T>, to: Places, count: usize, item: T)
     requires base { base_at base ≡ cells_at all.old }
     requires room { (j : ℕ) → j < count → IsThere (cells_slots all.old) (to.first + j * to.step) }
     requires apart { 0 < to.step }

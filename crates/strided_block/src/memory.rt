@@ -14,49 +14,49 @@ use std::mem::{align_of, size_of};
 use std::slice;
 use std_alloc::room::may_hold;
 
-/// Where a block begins. It owns nothing.
+/// The pointer to the first cell of a block, which whoever has some of its cells has.
 #[derive(Drop)]
-pub struct Base<T> {
+pub struct Origin<T> {
     ptr: *mut T,
 }
 
-impl<T> Clone for Base<T> {
+impl<T> Clone for Origin<T> {
     ghost use Rattle.std.specs.Prelude.{⊤};
 
     ghost is_clone = { λ x y. y ≡ x };
 
     ghost is_infallible = { λ _. ⊤ };
 
-    fn clone(&self) -> Result<Base<T>, AllocError> {
+    fn clone(&self) -> Result<Origin<T>, AllocError> {
         Ok(*self)
     }
 }
 
-impl<T> Copy for Base<T> {}
+impl<T> Copy for Origin<T> {}
 
-unsafe impl<T> Send for Base<T> {}
+unsafe impl<T> Send for Origin<T> {}
 
-unsafe impl<T> Sync for Base<T> {}
+unsafe impl<T> Sync for Origin<T> {}
 
-/// Some cells of a block, of which other owners may have the rest. It takes no space.
+/// A share of a block's cells: the cells that one owner has, where other shares have the rest. It is there for the proof alone.
 #[derive(Drop)]
-pub struct Cells<T> {
+pub struct Share<T> {
     mark: PhantomData<*const T>,
     ghost at: { Ptr },
     ghost slots: { List (Option T) },
 }
 
-impl<T> Model for Cells<T> {
+impl<T> Model for Share<T> {
     ghost also_owns = { λ c. cells_owned T.row c.at c.slots };
 
     ghost also_shares = { λ c _ κ. cells_lent T.row c.at c.slots κ };
 }
 
-unsafe impl<T: Send> Send for Cells<T> {}
+unsafe impl<T: Send> Send for Share<T> {}
 
-unsafe impl<T: Sync> Sync for Cells<T> {}
+unsafe impl<T: Sync> Sync for Share<T> {}
 
-/// The right to give the memory of so many cells back to an allocator. It takes no space.
+/// The right to give the memory of so many cells back to its allocator, for the proof alone.
 pub struct Right<T, A: Allocator> {
     mark: PhantomData<*const (T, A)>,
     ghost at: { Ptr },
@@ -163,30 +163,30 @@ pub(crate) fn free<T>(row: Slots<T>, deed: Deed<T>)
     give(&heap, row, right);
 }
 
-impl<T> Cells<T> {
+impl<T> Share<T> {
     ghost use Rattle.strided_block.specs.Lends.{lends_run};
 
     /// All cells of a row.
-    pub(crate) fn of(row: Slots<T>) -> (Base<T>, Cells<T>)
+    pub(crate) fn of(row: Slots<T>) -> (Origin<T>, Share<T>)
         requires { IsFull row }
         ensures { (result.0.ptr ≡ slots_ptr row) × (result.1.at ≡ slots_ptr row) × (result.1.slots ≡ map Some (slots_items row)) }
     {
         let parts = unsafe { row.into_raw_parts() };
-        (Base { ptr: parts.0 }, Cells { mark: PhantomData })
+        (Origin { ptr: parts.0 }, Share { mark: PhantomData })
     }
 
     /// The row of all cells.
-    pub(crate) fn into_row(self, base: Base<T>, count: usize) -> Slots<T>
+    pub(crate) fn into_row(self, base: Origin<T>, count: usize) -> Slots<T>
         requires { (base.ptr ≡ self.at) × (count ≡ length self.slots) × IsRun self.slots 0 count }
         ensures { (slots_ptr result ≡ self.at) × (slots_len result ≡ count) × IsFull result × (map Some (slots_items result) ≡ self.slots) }
     {
-        let Cells { mark: _ } = self;
+        let Share { mark: _ } = self;
         unsafe { Slots::from_raw_parts(base.ptr, count) }
     }
 
     /// The cells from a place on.
     #[inline(always)]
-    pub(crate) fn run(&self, base: Base<T>, from: usize, count: usize) -> &[T]
+    pub(crate) fn run(&self, base: Origin<T>, from: usize, count: usize) -> &[T]
         requires { (base.ptr ≡ self.now.at) × IsRun self.now.slots from count }
         ensures { take count (drop from self.now.slots) ≡ map Some result.now }
     {
@@ -195,7 +195,7 @@ impl<T> Cells<T> {
 
     /// The cells from a place on, to be written.
     #[inline(always)]
-    pub(crate) fn run_mut(&mut self, base: Base<T>, from: usize, count: usize) -> &mut [T]
+    pub(crate) fn run_mut(&mut self, base: Origin<T>, from: usize, count: usize) -> &mut [T]
         requires { (base.ptr ≡ self.old.at) × IsRun self.old.slots from count }
         ensures* writes_back { sem 𝓛 (lends_run T.row self.entry from count result) }
         ensures value { take count (drop from self.old.slots) ≡ map Some result.now }
@@ -204,20 +204,20 @@ impl<T> Cells<T> {
     }
 
     /// The cells whose position along an axis of this step and size is below the bound, and the others.
-    pub(crate) fn cut(self, _step: u64, _size: u64, _bound: u64) -> (Cells<T>, Cells<T>)
+    pub(crate) fn cut(self, _step: u64, _size: u64, _bound: u64) -> (Share<T>, Share<T>)
         ensures { (result.0.at ≡ self.at) × (result.1.at ≡ self.at) × (result.0.slots ≡ dealt (below _step _size _bound) 0 self.slots) × (result.1.slots ≡ dealt (above _step _size _bound) 0 self.slots) }
     {
-        let Cells { mark: _ } = self;
-        (Cells { mark: PhantomData }, Cells { mark: PhantomData })
+        let Share { mark: _ } = self;
+        (Share { mark: PhantomData }, Share { mark: PhantomData })
     }
 
     /// The cells of both.
-    pub(crate) fn meet(self, other: Cells<T>) -> Cells<T>
+    pub(crate) fn meet(self, other: Share<T>) -> Share<T>
         requires { other.at ≡ self.at }
         ensures { (result.at ≡ self.at) × (result.slots ≡ joined self.slots other.slots) }
     {
-        let Cells { mark: _ } = self;
-        let Cells { mark: _ } = other;
-        Cells { mark: PhantomData }
+        let Share { mark: _ } = self;
+        let Share { mark: _ } = other;
+        Share { mark: PhantomData }
     }
 }

@@ -5,12 +5,12 @@ ghost use Rattle.strided_block.specs.Parts.{IsRun, Changes, InRun};
 ghost use Rattle.strided_block.specs.Typed.{number_or_zero, mask_byte};
 ghost use Rattle.strided_block.specs.Views.{IsThere};
 
-use crate::memory::{Base, Cells};
+use crate::memory::{Origin, Share};
 use crate::row::{put_bytes, put_numbers};
 use xr_types::Elem;
 
 /// The cell at a place.
-pub(crate) fn cell<T: Copy>(cells: &Cells<T>, base: Base<T>, at: usize) -> T
+pub(crate) fn cell<T: Copy>(cells: &Share<T>, base: Origin<T>, at: usize) -> T
     requires { (base_at base ≡ cells_at cells.now) × IsThere (cells_slots cells.now) at }
     ensures { get_or (cells_slots cells.now) at None ≡ Some result }
 {
@@ -27,7 +27,7 @@ fn put_first<T: Copy>(all: &mut [T], item: T)
 }
 
 /// Writes the cell at a place.
-pub(crate) fn put_cell<T: Copy>(cells: &mut Cells<T>, base: Base<T>, at: usize, item: T)
+pub(crate) fn put_cell<T: Copy>(cells: &mut Share<T>, base: Origin<T>, at: usize, item: T)
     requires { (base_at base ≡ cells_at cells.old) × IsThere (cells_slots cells.old) at }
     ensures block { cells_at cells.new ≡ cells_at cells.old }
     ensures others { Changes (cells_slots cells.old) (cells_slots cells.new) (InRun at 1) }
@@ -48,8 +48,8 @@ fn fill_slice<T: Copy>(all: &mut [T], item: T)
 
 /// Writes one cell at so many places.
 pub(crate) fn fill_run<T: Copy>(
-    cells: &mut Cells<T>,
-    base: Base<T>,
+    cells: &mut Share<T>,
+    base: Origin<T>,
     at: usize,
     count: usize,
     item: T,
@@ -71,7 +71,7 @@ fn copy_slice<T: Copy>(all: &mut [T], items: &[T])
 }
 
 /// Writes cells from a place on.
-pub(crate) fn put_run<T: Copy>(cells: &mut Cells<T>, base: Base<T>, at: usize, items: &[T])
+pub(crate) fn put_run<T: Copy>(cells: &mut Share<T>, base: Origin<T>, at: usize, items: &[T])
     requires { (base_at base ≡ cells_at cells.old) × IsRun (cells_slots cells.old) at (length items.now) }
     ensures block { cells_at cells.new ≡ cells_at cells.old }
     ensures others { Changes (cells_slots cells.old) (cells_slots cells.new) (InRun at (length items.now)) }
@@ -82,8 +82,8 @@ pub(crate) fn put_run<T: Copy>(cells: &mut Cells<T>, base: Base<T>, at: usize, i
 
 /// Writes the numbers of cells from a place on, 0 for a missing one.
 pub(crate) fn put_number_run<T: Elem>(
-    cells: &mut Cells<T>,
-    base: Base<T>,
+    cells: &mut Share<T>,
+    base: Origin<T>,
     at: usize,
     items: &[Option<i128>],
 )
@@ -96,7 +96,12 @@ pub(crate) fn put_number_run<T: Elem>(
 }
 
 /// Writes the mask's bytes of cells from a place on.
-pub(crate) fn put_byte_run(cells: &mut Cells<u8>, base: Base<u8>, at: usize, items: &[Option<i128>])
+pub(crate) fn put_byte_run(
+    cells: &mut Share<u8>,
+    base: Origin<u8>,
+    at: usize,
+    items: &[Option<i128>],
+)
     requires { (base_at base ≡ cells_at cells.old) × IsRun (cells_slots cells.old) at (length items.now) }
     ensures block { cells_at cells.new ≡ cells_at cells.old }
     ensures others { Changes (cells_slots cells.old) (cells_slots cells.new) (InRun at (length items.now)) }

@@ -9,7 +9,7 @@ ghost use Rattle.strided_block.specs.Views.{shown, together, IsThere};
 
 use crate::axes::{added, moved_sizes, moved_steps, round};
 use crate::line::Places;
-use crate::memory::{Base, Cells};
+use crate::memory::{Origin, Share};
 use crate::place::{points, spot_of, steps_of};
 use crate::runs::cell;
 use std::marker::Model;
@@ -30,8 +30,8 @@ pub(crate) fn agree_from(axis: usize, a: &[u64], b: &[u64]) -> bool
 /// A lent view of cells of a block: a first cell, sizes, and along each axis a step from one cell to the next. A step may be 0, which repeats a cell, or go back.
 #[derive(Drop)]
 pub struct View<'a, T> {
-    pub(crate) cells: &'a Cells<T>,
-    pub(crate) base: Base<T>,
+    pub(crate) cells: &'a Share<T>,
+    pub(crate) base: Origin<T>,
     pub(crate) start: u64,
     pub(crate) shape: Shape,
     // steps back are counted round 2^64

@@ -9,7 +9,7 @@ ghost use Rattle.strided_block.specs.Views.{Cut, KeptOutside, SameIn, Halves, Is
 use crate::axes::zeros_for;
 use crate::block::Block;
 use crate::line::Places;
-use crate::memory::{Base, Cells, Deed};
+use crate::memory::{Deed, Origin, Share};
 use crate::place::{place_in, points, spot_of, steps_of, twin};
 use crate::runs::{put_byte_run, put_cell, put_number_run, put_run};
 use crate::view::{View, agree_from};
@@ -19,8 +19,8 @@ use xr_types::{Elem, Shape};
 
 /// The owned cells of a box in a block, to be written. Other windows may have the block's other cells. It has to be spent, by `join` or `into_block`.
 pub struct Win<T> {
-    pub(crate) base: Base<T>,
-    pub(crate) cells: Cells<T>,
+    pub(crate) base: Origin<T>,
+    pub(crate) cells: Share<T>,
     pub(crate) deed: Option<Deed<T>>,
     pub(crate) whole: Shape,
     pub(crate) low: Shape,

@@ -7,7 +7,7 @@ ghost use Rattle.strided_block.specs.Steps.{spot};
 ghost use Rattle.strided_block.specs.Views.{Cut, KeptOutside, IsLaid, shown, together, cell_at, stepped_sight, window_sight};
 ghost use Rattle.strided_block.specs.Zips.{Zips, point_at};
 
-use crate::memory::{Base, Cells};
+use crate::memory::{Origin, Share};
 use crate::place::{points, spot_of, steps_of};
 use crate::runs::fill_run;
 use crate::view::View;
@@ -109,8 +109,8 @@ fn zip_lead<
     c: &View<'v, C>,
     d: &View<'v, D>,
     lead: &Shape,
-    all: &mut Cells<T>,
-    base: Base<T>,
+    all: &mut Share<T>,
+    base: Origin<T>,
     at: usize,
 )
     requires callable { F.IsAlwaysCallable f.now }
@@ -151,8 +151,8 @@ fn zip_rows<
     c: &View<'v, C>,
     d: &View<'v, D>,
     axis: usize,
-    all: &mut Cells<T>,
-    base: Base<T>,
+    all: &mut Share<T>,
+    base: Origin<T>,
     start: u64,
     steps: &Shape,
 )
@@ -182,8 +182,8 @@ fn zip_rows<
 
 /// Writes one cell at all points of a window, a run after another.
 pub(crate) fn fill_rows<T: Copy>(
-    all: &mut Cells<T>,
-    base: Base<T>,
+    all: &mut Share<T>,
+    base: Origin<T>,
     start: u64,
     steps: &Shape,
     shape: &Shape,

@@ -20,10 +20,10 @@ use Rattle.std.proofs.lemmas.List.{length-map}
 use Rattle.std_alloc.proofs.RcSteps.{word, word-Good}
 use Rattle.strided_block.specs.Memory.{all_owned, cells_owned}
 use Rattle.strided_block.proofs.Owners.{Cr, Bs, mark, mark_told, base_told, sz, Place, to_row_cells, all_there}
-use Rattle.strided_block.specs.contracts.memory.Cells.into_row.{ended, clauses}
-use Rattle.strided_block.specs.contracts.memory.Cells.into_row.Key.{name as #self}
-use Rattle.strided_block.proofs.memory.Cells.into_row.Statement.{statement}
-use Rattle.strided_block.proofs.memory.Cells.into_row.Code as code
+use Rattle.strided_block.specs.contracts.memory.Share.into_row.{ended, clauses}
+use Rattle.strided_block.specs.contracts.memory.Share.into_row.Key.{name as #self}
+use Rattle.strided_block.proofs.memory.Share.into_row.Statement.{statement}
+use Rattle.strided_block.proofs.memory.Share.into_row.Code as code
 use Rattle.strided_block.specs.Parts.{IsRun}
 
 pub into_row_spec : {M : Type 1} → statement M

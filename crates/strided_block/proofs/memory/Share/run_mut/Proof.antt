@@ -28,10 +28,10 @@ use Rattle.strided_block.specs.Memory.{all_owned, cells_owned}
 use Rattle.strided_block.specs.Parts.{IsRun, somes}
 use Rattle.strided_block.specs.Lends.{with_slots, put_in}
 use Rattle.strided_block.proofs.Owners.{Cr, Bs, Mark, base_told, sz, Place, Others, run_out, run_in, to_cells, of_cells}
-use Rattle.strided_block.specs.contracts.memory.Cells.run_mut.{ended, clauses}
-use Rattle.strided_block.specs.contracts.memory.Cells.run_mut.Key.{name as #self}
-use Rattle.strided_block.proofs.memory.Cells.run_mut.Statement.{statement}
-use Rattle.strided_block.proofs.memory.Cells.run_mut.Code as code
+use Rattle.strided_block.specs.contracts.memory.Share.run_mut.{ended, clauses}
+use Rattle.strided_block.specs.contracts.memory.Share.run_mut.Key.{name as #self}
+use Rattle.strided_block.proofs.memory.Share.run_mut.Statement.{statement}
+use Rattle.strided_block.proofs.memory.Share.run_mut.Code as code
 
 module _ (E : El) {M : Type 1} {𝓤 : Ura M} (𝓛 : Logic 𝓤) (d : (Cr E).Denot) (from n b o : ℕ) (at : d.at ≡ block_ptr b o) (within : from + n ≤ length d.slots) (tight : length d.slots * sz E < 2 ^ 63) (rb ro : ℕ) where
   -- the cells, once these are written

@@ -9,10 +9,10 @@ use Rattle.core.proofs.mem.Param.{El, R}
 use Rattle.strided_block.specs.Memory.{all_owned, cells_owned}
 use Rattle.strided_block.specs.Parts.{dealt, below, above}
 use Rattle.strided_block.proofs.Owners.{Cr, Mark, mark, mark_made, mark_told, sz, Place, length-dealt, deals, two_val, two_of}
-use Rattle.strided_block.specs.contracts.memory.Cells.cut.{ended, clauses}
-use Rattle.strided_block.specs.contracts.memory.Cells.cut.Key.{name as #self}
-use Rattle.strided_block.proofs.memory.Cells.cut.Statement.{statement}
-use Rattle.strided_block.proofs.memory.Cells.cut.Code as code
+use Rattle.strided_block.specs.contracts.memory.Share.cut.{ended, clauses}
+use Rattle.strided_block.specs.contracts.memory.Share.cut.Key.{name as #self}
+use Rattle.strided_block.proofs.memory.Share.cut.Statement.{statement}
+use Rattle.strided_block.proofs.memory.Share.cut.Code as code
 
 pub cut_spec : {M : Type 1} → statement M
 cut_spec 𝓤 𝓛 𝓜 𝓡 wired T L =

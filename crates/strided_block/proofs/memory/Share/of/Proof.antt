@@ -14,10 +14,10 @@ use Rattle.std.proofs.lemmas.List.{length-map}
 use Rattle.std_alloc.proofs.RcSteps.{word}
 use Rattle.strided_block.specs.Memory.{all_owned}
 use Rattle.strided_block.proofs.Owners.{Cr, Bs, Mark, mark, mark_made, base_made, sz, Place, of_row_cells, two_val, two_of}
-use Rattle.strided_block.specs.contracts.memory.Cells.of.{ended, clauses}
-use Rattle.strided_block.specs.contracts.memory.Cells.of.Key.{name as #self}
-use Rattle.strided_block.proofs.memory.Cells.of.Statement.{statement}
-use Rattle.strided_block.proofs.memory.Cells.of.Code as code
+use Rattle.strided_block.specs.contracts.memory.Share.of.{ended, clauses}
+use Rattle.strided_block.specs.contracts.memory.Share.of.Key.{name as #self}
+use Rattle.strided_block.proofs.memory.Share.of.Statement.{statement}
+use Rattle.strided_block.proofs.memory.Share.of.Code as code
 
 pub of_spec : {M : Type 1} → statement M
 of_spec 𝓤 𝓛 𝓜 𝓡 wired T L =

@@ -9,8 +9,8 @@ use denote.Param.Shared.{copy_shared}
 use denote.Struct.Laws.{field_copy}
 use denote.Struct.Lending.{of_Lends}
 use Rattle.core.specs.contracts.marker.PhantomData as marker
-use Rattle.strided_block.specs.contracts.memory.Cells as C
-use Rattle.strided_block.proofs.memory.Cells.TheLaw.Statement.{statement}
+use Rattle.strided_block.specs.contracts.memory.Share as C
+use Rattle.strided_block.proofs.memory.Share.TheLaw.Statement.{statement}
 use Rattle.strided_block.proofs.Sharing.{cells_laws, Lends-cells}
 
 pub shares : (R : RattleType) (L : Laws R) → statement R L

@@ -22,10 +22,10 @@ use Rattle.std_alloc.proofs.RcSteps.{word, word-Good}
 use Rattle.strided_block.specs.Memory.{cells_lent}
 use Rattle.strided_block.specs.Parts.{IsRun}
 use Rattle.strided_block.proofs.Owners.{Cr, Bs, base_told, sz, run_seen}
-use Rattle.strided_block.specs.contracts.memory.Cells.run.{ended, clauses}
-use Rattle.strided_block.specs.contracts.memory.Cells.run.Key.{name as #self}
-use Rattle.strided_block.proofs.memory.Cells.run.Statement.{statement}
-use Rattle.strided_block.proofs.memory.Cells.run.Code as code
+use Rattle.strided_block.specs.contracts.memory.Share.run.{ended, clauses}
+use Rattle.strided_block.specs.contracts.memory.Share.run.Key.{name as #self}
+use Rattle.strided_block.proofs.memory.Share.run.Statement.{statement}
+use Rattle.strided_block.proofs.memory.Share.run.Code as code
 
 pub run_spec : {M : Type 1} → statement M
 run_spec 𝓤 𝓛 𝓜 𝓡 wired T L =

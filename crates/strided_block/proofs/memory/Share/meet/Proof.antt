@@ -8,10 +8,10 @@ use Rattle.core.proofs.mem.Param.{El, R}
 use Rattle.strided_block.specs.Memory.{all_owned, cells_owned}
 use Rattle.strided_block.specs.Parts.{joined}
 use Rattle.strided_block.proofs.Owners.{Cr, Mark, mark, mark_made, mark_told, sz, Place, joined_small, merges}
-use Rattle.strided_block.specs.contracts.memory.Cells.meet.{ended, clauses}
-use Rattle.strided_block.specs.contracts.memory.Cells.meet.Key.{name as #self}
-use Rattle.strided_block.proofs.memory.Cells.meet.Statement.{statement}
-use Rattle.strided_block.proofs.memory.Cells.meet.Code as code
+use Rattle.strided_block.specs.contracts.memory.Share.meet.{ended, clauses}
+use Rattle.strided_block.specs.contracts.memory.Share.meet.Key.{name as #self}
+use Rattle.strided_block.proofs.memory.Share.meet.Statement.{statement}
+use Rattle.strided_block.proofs.memory.Share.meet.Code as code
 
 pub meet_spec : {M : Type 1} → statement M
 meet_spec 𝓤 𝓛 𝓜 𝓡 wired T L =
