@@ -3,7 +3,7 @@ use Rattle.std.proofs.Common.{◌≡◌, ◌<◌, ◌≤◌, ◌+◌, ◌||◌, 
 use Rattle.std.specs.List.{list_any}
 use Rattle.std.proofs.lemmas.Bool.{or_parts}
 use Rattle.xr_arrays.specs.Nodes.{IsBelow}
-use Rattle.xr_grouping.specs.Fills.{gaps, is_short, shown}
+use Rattle.xr_grouping.specs.Fills.{gaps, is_long, is_short, shown}
 use Rattle.xr_grouping.proofs.Binned.{last_where, next_where}
 
 take_all : {X : Type 0} (xs : List X) (n : ℕ) → length xs ≤ n → take n xs ≡ xs
@@ -11,6 +11,11 @@ take_all [] zero le = refl
 take_all [] (suc n) le = refl
 take_all (x ∷ xs) zero le = absurd (omega (arith, le))
 take_all (x ∷ xs) (suc n) le = ap (λ ys. x ∷ ys) (take_all xs n (omega (arith, le)))
+
+none_where : (test : List ℕ → Bool) (lists : List (List ℕ)) (i : ℕ) → list_any test lists ≡ false → i < length lists → test (get_or lists i []) ≡ false
+none_where test [] i none lt = absurd (omega (arith, lt))
+none_where test (ps ∷ lists) zero none lt = (or_parts (test ps) (list_any test lists) none).0
+none_where test (ps ∷ lists) (suc i) none lt = none_where test lists i (or_parts (test ps) (list_any test lists) none).1 (omega (arith, lt))
 
 module _ (m : ℕ) where
   -- the gaps up to a place, and one more
@@ -64,6 +69,15 @@ module _ (m : ℕ) where
   last_short lists at le = last_where (λ ps. is_short m ps) lists at le
 
   pub none_short : (lists : List (List ℕ)) (i : ℕ) → list_any (λ ps. is_short m ps) lists ≡ false → i < length lists → is_short m (get_or lists i []) ≡ false
-  none_short [] i none lt = absurd (omega (arith, lt))
-  none_short (ps ∷ lists) zero none lt = (or_parts (is_short m ps) (list_any (λ qs. is_short m qs) lists) none).0
-  none_short (ps ∷ lists) (suc i) none lt = none_short lists i (or_parts (is_short m ps) (list_any (λ qs. is_short m qs) lists) none).1 (omega (arith, lt))
+  none_short lists i none lt = none_where (λ ps. is_short m ps) lists i none lt
+
+  -- ---- where no list is long
+
+  pub next_long : (lists : List (List ℕ)) (at : ℕ) → at < length lists → list_any (λ ps. is_long m ps) (drop at lists) ≡ (is_long m (get_or lists at []) || list_any (λ ps. is_long m ps) (drop (at + 1) lists))
+  next_long lists at here = next_where (λ ps. is_long m ps) lists at here
+
+  pub last_long : (lists : List (List ℕ)) (at : ℕ) → length lists ≤ at → list_any (λ ps. is_long m ps) (drop at lists) ≡ false
+  last_long lists at le = last_where (λ ps. is_long m ps) lists at le
+
+  pub none_long : (lists : List (List ℕ)) (i : ℕ) → list_any (λ ps. is_long m ps) lists ≡ false → i < length lists → is_long m (get_or lists i []) ≡ false
+  none_long lists i none lt = none_where (λ ps. is_long m ps) lists i none lt

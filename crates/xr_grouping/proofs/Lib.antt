@@ -29,4 +29,6 @@ pub mod Changed
 pub mod Spreading
 pub mod Windowing
 pub mod PlainWindows
+pub mod Tested
+pub mod Untested
 pub mod WindowAnswers

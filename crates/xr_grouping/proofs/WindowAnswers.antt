@@ -48,7 +48,7 @@ use Rattle.xr_grouping.specs.declared.windows.WindowsAsked.{WindowsAsked}
 use Rattle.xr_grouping.specs.Mades.{made_by}
 use Rattle.xr_formulas.specs.declared.chain.Chain.{Chain}
 use Rattle.xr_formulas.specs.declared.made.Formula.{Formula}
-use Rattle.xr_grouping.specs.Windowed.{array_at, chosen, enough, folds_of, plain, windows, AreAsked, IsAsked}
+use Rattle.xr_grouping.specs.Windowed.{array_at, chosen, enough, folds_of, needs_no_test, plain, windows, AreAsked, IsAsked}
 use Rattle.xr_grouping.proofs.Answering.{grouped_one, passes}
 use Rattle.xr_grouping.proofs.BinAnswers.{fits_given}
 use Rattle.xr_grouping.proofs.Changed.{windowed, AreWindows}
@@ -59,6 +59,8 @@ use Rattle.xr_grouping.proofs.Named.{one_of, IsOne}
 use Rattle.xr_grouping.proofs.OneList.{place}
 use Rattle.xr_grouping.proofs.Present.{fold_there, present_there, some_present}
 use Rattle.xr_grouping.proofs.PlainWindows as plains
+use Rattle.xr_grouping.proofs.Tested as tested
+use Rattle.xr_grouping.proofs.Untested.{folds_untested}
 use Rattle.xr_grouping.proofs.Windowing as cells
 use Rattle.xr_grouping.proofs.Windowing.{test_over}
 
@@ -281,10 +283,34 @@ module _ (old : List Node) (k : FoldKind) (m : ℕ) (a : DataArray) (p : Windows
             let most = spanned in
             omega (arith, u, most)
 
-  -- ---- where present cells are counted
+  -- ---- where a window with too few present cells has none, and is missing
+
+  module _ (untested : needs_no_test k m fill ≡ true) where
+    abbrev folds_asked : Chain
+    folds_asked = folds_of k p.changes a
+
+    pub folds_fit : ChainFits old folds_asked
+    folds_fit = subst (λ ds. ChainFits old (folds_of k ds a)) (sym win.is) (cells.folds_fit old c a is one few k method)
+
+    folds_are : chain_value old folds_asked ≡ asked_cells
+    folds_are = ap (λ ds. chain_value old (folds_of k ds a)) win.is ∙ folds_untested old k c a is m fill untested ∙ are_asked
+
+    pub folds_value : (new : List Node) (n : ℕ) → IsValueOf new (chain_value old folds_asked) n → IsValueOf new asked_cells n
+    folds_value new n node = record { inside = node.inside; is = node.is ∙ folds_are }
+
+    pub folds_added : (new : List Node) → AddsAtMost old new (chain_cells old folds_asked) → AddsAtMost old new (256 * span (axes_by p.changes a.axes))
+    folds_added new added = few_added new (chain_cells old folds_asked) bound added
+      where
+        bound : chain_cells old folds_asked ≤ 256 * span after
+        bound =
+            let u : chain_cells old folds_asked ≤ size (shape_over after) = subst (λ ds. chain_cells old (folds_of k ds a) ≤ size (shape_over after)) (sym win.is) (cells.folds_few old c a is one few k) in
+            let most = spanned in
+            omega (arith, u, most)
+
+  -- ---- where each window is tested
 
   pub tests_fit : FormulaFits old (enough p.changes m p.axes a)
-  tests_fit = both (λ ds xs. FormulaFits old (enough ds m xs a)) (cells.enough_fits old c a is one few m)
+  tests_fit = both (λ ds xs. FormulaFits old (enough ds m xs a)) (tested.enough_fits old c a is one few m)
 
   module _ (mid : List Node) (grown : Grows old mid) (t : ℕ) (test : IsValueOf mid (formula_value old (enough p.changes m p.axes a)) t) where
     here : IsArrayIn mid a
@@ -292,7 +318,7 @@ module _ (old : List Node) (k : FoldKind) (m : ℕ) (a : DataArray) (p : Windows
 
     tests : value mid t ≡ cells.test mid c a here one few m
     tests =
-        test.is ∙ both (λ ds xs. formula_value old (enough ds m xs a) ≡ cells.test old c a is one few m) (cells.enough_is old c a is one few m)
+        test.is ∙ both (λ ds xs. formula_value old (enough ds m xs a) ≡ cells.test old c a is one few m) (tested.enough_is old c a is one few m)
         ∙ ap (λ (v : of.DataArray). test_over c a m (array_of v)) (sym (array_kept old mid a grown is))
 
     pub cells_fit : FormulaFits mid (chosen k p.changes fill t p.axes a)
@@ -304,23 +330,25 @@ module _ (old : List Node) (k : FoldKind) (m : ℕ) (a : DataArray) (p : Windows
         ∙ ap (λ (v : of.DataArray). listed k (Fewer m) fill feeds (array_of v)) (array_kept old mid a grown is)
 
     module _ (new : List Node) where
-      pub counted_value : (n : ℕ) → IsValueOf new (formula_value mid (chosen k p.changes fill t p.axes a)) n → IsValueOf new asked_cells n
-      counted_value n node = record { inside = node.inside; is = node.is ∙ cells_are ∙ are_asked }
+      pub tested_value : (n : ℕ) → IsValueOf new (formula_value mid (chosen k p.changes fill t p.axes a)) n → IsValueOf new asked_cells n
+      tested_value n node = record { inside = node.inside; is = node.is ∙ cells_are ∙ are_asked }
 
       abbrev both_cells : ℕ
       both_cells = formula_cells old (enough p.changes m p.axes a) + formula_cells mid (chosen k p.changes fill t p.axes a)
 
       bound : both_cells ≤ 256 * span after
       bound =
-          let u : formula_cells old (enough p.changes m p.axes a) ≤ 3 + 18 * size (shape_over after) = both (λ ds xs. formula_cells old (enough ds m xs a) ≤ 3 + 18 * size (shape_over after)) (cells.enough_few old c a is one few m) in
+          let u : formula_cells old (enough p.changes m p.axes a) ≤ 3 + size before + 18 * size (shape_over after) =
+          both (λ ds xs. formula_cells old (enough ds m xs a) ≤ 3 + size before + 18 * size (shape_over after)) (tested.enough_few old c a is one few m) in
+          let same = ap (λ xs. size (shape_over xs)) stay in
           let v : formula_cells mid (chosen k p.changes fill t p.axes a) ≤ 3 + 18 * size (shape_over after) =
           both (λ ds xs. formula_cells mid (chosen k ds fill t xs a) ≤ 3 + 18 * size (shape_over after)) (cells.chosen_few mid c a here one few k method m fill suits t test.inside tests) in
           let most = spanned in
           let least = some_span after in
-          omega (arith, u, v, most, least)
+          omega (arith, u, v, same, most, least)
 
-      pub counted_added : AddsAtMost old mid (formula_cells old (enough p.changes m p.axes a)) → AddsAtMost mid new (formula_cells mid (chosen k p.changes fill t p.axes a)) → AddsAtMost old new (256 * span (axes_by p.changes a.axes))
-      counted_added first second = few_added new both_cells bound (adds_both old mid new (formula_cells old (enough p.changes m p.axes a)) (formula_cells mid (chosen k p.changes fill t p.axes a)) first second)
+      pub tested_added : AddsAtMost old mid (formula_cells old (enough p.changes m p.axes a)) → AddsAtMost mid new (formula_cells mid (chosen k p.changes fill t p.axes a)) → AddsAtMost old new (256 * span (axes_by p.changes a.axes))
+      tested_added first second = few_added new both_cells bound (adds_both old mid new (formula_cells old (enough p.changes m p.axes a)) (formula_cells mid (chosen k p.changes fill t p.axes a)) first second)
 
   -- ---- the array of a node with these cells
 
@@ -373,7 +401,21 @@ module _ (old : List Node) (k : FoldKind) (m : ℕ) (a : DataArray) (p : Windows
       pub plain_cells : (new : List Node) → AddsAtMost old new (chain_cells old cells) → AddsAtMost old new (256 * span (axes_by p.changes a.axes))
       plain_cells new added = plain_added old k m a p is some asked.0 asked.1 asked.2 asked.3 whole new (subst (λ x. AddsAtMost old new (chain_cells old x)) same_chain added)
 
-    -- where they are counted
+    -- where the folds are all
+    module _ (untested : needs_no_test k m (fill_cell p.fill) ≡ true) (cells : Chain) (ec : cells ≡ folds_of k slice a) where
+      same_folds : cells ≡ folds_of k p.changes a
+      same_folds = ec ∙ ap (λ ds. folds_of k ds a) es
+
+      pub folds_first : ChainFits old cells
+      folds_first = subst (ChainFits old) (sym same_folds) (folds_fit old k m a p is some asked.0 asked.1 asked.2 asked.3 untested)
+
+      pub folds_node : (new : List Node) (n : ℕ) → IsValueOf new (chain_value old cells) n → IsValueOf new (windows k m p (array_in old a)) n
+      folds_node new n node = folds_value old k m a p is some asked.0 asked.1 asked.2 asked.3 untested new n (subst (λ x. IsValueOf new (chain_value old x) n) same_folds node)
+
+      pub folds_cells : (new : List Node) → AddsAtMost old new (chain_cells old cells) → AddsAtMost old new (256 * span (axes_by p.changes a.axes))
+      folds_cells new added = folds_added old k m a p is some asked.0 asked.1 asked.2 asked.3 untested new (subst (λ x. AddsAtMost old new (chain_cells old x)) same_folds added)
+
+    -- where they are tested
     module _ (own : List Axis) (eo : own ≡ p.axes) (tests : Formula) (et : tests ≡ enough slice m own a) where
       first : tests ≡ enough p.changes m p.axes a
       first = et ∙ ap (λ ds. enough ds m own a) es ∙ ap (λ xs. enough p.changes m xs a) eo
@@ -385,18 +427,18 @@ module _ (old : List Node) (k : FoldKind) (m : ℕ) (a : DataArray) (p : Windows
         second : cells ≡ chosen k p.changes (fill_cell p.fill) t p.axes a
         second = ec ∙ ap (λ ds. chosen k ds fill t own a) es ∙ ap (λ xs. chosen k p.changes fill t xs a) eo ∙ ap (λ y. chosen k p.changes y t p.axes a) ef
 
-        tested : IsValueOf mid (formula_value old (enough p.changes m p.axes a)) t
-        tested = subst (λ f. IsValueOf mid (formula_value old f) t) first test
+        test_is : IsValueOf mid (formula_value old (enough p.changes m p.axes a)) t
+        test_is = subst (λ f. IsValueOf mid (formula_value old f) t) first test
 
         pub handed_second : FormulaFits mid cells
-        handed_second = subst (FormulaFits mid) (sym second) (cells_fit old k m a p is some asked.0 asked.1 asked.2 asked.3 mid grown t tested)
+        handed_second = subst (FormulaFits mid) (sym second) (cells_fit old k m a p is some asked.0 asked.1 asked.2 asked.3 mid grown t test_is)
 
         pub handed_node : (new : List Node) (n : ℕ) → IsValueOf new (formula_value mid cells) n → IsValueOf new (windows k m p (array_in old a)) n
-        handed_node new n node = counted_value old k m a p is some asked.0 asked.1 asked.2 asked.3 mid grown t tested new n (subst (λ f. IsValueOf new (formula_value mid f) n) second node)
+        handed_node new n node = tested_value old k m a p is some asked.0 asked.1 asked.2 asked.3 mid grown t test_is new n (subst (λ f. IsValueOf new (formula_value mid f) n) second node)
 
         pub handed_cells : (new : List Node) → AddsAtMost old mid (formula_cells old tests) → AddsAtMost mid new (formula_cells mid cells) → AddsAtMost old new (256 * span (axes_by p.changes a.axes))
         handed_cells new one two =
-            counted_added old k m a p is some asked.0 asked.1 asked.2 asked.3 mid grown t tested new (subst (λ f. AddsAtMost old mid (formula_cells old f)) first one) (subst (λ f. AddsAtMost mid new (formula_cells mid f)) second two)
+            tested_added old k m a p is some asked.0 asked.1 asked.2 asked.3 mid grown t test_is new (subst (λ f. AddsAtMost old mid (formula_cells old f)) first one) (subst (λ f. AddsAtMost mid new (formula_cells mid f)) second two)
 
     -- the array
     module _ (new : List Node) (n : ℕ) (node : IsValueOf new (windows k m p (array_in old a)) n) (array : DataArray) (ea : array ≡ array_at k slice p.fill n a) where

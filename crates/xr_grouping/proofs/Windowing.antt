@@ -24,20 +24,20 @@ use Rattle.xr_defs.specs.Values.{array_of}
 use Rattle.xr_values.specs.declared.data_array.DataArray.{DataArray}
 use Rattle.xr_values.specs.Stands.{array_in, IsArrayIn}
 use Rattle.xr_values.proofs.Grown.{array_value}
-use Rattle.xr_formulas.specs.Chains.{chain_value, ChainFits}
+use Rattle.xr_formulas.specs.Chains.{chain_cells, chain_value, ChainFits}
 use Rattle.xr_formulas.specs.Mades.{formula_cells, formula_value, paired, Choices, FormulaFits, Match}
 use Rattle.xr_formulas.proofs.Points.{made_at}
 use Rattle.xr_groups.specs.declared.change.Change.{Change}
 use Rattle.xr_groups.specs.declared.change.Least.TheVariants.{Fewer}
 use Rattle.xr_groups.specs.Listed.{axes_by, feeds_by, listed, listed_cell}
 use Rattle.xr_groups.specs.Methods.{of_groups}
-use Rattle.xr_grouping.specs.Windowed.{chosen, enough, enough_cells, folds_of, spread}
+use Rattle.xr_grouping.specs.Windowed.{chosen, counted, enough_cells, folds_of, spread}
 use Rattle.xr_grouping.proofs.Folding as folds
 use Rattle.xr_grouping.proofs.Named.{IsOne}
 use Rattle.xr_grouping.proofs.OneList.{fed_one, feeds_length}
 use Rattle.xr_grouping.proofs.Spreading.{spread_cells, spread_fits, spread_is}
 
-present_few : (cs : List (ℕ × Option ℤ)) → length (present cs) ≤ length cs
+pub present_few : (cs : List (ℕ × Option ℤ)) → length (present cs) ≤ length cs
 present_few [] = omega arith
 present_few ((p, None) ∷ cs) = let rest = present_few cs in omega (arith, rest)
 present_few ((p, Some x) ∷ cs) = let rest = present_few cs in omega (arith, rest)
@@ -107,12 +107,14 @@ module _ (nodes : List Node) (c : Change) (a : DataArray) (is : IsArrayIn nodes 
   at_point : (p : List ℕ) → IsPoint s p → IsPoint (kept feeds before) p
   at_point p here = subst (λ t. IsPoint t p) (sym to) here
 
-  count_few : (p : List ℕ) → IsPoint s p → count p ≤ 33554432
-  count_few p here =
-      let some = present_few (found p) in
+  pub found_few : (p : List ℕ) → IsPoint s p → length (found p) ≤ 33554432
+  found_few p here =
       let all = gathered_few feeds before p (at own) 0 (feeds_length c dims ∙ long) (fed_one c dims before long change.has (folds.distinct nodes Count c a is refl change few) change.fed) (at_point p here) in
       let most = is.formed.cells.few in
-      omega (arith, some, all, most)
+      omega (arith, all, most)
+
+  count_few : (p : List ℕ) → IsPoint s p → count p ≤ 33554432
+  count_few p here = let some = present_few (found p) in let all = found_few p here in omega (arith, some, all)
 
   -- ---- folds
 
@@ -122,10 +124,13 @@ module _ (nodes : List Node) (c : Change) (a : DataArray) (is : IsArrayIn nodes 
   folds_are : (k : FoldKind) → chain_value nodes (folds_of k (c ∷ []) a) ≡ made (folded_kind k a.kind) s (fold_at k)
   folds_are k = ap (folded k feeds) (array_value nodes a is) ∙ ap (λ t. made (folded_kind k a.kind) t (fold_at k)) to
 
-  folds_fit : (k : FoldKind) → of_groups k ≡ true → ChainFits nodes (folds_of k (c ∷ []) a)
+  pub folds_fit : (k : FoldKind) → of_groups k ≡ true → ChainFits nodes (folds_of k (c ∷ []) a)
   folds_fit k method = record { start = is.node.placed; steps = (folds.fits nodes k c a is method change few, tt) }
 
-  -- ---- which windows have enough
+  pub folds_few : (k : FoldKind) → chain_cells nodes (folds_of k (c ∷ []) a) ≤ size s
+  folds_few k = let one = ap (λ (v : Array). size v.shape) (folds_are k) in omega (arith, one)
+
+  -- ---- which windows have enough, by their numbers of present cells
 
   abbrev pub test : ℕ → Array
   test m = test_over c a m own
@@ -142,13 +147,13 @@ module _ (nodes : List Node) (c : Change) (a : DataArray) (is : IsArrayIn nodes 
       (tab_same s (λ p. elem GreaterEqual Int64 (at counts p) (at (all_enough m) p)) (λ p. Some (flag (int_le (enough_cells m) (pos (count p)))))
       (λ p here. ap (λ x. elem GreaterEqual Int64 x (at (all_enough m) p)) (made_at Int64 s (λ q. Some (pos (count q))) p here) ∙ ap (elem GreaterEqual Int64 (Some (pos (count p)))) (made_at Int64 s (λ q. Some (enough_cells m)) p here)))
 
-  pub enough_is : (m : ℕ) → formula_value nodes (enough (c ∷ []) m after a) ≡ test m
-  enough_is m =
+  pub counted_is : (m : ℕ) → formula_value nodes (counted (c ∷ []) m after a) ≡ test m
+  counted_is m =
       ap (λ v. paired GreaterEqual v (chain_value nodes (spread after Int64 (Some (enough_cells m))))) (folds_are Count)
       ∙ ap (paired GreaterEqual counts) (spread_is Int64 (Some (enough_cells m)) nodes after) ∙ compared m
 
-  pub enough_fits : (m : ℕ) → FormulaFits nodes (enough (c ∷ []) m after a)
-  enough_fits m =
+  pub counted_fits : (m : ℕ) → FormulaFits nodes (counted (c ∷ []) m after a)
+  counted_fits m =
       let one = folds_are Count in
       let other = spread_is Int64 (Some (enough_cells m)) nodes after in (
         folds_fit Count refl,
@@ -163,8 +168,8 @@ module _ (nodes : List Node) (c : Change) (a : DataArray) (is : IsArrayIn nodes 
         })),
       )
 
-  pub enough_few : (m : ℕ) → formula_cells nodes (enough (c ∷ []) m after a) ≤ 3 + 18 * size s
-  enough_few m =
+  pub counted_few : (m : ℕ) → formula_cells nodes (counted (c ∷ []) m after a) ≤ 3 + 18 * size s
+  counted_few m =
       let one = ap (λ (v : Array). size v.shape) (folds_are Count) in
       let more = spread_cells Int64 (Some (enough_cells m)) nodes after low in
       omega (arith, one, more)

@@ -10,6 +10,14 @@ use Rattle.xr_groups.specs.declared.change.Change.{Change}
 abbrev pub is_short : ℕ → List ℕ → Bool
 is_short m ps = nat_lt (length ps) m
 
+-- whether a list has more positions than so many
+abbrev pub is_long : ℕ → List ℕ → Bool
+is_long m ps = nat_lt m (length ps)
+
+-- whether some list of a dimension has more
+abbrev pub has_long : ℕ → Change → Bool
+has_long m c = list_any (λ ps. is_long m ps) c.lists
+
 -- the position itself, unless its list is short
 abbrev pub shown : ℕ → List ℕ → ℕ → Option ℕ
 shown m ps j = if is_short m ps then None else Some j

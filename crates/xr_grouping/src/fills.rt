@@ -228,6 +228,35 @@ fn has_short(lists: &Feeds, least: u64) -> bool
     false
 }
 
+fn is_long(positions: Positions<'_>, most: u64) -> bool
+    ensures { result ≡ fills.is_long most (listed positions.entry) }
+{
+    count(positions) > most
+}
+
+// Whether some list has more positions than so many.
+#[tactic(auto, using(crate::proofs::Gaps::next_long, crate::proofs::Gaps::last_long))]
+fn has_long(lists: &Feeds, most: u64) -> bool
+    ensures { result ≡ list_any (λ ps. fills.is_long most ps) lists.now }
+{
+    for at in 0..lists.len() {
+        if is_long(lists.positions(at), most) {
+            return true;
+        }
+    }
+    false
+}
+
+/// Whether some dimension has a list with more positions than `most`.
+pub(crate) fn have_long(changes: &[Change], most: u64) -> bool
+    ensures { result ≡ list_any (fills.has_long most) changes.now }
+{
+    match changes {
+        [] => false,
+        [change, rest @ ..] => has_long(&change.lists, most) || have_long(rest, most),
+    }
+}
+
 // Adds the fill along an axis some of whose lists have fewer positions than so many.
 fn push_gap(
     alloc: Global,

@@ -6,6 +6,7 @@ ghost use Rattle.xr_defs.specs.Room.{span, AddsForAny};
 ghost use Rattle.xr_defs.specs.declared.grouping.Grouping.TheVariants.{Windows};
 ghost use Rattle.plan_core.specs.Plans.{Grows};
 ghost use Rattle.xr_formulas.specs.Chains.{IsValueOf};
+ghost use Rattle.xr_formulas.specs.declared.made.Formula.TheVariants.{One};
 ghost use Rattle.xr_formulas.specs.Spread as spreads;
 ghost use Rattle.xr_groups.specs.Listed as lists;
 ghost use Rattle.xr_groups.specs.Methods as methods;
@@ -19,9 +20,9 @@ ghost use Rattle.xr_values.specs.Stands.{array_in, IsArrayIn};
 ghost use Rattle.xr_grouping.specs.Windowed as of;
 
 use crate::arrays::check_axes;
-use crate::asked::folded_kind;
+use crate::asked::{folded_kind, needs_cells};
 use crate::checked::windowed_changes;
-use crate::fills::{check_given, fill_given, push_short_fills};
+use crate::fills::{check_given, fill_given, have_long, push_short_fills};
 use crate::listed::{axes_by, feeds_by};
 use plan_core::Plan;
 use std::alloc::{AllocError, Global};
@@ -133,6 +134,62 @@ fn plain(
     })
 }
 
+// Which windows have enough present cells, by their number.
+fn counted(
+    alloc: Global,
+    changes: &[Change],
+    least: u64,
+    axes: &[Axis],
+    on: &DataArray,
+) -> Result<Formula, AllocError>
+    requires { length axes.now ≤ 16 }
+    ensures { IfOk result (λ f. f ≡ of.counted changes.now least axes.now on.now) }
+{
+    let counts = folds_of(alloc, FoldKind::Count, changes, on)?;
+    let wanted = spread(alloc, axes, DType::Int64, Some(enough_cells(least)))?;
+    Ok(Formula::Two(OpKind::GreaterEqual, counts, wanted))
+}
+
+// The first steps, to truth values that tell which cells are present, and their folds.
+fn told_folds(
+    alloc: Global,
+    fold: FoldKind,
+    changes: &[Change],
+    on: &DataArray,
+) -> Result<Items<Step>, AllocError>
+    ensures { IfOk result (λ s. s ≡ of.told_folds fold changes.now on.now) }
+{
+    let mut steps = Items::new(alloc);
+    steps.push(Step::Unary(OpKind::NotNull, DType::Bool))?;
+    steps.push(Step::Fold(fold, feeds_by(alloc, changes, on.axes.as_slice())?))?;
+    Ok(steps)
+}
+
+// Which windows have a present cell.
+fn some_cell(alloc: Global, changes: &[Change], on: &DataArray) -> Result<Formula, AllocError>
+    ensures { IfOk result (λ f. f ≡ One (of.some_cell changes.now on.now)) }
+{
+    let steps = told_folds(alloc, FoldKind::Any, changes, on)?;
+    let start = Start::Node(on.node);
+    Ok(Formula::One(Chain { start, steps }))
+}
+
+// Which windows have so many positions, and a present cell at each.
+fn each_cell(
+    alloc: Global,
+    changes: &[Change],
+    least: u64,
+    on: &DataArray,
+) -> Result<Formula, AllocError>
+    ensures { IfOk result (λ f. f ≡ One (of.each_cell changes.now least on.now)) }
+{
+    let mut steps = told_folds(alloc, FoldKind::All, changes, on)?;
+    let own = on.axes.as_slice();
+    push_short_fills(alloc, &mut steps, least, changes, own, Some(0))?;
+    let start = Start::Node(on.node);
+    Ok(Formula::One(Chain { start, steps }))
+}
+
 // Which windows have enough present cells.
 fn enough(
     alloc: Global,
@@ -144,9 +201,13 @@ fn enough(
     requires { length axes.now ≤ 16 }
     ensures { IfOk result (λ f. f ≡ of.enough changes.now least axes.now on.now) }
 {
-    let counts = folds_of(alloc, FoldKind::Count, changes, on)?;
-    let wanted = spread(alloc, axes, DType::Int64, Some(enough_cells(least)))?;
-    Ok(Formula::Two(OpKind::GreaterEqual, counts, wanted))
+    if least == 1 {
+        some_cell(alloc, changes, on)
+    } else if have_long(changes, least) {
+        counted(alloc, changes, least, axes, on)
+    } else {
+        each_cell(alloc, changes, least, on)
+    }
 }
 
 // The folds of windows with enough present cells, and the fill in the place of the others.
@@ -211,6 +272,13 @@ fn fill_cell(fill: Option<Option<i128>>) -> Option<i128>
     }
 }
 
+// Whether a window with too few present cells has by itself what is to stand in its place.
+fn needs_no_test(fold: FoldKind, least: u64, fill: Option<i128>) -> bool
+    ensures { result ≡ of.needs_no_test fold least fill }
+{
+    needs_cells(fold) && least == 1 && fill.is_none()
+}
+
 fn is_masked(masked: bool, fill: Option<Option<i128>>) -> bool
     ensures { result ≡ methods.window_masked masked fill }
 {
@@ -263,8 +331,8 @@ fn windows_asked(
 
 // ---- the node
 
-// The present cells of each window are counted.
-fn push_counted(
+// Each window is tested.
+fn push_tested(
     alloc: Global,
     plan: &mut Plan,
     fold: FoldKind,
@@ -311,6 +379,52 @@ fn push_plain(
     Ok(node)
 }
 
+// The fold of a window with too few present cells is what is to stand in its place.
+fn push_folds(
+    alloc: Global,
+    plan: &mut Plan,
+    fold: FoldKind,
+    least: u64,
+    on: &DataArray,
+    asked: &WindowsAsked,
+) -> Result<NodeId, NoMemory>
+    requires some { 1 ≤ least }
+    requires is { IsArrayIn plan.old on.now }
+    requires asked { of.AreAsked fold least on.now asked.now }
+    requires untested { of.needs_no_test fold least (methods.fill_cell asked.now.fill) ≡ true }
+    ensures value { IfOk result (IsValueOf plan.new (of.windows fold least asked.now (array_in plan.old on.now))) }
+    ensures grows { Grows plan.old plan.new }
+    ensures cells { IfOk result (λ n. AddsAtMost plan.old plan.new (256 * span (lists.axes_by asked.now.changes on.now.axes))) }
+{
+    let changes = asked.changes.as_slice();
+    let cells = folds_of(alloc, fold, changes, on)?;
+    let node = push_chain(alloc, plan, &cells)?;
+    Ok(node)
+}
+
+// Each window has its own number of present cells.
+fn push_masked(
+    alloc: Global,
+    plan: &mut Plan,
+    fold: FoldKind,
+    least: u64,
+    on: &DataArray,
+    asked: &WindowsAsked,
+) -> Result<NodeId, NoMemory>
+    requires some { 1 ≤ least }
+    requires is { IsArrayIn plan.old on.now }
+    requires asked { of.AreAsked fold least on.now asked.now }
+    ensures value { IfOk result (IsValueOf plan.new (of.windows fold least asked.now (array_in plan.old on.now))) }
+    ensures grows { Grows plan.old plan.new }
+    ensures cells { IfOk result (λ n. AddsAtMost plan.old plan.new (256 * span (lists.axes_by asked.now.changes on.now.axes))) }
+{
+    if needs_no_test(fold, least, fill_cell(asked.fill)) {
+        push_folds(alloc, plan, fold, least, on, asked)
+    } else {
+        push_tested(alloc, plan, fold, least, on, asked)
+    }
+}
+
 fn push_windows(
     alloc: Global,
     plan: &mut Plan,
@@ -327,7 +441,7 @@ fn push_windows(
     ensures cells { IfOk result (λ n. AddsAtMost plan.old plan.new (256 * span (lists.axes_by asked.now.changes on.now.axes))) }
 {
     if on.masked {
-        push_counted(alloc, plan, fold, least, on, asked)
+        push_masked(alloc, plan, fold, least, on, asked)
     } else {
         push_plain(alloc, plan, fold, least, on, asked)
     }

@@ -1,5 +1,5 @@
 use Rattle.xr_grouping.proofs.WindowAnswers.{handed_cells, handed_first, handed_node, handed_second}
-use Rattle.xr_grouping.proofs.windows.push_counted.Goals as goal
+use Rattle.xr_grouping.proofs.windows.push_tested.Goals as goal
 
 pub push_formula-requires : goal.push_formula-requires
 push_formula-requires c =
