@@ -11,3 +11,4 @@ pub mod SumsTo
 pub mod Joined
 pub mod Tables
 pub mod Strips
+pub mod Reached

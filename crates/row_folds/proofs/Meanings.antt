@@ -80,6 +80,18 @@ greatest_meaning t h n b cs is some = (λ k. shown (sym some k) (is k)) ∙ from
     from ((p, None) ∷ cs) = from cs
     from ((p, Some x) ∷ cs) = of_some int_max h x (greatest (numbers (present cs)))
 
+none_found : (f : List ℤ → Option ℤ) → f [] ≡ None → (h : ℤ) (cs : Cells) → has_some cs ≡ false → or_number h (f (numbers (present cs))) ≡ h
+none_found f none h [] e = ap (or_number h) none
+none_found f none h ((p, None) ∷ cs) e = none_found f none h cs e
+none_found f none h ((p, Some x) ∷ cs) e = absurd cc
+
+-- where no cell is present, the number is that of no cell
+pub least_none : (h n m : ℤ) (cs : Cells) → n ≡ or_number h (fold_of Min Int64 cs) → has_some cs ≡ false → m ≡ h → n ≡ m
+least_none h n m cs is none start = is ∙ none_found least refl h cs none ∙ sym start
+
+pub greatest_none : (h n m : ℤ) (cs : Cells) → n ≡ or_number h (fold_of Max Int64 cs) → has_some cs ≡ false → m ≡ h → n ≡ m
+greatest_none h n m cs is none start = is ∙ none_found greatest refl h cs none ∙ sym start
+
 -- ---- cells that are chosen
 
 pub first_meaning : (t : DType) (n : ℤ) (b : Bool) (cs : Cells) → fold_of First Int64 cs ≡ shown b n → shown b n ≡ fold_of First t cs

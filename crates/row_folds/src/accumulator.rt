@@ -78,26 +78,17 @@ fn is_better(present: bool, some: bool, better: bool) -> bool
 }
 
 /// The sum, wrapped at 64 bits.
-#[derive(Clone, Copy)]
-pub struct Total {
-    pub sum: i64,
-}
-
-impl<T: Elem> Accumulator<T> for Total {
-    ghost Is = { λ a cells. fold_of Sum Int64 cells ≡ Some a.sum };
+impl<T: Elem> Accumulator<T> for i64 {
+    ghost Is = { λ a cells. fold_of Sum Int64 cells ≡ Some a };
 
     #[tactic(auto, using(crate::proofs::Steps::sum_more))]
-    fn with(self, _position: u64, cell: T, present: bool) -> Total {
-        Total {
-            sum: added(self.sum, number_or(cell, present, 0)),
-        }
+    fn with(self, _position: u64, cell: T, present: bool) -> i64 {
+        added(self, number_or(cell, present, 0))
     }
 
     #[tactic(auto, using(crate::proofs::Joined::sum_both))]
-    fn combine(self, after: Total) -> Total {
-        Total {
-            sum: added(self.sum, after.sum),
-        }
+    fn combine(self, after: i64) -> i64 {
+        added(self, after)
     }
 }
 

@@ -1,5 +1,5 @@
 //! Lists of cells as cells of a kind.
-ghost use Rattle.std.specs.Prelude.{◌≡◌, pos, map, length, All, IfOk};
+ghost use Rattle.std.specs.Prelude.{◌≡◌, pos, Some, map, length, All, IfOk};
 ghost use Rattle.xr_types.specs.Kinds.{InRange};
 ghost use Rattle.xr_types.specs.Points.{size};
 ghost use Rattle.xr_types.specs.declared.kind.DType.{DType};
@@ -160,4 +160,20 @@ pub fn array<O: Celled, R: Outcome<O>>(
     let numbers = numbers(alloc, cells)?;
     let shape = Items::from_slice(alloc, shape)?;
     Ok(ArrayValue::of(shape, O::cells(kind, numbers), mask))
+}
+
+/// The array of these numbers, one for each point of the shape, none of which is missing.
+pub fn whole_array<O: Celled>(
+    alloc: Global,
+    kind: DType,
+    shape: &[u64],
+    numbers: Vec<O>,
+) -> Result<ArrayValue, AllocError>
+    requires kind { O.Keeps kind }
+    requires whole { length numbers.items ≡ size shape.now }
+    requires range { All (InRange kind) (map O.number numbers.items) }
+    ensures { IfOk result (λ a. a ≡ array_of kind shape.now (map (λ x. Some (O.number x)) numbers.items)) }
+{
+    let shape = Items::from_slice(alloc, shape)?;
+    Ok(ArrayValue::of(shape, O::cells(kind, numbers), None))
 }

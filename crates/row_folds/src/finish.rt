@@ -1,5 +1,5 @@
 //! Arrays whose cells are folds.
-ghost use Rattle.std.specs.Prelude.{◌≡◌, ◌≤◌, ℕ, ℤ, Bool, List, [], length, Option, All, IfOk};
+ghost use Rattle.std.specs.Prelude.{◌≡◌, ◌<◌, ◌≤◌, ℕ, ℤ, Bool, true, false, List, [], length, get_or, Option, All, IfOk};
 ghost use Rattle.xr_types.specs.declared.operation.FoldKind.{FoldKind};
 ghost use Rattle.xr_arrays.specs.Arrays.{IsCell};
 ghost use Rattle.xr_arrays.specs.Folds.{fold_of, folded_kind};
@@ -9,7 +9,7 @@ ghost use Rattle.row_folds.specs.Rows.{array_of, has_some, shown, IsFolding};
 use crate::accumulator::{Accumulator, Present};
 use crate::celled::{Celled, array};
 use crate::kinds::folded_kind;
-use crate::outcome::{Chosen, Extreme, Finish, Finished};
+use crate::outcome::{Chosen, Extreme, Finish, Finished, Reached};
 use crate::rows::folded_rows;
 use crate::source::Source;
 use std::alloc::{AllocError, Global};
@@ -43,6 +43,23 @@ pub fn finished<T: Elem, O: Celled, A: Accumulator<T> + Finish<O>, S: Source<T>>
     )
 }
 
+fn differs<T: Elem>(a: T, b: T) -> bool
+    ensures { result ≡ true → ¬ (T.number a ≡ T.number b) }
+{
+    a.widen() != b.widen()
+}
+
+// Whether each number differs from that of no cell, so that each row has a cell that is present.
+fn are_reached<T: Elem, A: Extreme<T>>(rows: &[A], none: T) -> bool
+    ensures { result ≡ true → (r : ℕ) (a : A) → r < length rows.now → ¬ (A.extreme (get_or rows.now r a) ≡ T.number none) }
+{
+    let mut all = true;
+    for i in 0..rows.len() {
+        all = all & differs(rows[i].extreme(), none);
+    }
+    all
+}
+
 /// The array of least or greatest numbers.
 pub fn chosen<T: Celled, A: Accumulator<T> + Extreme<T>, S: Source<T>>(
     alloc: Global,
@@ -59,9 +76,18 @@ pub fn chosen<T: Celled, A: Accumulator<T> + Extreme<T>, S: Source<T>>(
     requires range { All (IsCell kind) (S.cells source) }
     requires keeps { T.Keeps (folded_kind fold kind) }
     requires meaning { (a : A) (some : Bool) (cells : List (ℕ × Option ℤ)) → A.Is a cells → has_some cells ≡ some → shown some (A.extreme a) ≡ fold_of fold kind cells }
+    requires none { (a : A) (cells : List (ℕ × Option ℤ)) → A.Is a cells → has_some cells ≡ false → A.extreme a ≡ A.extreme start }
     ensures { IfOk result (λ b. b ≡ folded fold feeds.now (array_of kind shape.now (S.cells source))) }
 {
     let rows = folded_rows(alloc, start, feeds, shape, sizes, source)?;
+    if are_reached(&rows, start.extreme()) {
+        return array(
+            alloc,
+            folded_kind(fold, kind),
+            sizes,
+            Reached { rows: &rows },
+        );
+    }
     let some = folded_rows(alloc, Present { some: false }, feeds, shape, sizes, source)?;
     array(
         alloc,

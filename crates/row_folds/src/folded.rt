@@ -1,5 +1,6 @@
 //! The fold of an array, whatever the fold and its cells.
-ghost use Rattle.std.specs.Prelude.{◌≡◌, ◌≤◌, length, All, IfOk};
+ghost use Rattle.std.specs.Prelude.{◌≡◌, ◌≤◌, false, length, All, IfOk};
+ghost use Rattle.xr_types.specs.Kinds.{is_unsigned};
 ghost use Rattle.xr_types.specs.Points.{size};
 ghost use Rattle.xr_types.specs.declared.operation.FoldKind.{FoldKind};
 ghost use Rattle.xr_types.specs.declared.operation.FoldKind.TheVariants.{Sum, Prod, Min, Max, First as Firsts, Last as Lasts, ArgMin, ArgMax, Count, Any, All as Alls};
@@ -9,16 +10,34 @@ ghost use Rattle.row_folds.specs.Rows.{array_of, IsFolding};
 
 use crate::accumulator::{
     AllNonzero, AnyNonzero, Counted, First, Greatest, GreatestAt, Last, Least, LeastAt, Product,
-    Total,
 };
-use crate::celled::Celled;
+use crate::celled::{Celled, whole_array};
 use crate::finish::{chosen, finished};
+use crate::rows::folded_rows;
 use crate::source::Source;
 use std::alloc::{AllocError, Global};
 use xr_arrays::{ArrayValue, Feed};
 use xr_types::{DType, Elem, FoldKind, is_unsigned};
 
-#[tactic(auto, using(crate::proofs::Meanings::sum_signed, crate::proofs::Meanings::sum_unsigned, crate::proofs::Meanings::signed_total, crate::proofs::Meanings::unsigned_total, crate::proofs::Meanings::sum_none_is))]
+// The sums of signed cells, which the accumulators are.
+fn signed_sum<T: Elem, S: Source<T>>(
+    alloc: Global,
+    kind: DType,
+    feeds: &[Feed],
+    shape: &[u64],
+    sizes: &[u64],
+    source: S,
+) -> Result<ArrayValue, AllocError>
+    requires folding { IsFolding feeds.now shape.now sizes.now (length (S.cells source)) }
+    requires range { All (IsCell kind) (S.cells source) }
+    requires signed { is_unsigned kind ≡ false }
+    ensures { IfOk result (λ b. b ≡ folded Sum feeds.now (array_of kind shape.now (S.cells source))) }
+{
+    let rows = folded_rows::<T, i64, S>(alloc, 0, feeds, shape, sizes, source)?;
+    whole_array(alloc, DType::Int64, sizes, rows)
+}
+
+#[tactic(auto, using(crate::proofs::Meanings::sum_unsigned, crate::proofs::Meanings::unsigned_total, crate::proofs::Meanings::sum_none_is))]
 fn sum<T: Elem, S: Source<T>>(
     alloc: Global,
     kind: DType,
@@ -32,27 +51,9 @@ fn sum<T: Elem, S: Source<T>>(
     ensures { IfOk result (λ b. b ≡ folded Sum feeds.now (array_of kind shape.now (S.cells source))) }
 {
     if is_unsigned(kind) {
-        finished::<T, u64, Total, S>(
-            alloc,
-            FoldKind::Sum,
-            kind,
-            Total { sum: 0 },
-            feeds,
-            shape,
-            sizes,
-            source,
-        )
+        finished::<T, u64, i64, S>(alloc, FoldKind::Sum, kind, 0, feeds, shape, sizes, source)
     } else {
-        finished::<T, i64, Total, S>(
-            alloc,
-            FoldKind::Sum,
-            kind,
-            Total { sum: 0 },
-            feeds,
-            shape,
-            sizes,
-            source,
-        )
+        signed_sum(alloc, kind, feeds, shape, sizes, source)
     }
 }
 

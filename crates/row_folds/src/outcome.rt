@@ -9,7 +9,7 @@ ghost use Rattle.row_folds.specs.Rows.{shown};
 
 use crate::accumulator::{
     AllNonzero, AnyNonzero, Counted, First, Greatest, GreatestAt, Last, Least, LeastAt, Present,
-    Product, Total,
+    Product,
 };
 use std::alloc::{AllocError, Global};
 use xr_types::{Elem, Items};
@@ -28,23 +28,11 @@ pub trait Finish<O: Elem>: Copy + Drop {
         ensures { result ≡ gap (cell self) };
 }
 
-impl Finish<i64> for Total {
-    ghost cell = { λ a. Some a.sum };
-
-    fn number(self) -> i64 {
-        self.sum
-    }
-
-    fn gap(self) -> u8 {
-        0
-    }
-}
-
-impl Finish<u64> for Total {
-    ghost cell = { λ a. Some (wrap_to UInt64 a.sum) };
+impl Finish<u64> for i64 {
+    ghost cell = { λ a. Some (wrap_to UInt64 a) };
 
     fn number(self) -> u64 {
-        u64::wrap_from(i128::from(self.sum))
+        u64::wrap_from(i128::from(self))
     }
 
     fn gap(self) -> u8 {
@@ -267,6 +255,28 @@ impl<'a, T: Elem, A: Extreme<T>> Outcome<T> for Chosen<'a, A> {
 
     fn gap(self, i: usize) -> u8 {
         gap_of(self.some[i].some)
+    }
+}
+
+/// Least or greatest numbers, each of which is there.
+#[derive(Clone, Copy)]
+pub struct Reached<'a, A> {
+    pub rows: &'a [A],
+}
+
+impl<'a, T: Elem, A: Extreme<T>> Outcome<T> for Reached<'a, A> {
+    ghost cells = { λ s. map (λ a. Some (A.extreme a)) s.rows.now };
+
+    fn len(self) -> usize {
+        self.rows.len()
+    }
+
+    fn number(self, i: usize) -> T {
+        self.rows[i].extreme()
+    }
+
+    fn gap(self, _i: usize) -> u8 {
+        0
     }
 }
 
