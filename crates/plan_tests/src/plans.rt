@@ -15,8 +15,8 @@ ghost use Rattle.plan_core.specs.Takes.{taking_sizes};
 
 use arrangement::taken;
 use bytes::Bytes;
+use graph_pool::{NoGate, Pool, Settings, execute};
 use plan_core::{Compute, Plan};
-use plan_whole::Whole;
 use std::alloc::{AllocError, Global};
 use std::test::Fail;
 use std::thread::Threads;
@@ -239,8 +239,7 @@ fn computed<R: Threads + Sync>(
     requires sync { IsSync R.row }
     requires asked { asked < length plan.now }
 {
-    let mut whole = Whole;
-    match whole.cells(rt, alloc, plan, asked) {
+    match execute(rt, alloc, plan, asked, &Settings::new(), &NoGate) {
         Ok(array) => Some(array),
         Err(_) => None,
     }
@@ -647,6 +646,65 @@ fn takes(
 // 3 -
 // 5 6
 const ROWS: [u8; 12] = [0, 1, 0, 2, 0, 3, 0, 4, 0, 5, 0, 6];
+
+// Those rows twice, side by side.
+fn rows_twice(alloc: Global, fills: &[i128]) -> Result<Plan, Fail>
+    ensures { IfOk result (λ plan. length plan ≡ 2) }
+{
+    let a = in_file(alloc, &[3, 2], 6, NcType::Short, &ROWS, fills)?;
+    let mut plan = source(alloc, a)?;
+    let inputs = Items::from_slice(alloc, &[0, 0])?;
+    push(&mut plan, Node::Concat { inputs, axis: 1 })?;
+    Ok(plan)
+}
+
+#[test]
+fn stored_rows_stand_one_after_the_other(rt: HostRuntime) -> Result<(), Fail> {
+    let alloc = rt.alloc();
+    let plan = rows_twice(alloc, &[4])?;
+    let array = computed(&rt, alloc, &plan, 1).ok_or("no cells")?;
+    let bytes = [
+        0, 1, 0, 2, 0, 1, 0, 2, 0, 3, 0, 4, 0, 3, 0, 4, 0, 5, 0, 6, 0, 5, 0, 6,
+    ];
+    let (one, two, three, five, six) = (Some(1), Some(2), Some(3), Some(5), Some(6));
+    let cells = [
+        one, two, one, two, three, None, three, None, five, six, five, six,
+    ];
+    is_kept(alloc, &array, Some(&bytes), &cells)
+}
+
+// Fails unless a pool of these settings computes the rows twice.
+fn pool_computes<R: Threads + Sync>(rt: &R, alloc: Global, settings: Settings) -> Result<(), Fail>
+    requires { IsSync R.row }
+{
+    let plan = rows_twice(alloc, &[])?;
+    let mut pool = Pool {
+        settings,
+        gate: &NoGate,
+    };
+    let array = pool.cells(rt, alloc, &plan, 1).ok().ok_or("no cells")?;
+    let cells = [1, 2, 1, 2, 3, 4, 3, 4, 5, 6, 5, 6];
+    has_cells(alloc, &array, &cells.map(Some))
+}
+
+#[test]
+fn a_pool_computes_the_same_whatever_its_settings_are(rt: HostRuntime) -> Result<(), Fail> {
+    pool_computes(&rt, rt.alloc(), Settings::new())?;
+    let settings = Settings::of(64, 1).ok_or("no settings")?;
+    pool_computes(&rt, rt.alloc(), settings)
+}
+
+#[test]
+fn settings_stay_within_their_bounds() -> Result<(), Fail> {
+    let settings = Settings::of(4, 7).ok_or("no settings")?;
+    let taken = (settings.workers, settings.chunk) == (4, 7);
+    let refused = [Settings::of(0, 7), Settings::of(65, 7), Settings::of(4, 0)];
+    if taken && refused.iter().all(|it| it.is_none()) {
+        Ok(())
+    } else {
+        Err("other settings".into())
+    }
+}
 
 // The same of those rows, where these numbers are missing.
 fn takes_of_rows(

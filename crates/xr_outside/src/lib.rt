@@ -10,5 +10,5 @@ mod roomy_log;
 mod whole;
 
 pub use memory::{MemFile, MemSink, MemStore};
-pub use outside::{Gate, Got, NoGate, Sink, SinkFailed, Store, StoreFailed, StoreFault};
+pub use outside::{Got, Sink, SinkFailed, Store, StoreFailed, StoreFault};
 pub use whole::write_all;

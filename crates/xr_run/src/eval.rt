@@ -17,8 +17,8 @@ use crate::functions::call_function;
 use crate::names::NameMap;
 use crate::stopped::Stopped;
 use dataset_core::{assigned_value, binary_operator, call_method, pick, unary_operator};
+use graph_pool::{Gate, Pool};
 use plan_core::Plan;
-use plan_whole::Whole;
 use std::alloc::{AllocError, Global};
 use std::thread::Threads;
 use xr_outside::Store;
@@ -81,10 +81,10 @@ fn table_value(entries: Vec<(TextBytes, Value)>) -> Value
 }
 
 // The value of a method of a value.
-fn method_value<R: Threads + Sync>(
+fn method_value<R: Threads + Sync, G: Gate>(
     rt: &R,
     alloc: Global,
-    cx: &mut Cx<Whole>,
+    cx: &mut Cx<Pool<'_, G>>,
     value: &Value,
     name: &TextBytes,
     args: &Args,
@@ -218,13 +218,13 @@ fn push_item(items: &mut Vec<Value>, value: Value) -> Result<(), AllocError>
 
 // The arguments of a call.
 #[cycle(evaluation)]
-pub(crate) fn eval_arguments<R: Threads + Sync, S: Store>(
+pub(crate) fn eval_arguments<R: Threads + Sync, S: Store, G: Gate>(
     rt: &R,
     alloc: Global,
     arguments: &[Argument],
     names: &NameMap,
     store: &mut S,
-    cx: &mut Cx<Whole>,
+    cx: &mut Cx<Pool<'_, G>>,
 ) -> Result<Args, Stopped>
     requires sync { IsSync R.row }
     requires inside { AreNamesIn cx.old.plan names.now }
@@ -247,13 +247,13 @@ pub(crate) fn eval_arguments<R: Threads + Sync, S: Store>(
 
 // The items of a list.
 #[cycle(evaluation)]
-fn eval_items<R: Threads + Sync, S: Store>(
+fn eval_items<R: Threads + Sync, S: Store, G: Gate>(
     rt: &R,
     alloc: Global,
     items: &[Expr],
     names: &NameMap,
     store: &mut S,
-    cx: &mut Cx<Whole>,
+    cx: &mut Cx<Pool<'_, G>>,
 ) -> Result<Vec<Value>, Stopped>
     requires sync { IsSync R.row }
     requires inside { AreNamesIn cx.old.plan names.now }
@@ -276,13 +276,13 @@ fn eval_items<R: Threads + Sync, S: Store>(
 
 // The entries of a table.
 #[cycle(evaluation)]
-fn eval_entries<R: Threads + Sync, S: Store>(
+fn eval_entries<R: Threads + Sync, S: Store, G: Gate>(
     rt: &R,
     alloc: Global,
     entries: &[(TextBytes, Expr)],
     names: &NameMap,
     store: &mut S,
-    cx: &mut Cx<Whole>,
+    cx: &mut Cx<Pool<'_, G>>,
 ) -> Result<Vec<(TextBytes, Value)>, Stopped>
     requires sync { IsSync R.row }
     requires inside { AreNamesIn cx.old.plan names.now }
@@ -305,7 +305,7 @@ fn eval_entries<R: Threads + Sync, S: Store>(
 
 // The value of an operator between a value and an expression.
 #[cycle(evaluation)]
-fn eval_right<R: Threads + Sync, S: Store>(
+fn eval_right<R: Threads + Sync, S: Store, G: Gate>(
     rt: &R,
     alloc: Global,
     expr: &Expr,
@@ -313,7 +313,7 @@ fn eval_right<R: Threads + Sync, S: Store>(
     left: Value,
     names: &NameMap,
     store: &mut S,
-    cx: &mut Cx<Whole>,
+    cx: &mut Cx<Pool<'_, G>>,
 ) -> Result<Value, Stopped>
     requires sync { IsSync R.row }
     requires left { IsValueIn cx.old.plan left }
@@ -333,13 +333,13 @@ fn eval_right<R: Threads + Sync, S: Store>(
 
 /// The value of an expression.
 #[cycle(evaluation)]
-pub(crate) fn eval<R: Threads + Sync, S: Store>(
+pub(crate) fn eval<R: Threads + Sync, S: Store, G: Gate>(
     rt: &R,
     alloc: Global,
     expr: &Expr,
     names: &NameMap,
     store: &mut S,
-    cx: &mut Cx<Whole>,
+    cx: &mut Cx<Pool<'_, G>>,
 ) -> Result<Value, Stopped>
     requires sync { IsSync R.row }
     requires inside { AreNamesIn cx.old.plan names.now }

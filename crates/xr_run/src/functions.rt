@@ -15,8 +15,8 @@ ghost use Rattle.xr_run.specs.Functions.{set_value, open_call};
 use crate::stopped::Stopped;
 use bytes::Bytes;
 use dataset_core::open_request;
+use graph_pool::{Gate, Pool};
 use plan_core::Plan;
-use plan_whole::Whole;
 use std::alloc::Global;
 use std::rc::Rc;
 use std::thread::Threads;
@@ -95,10 +95,10 @@ fn open_dataset<S: Store>(
 }
 
 // A function of values alone.
-fn value_function<R: Threads + Sync>(
+fn value_function<R: Threads + Sync, G: Gate>(
     rt: &R,
     alloc: Global,
-    cx: &mut Cx<Whole>,
+    cx: &mut Cx<Pool<'_, G>>,
     name: &TextBytes,
     args: &Args,
 ) -> Result<Value, Stopped>
@@ -127,10 +127,10 @@ fn told(answer: Result<Value, CallFault>) -> Result<Value, Stopped>
 
 // A function that makes one value of several, or one of values alone.
 #[tactic(auto, unfolding(xr_runs::specs::Calls::function_of_several))]
-fn function_of_several<R: Threads + Sync>(
+fn function_of_several<R: Threads + Sync, G: Gate>(
     rt: &R,
     alloc: Global,
-    cx: &mut Cx<Whole>,
+    cx: &mut Cx<Pool<'_, G>>,
     name: &TextBytes,
     args: &Args,
 ) -> Result<Value, Stopped>
@@ -153,13 +153,13 @@ fn function_of_several<R: Threads + Sync>(
 
 /// Calls a function by its name.
 #[tactic(auto, unfolding(xr_runs::specs::Calls::function_called, xr_runs::specs::Calls::open_dataset))]
-pub(crate) fn call_function<R: Threads + Sync, S: Store>(
+pub(crate) fn call_function<R: Threads + Sync, S: Store, G: Gate>(
     rt: &R,
     alloc: Global,
     name: &TextBytes,
     args: &Args,
     store: &mut S,
-    cx: &mut Cx<Whole>,
+    cx: &mut Cx<Pool<'_, G>>,
 ) -> Result<Value, Stopped>
     requires sync { IsSync R.row }
     requires inside { AreArgsIn cx.old.plan args.now }

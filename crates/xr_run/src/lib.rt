@@ -16,8 +16,9 @@ mod top;
 mod words;
 mod writing;
 
+pub use graph_pool::{Gate, NoGate};
 pub use laws::one_end_fits;
 pub use top::{exit_number, run};
 pub use xr_outside::{
-    Gate, Got, MemFile, MemSink, MemStore, NoGate, Sink, SinkFailed, Store, StoreFailed, StoreFault,
+    Got, MemFile, MemSink, MemStore, Sink, SinkFailed, Store, StoreFailed, StoreFault,
 };

@@ -9,9 +9,9 @@ ghost use Rattle.xr_defs.specs.Printing.{array_text as array_text_of};
 ghost use Rattle.xr_run.specs.Answers.{Gives};
 
 use crate::stopped::Stopped;
+use graph_pool::{Gate, Pool};
 use itoa::Buffer;
 use plan_core::Compute;
-use plan_whole::Whole;
 use std::alloc::{AllocError, Global};
 use std::thread::Threads;
 use xr_print::{array_text, set_text};
@@ -19,10 +19,10 @@ use xr_types::{ComputeFault, Fault};
 use xr_values::{Cx, DataArray, Value};
 
 // The cells of an array of the plan, in its printed form.
-fn array_printed<R: Threads + Sync>(
+fn array_printed<R: Threads + Sync, G: Gate>(
     rt: &R,
     alloc: Global,
-    cx: &mut Cx<Whole>,
+    cx: &mut Cx<Pool<'_, G>>,
     array: &DataArray,
 ) -> Result<Vec<u8>, AllocError>
     requires sync { IsSync R.row }
@@ -65,10 +65,10 @@ fn truth_line(alloc: Global, truth: bool) -> Result<Vec<u8>, AllocError>
 /// The bytes that `print` prints of a value: an array or a dataset in its printed form; a number, a text as it is, `True` or
 /// `False` on a line. Another value is of a wrong kind.
 #[tactic(auto, using(xr_arguments::proofs::Variants::is_truth, xr_arguments::proofs::Variants::is_number, xr_arguments::proofs::Variants::is_text, xr_arguments::proofs::Variants::is_array, xr_values::proofs::Meaning::meaning_out), unfolding(xr_runs::specs::Calls::text_printed))]
-pub(crate) fn printed<R: Threads + Sync>(
+pub(crate) fn printed<R: Threads + Sync, G: Gate>(
     rt: &R,
     alloc: Global,
-    cx: &mut Cx<Whole>,
+    cx: &mut Cx<Pool<'_, G>>,
     value: &Value,
 ) -> Result<Vec<u8>, Stopped>
     requires sync { IsSync R.row }

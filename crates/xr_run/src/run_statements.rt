@@ -10,9 +10,9 @@ ghost use Rattle.xr_run.specs.Named.{names_of, AreNamesIn};
 use crate::names::NameMap;
 use crate::step::step;
 use crate::stopped::Stopped;
+use graph_pool::{Gate, Pool, Settings};
 use plan_core::Plan;
 use plan_live::Gains;
-use plan_whole::Whole;
 use std::alloc::Global;
 use std::thread::Threads;
 use xr_outside::{Sink, Store};
@@ -43,12 +43,13 @@ fn forget_others(alloc: Global, names: &NameMap, plan: &mut Plan, gains: &mut Ga
 }
 
 /// Carries out the statements in order, up to the first that is refused.
-pub(crate) fn run_statements<R: Threads + Sync, S: Store, O: Sink>(
+pub(crate) fn run_statements<R: Threads + Sync, S: Store, O: Sink, G: Gate>(
     rt: &R,
     alloc: Global,
     statements: &[Statement],
     store: &mut S,
     out: &mut O,
+    gate: &G,
 ) -> Status
     requires sync { IsSync R.row }
     ensures ends { IsTrue (S.tells store.old) → Ends (run_from 1 (map line_of statements.now) (start (S.held store.old))) (S.held store.new) (O.tells out.old) (O.taken out.old) (O.taken out.new) result }
@@ -63,7 +64,10 @@ pub(crate) fn run_statements<R: Threads + Sync, S: Store, O: Sink>(
     let mut names = NameMap::new(alloc);
     let mut cx = Cx {
         plan: Plan::new(alloc),
-        compute: Whole,
+        compute: Pool {
+            settings: Settings::new(),
+            gate,
+        },
     };
     let mut gains = Gains::new();
     for (i, statement) in statements.iter().enumerate() {

@@ -17,8 +17,8 @@ use crate::names::NameMap;
 use crate::printing::printed;
 use crate::stopped::Stopped;
 use crate::writing::written;
+use graph_pool::{Gate, Pool};
 use plan_core::Plan;
-use plan_whole::Whole;
 use std::alloc::{AllocError, Global};
 use std::thread::Threads;
 use xr_outside::{Sink, Store, StoreFault, write_all};
@@ -28,14 +28,14 @@ use xr_values::{Args, Cx, Value};
 
 // `name = expr`
 #[tactic(auto, unfolding(xr_runs::specs::Runs::step))]
-fn assign<R: Threads + Sync, S: Store>(
+fn assign<R: Threads + Sync, S: Store, G: Gate>(
     rt: &R,
     alloc: Global,
     name: &TextBytes,
     expr: &Expr,
     names: &NameMap,
     store: &mut S,
-    cx: &mut Cx<Whole>,
+    cx: &mut Cx<Pool<'_, G>>,
 ) -> Result<Effect, Stopped>
     requires sync { IsSync R.row }
     requires inside { AreNamesIn cx.old.plan names.now }
@@ -73,14 +73,14 @@ fn aligned_values(
 
 // `a, b = align(..)`
 #[tactic(auto, unfolding(xr_runs::specs::Runs::step, xr_runs::specs::Runs::values_aligned))]
-fn align<R: Threads + Sync, S: Store>(
+fn align<R: Threads + Sync, S: Store, G: Gate>(
     rt: &R,
     alloc: Global,
     targets: &[TextBytes],
     arguments: &[Argument],
     names: &NameMap,
     store: &mut S,
-    cx: &mut Cx<Whole>,
+    cx: &mut Cx<Pool<'_, G>>,
 ) -> Result<Effect, Stopped>
     requires sync { IsSync R.row }
     requires inside { AreNamesIn cx.old.plan names.now }
@@ -103,7 +103,7 @@ fn align<R: Threads + Sync, S: Store>(
 
 // `name["v"] = expr`
 #[tactic(auto, unfolding(xr_runs::specs::Runs::step))]
-fn place<R: Threads + Sync, S: Store>(
+fn place<R: Threads + Sync, S: Store, G: Gate>(
     rt: &R,
     alloc: Global,
     name: &TextBytes,
@@ -111,7 +111,7 @@ fn place<R: Threads + Sync, S: Store>(
     expr: &Expr,
     names: &NameMap,
     store: &mut S,
-    cx: &mut Cx<Whole>,
+    cx: &mut Cx<Pool<'_, G>>,
 ) -> Result<Effect, Stopped>
     requires sync { IsSync R.row }
     requires inside { AreNamesIn cx.old.plan names.now }
@@ -136,13 +136,13 @@ fn place<R: Threads + Sync, S: Store>(
 
 // `print(expr)`
 #[tactic(auto, unfolding(xr_runs::specs::Runs::step))]
-fn print<R: Threads + Sync, S: Store>(
+fn print<R: Threads + Sync, S: Store, G: Gate>(
     rt: &R,
     alloc: Global,
     expr: &Expr,
     names: &NameMap,
     store: &mut S,
-    cx: &mut Cx<Whole>,
+    cx: &mut Cx<Pool<'_, G>>,
 ) -> Result<Effect, Stopped>
     requires sync { IsSync R.row }
     requires inside { AreNamesIn cx.old.plan names.now }
@@ -165,14 +165,14 @@ fn print<R: Threads + Sync, S: Store>(
 
 // `receiver.to_netcdf(..)`
 #[tactic(auto, unfolding(xr_runs::specs::Runs::step, xr_runs::specs::Runs::written_by))]
-fn write<R: Threads + Sync, S: Store>(
+fn write<R: Threads + Sync, S: Store, G: Gate>(
     rt: &R,
     alloc: Global,
     receiver: &Expr,
     arguments: &[Argument],
     names: &NameMap,
     store: &mut S,
-    cx: &mut Cx<Whole>,
+    cx: &mut Cx<Pool<'_, G>>,
 ) -> Result<Effect, Stopped>
     requires sync { IsSync R.row }
     requires inside { AreNamesIn cx.old.plan names.now }
@@ -197,13 +197,13 @@ fn write<R: Threads + Sync, S: Store>(
 }
 
 // What a statement does, after all its checks.
-fn effect_of<R: Threads + Sync, S: Store>(
+fn effect_of<R: Threads + Sync, S: Store, G: Gate>(
     rt: &R,
     alloc: Global,
     statement: &Statement,
     names: &NameMap,
     store: &mut S,
-    cx: &mut Cx<Whole>,
+    cx: &mut Cx<Pool<'_, G>>,
 ) -> Result<Effect, Stopped>
     requires sync { IsSync R.row }
     requires inside { AreNamesIn cx.old.plan names.now }
@@ -276,14 +276,14 @@ fn perform<S: Store, O: Sink>(
 }
 
 /// Carries out one statement.
-pub(crate) fn step<R: Threads + Sync, S: Store, O: Sink>(
+pub(crate) fn step<R: Threads + Sync, S: Store, O: Sink, G: Gate>(
     rt: &R,
     alloc: Global,
     statement: &Statement,
     names: &mut NameMap,
     store: &mut S,
     out: &mut O,
-    cx: &mut Cx<Whole>,
+    cx: &mut Cx<Pool<'_, G>>,
 ) -> Result<(), Stopped>
     requires sync { IsSync R.row }
     requires inside { AreNamesIn cx.old.plan names.old }

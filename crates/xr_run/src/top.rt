@@ -10,19 +10,21 @@ ghost use Rattle.xr_run.specs.Top.{AsWords, IsSaid, RunEnds, RunCounted, unsaid,
 use crate::message::status_line;
 use crate::run_statements::run_statements;
 use crate::words::script_word;
+use graph_pool::Gate;
 use std::alloc::Global;
 use std::thread::Threads;
-use xr_outside::{Gate, Got, Sink, Store, StoreFault, write_all};
+use xr_outside::{Got, Sink, Store, StoreFault, write_all};
 use xr_script::{ParseFault, parse};
 use xr_types::{MOST_SCRIPT_BYTES, ScriptFault, ScriptKind, Status, TextBytes};
 
 // The run of a script of these bytes.
-fn run_bytes<R: Threads + Sync, S: Store, O: Sink>(
+fn run_bytes<R: Threads + Sync, S: Store, O: Sink, G: Gate>(
     rt: &R,
     alloc: Global,
     bytes: &[u8],
     store: &mut S,
     out: &mut O,
+    gate: &G,
 ) -> Status
     requires sync { IsSync R.row }
     ensures ends { IsTrue (S.tells store.old) → ScriptEnds (S.held store.old) bytes.now (S.held store.new) (O.tells out.old) (O.taken out.old) (O.taken out.new) result }
@@ -35,19 +37,20 @@ fn run_bytes<R: Threads + Sync, S: Store, O: Sink>(
     ensures tallied { StatusTallied (S.faults store.old) (S.faults store.new) (O.faults out.old) (O.faults out.new) result }
 {
     match parse(alloc, bytes) {
-        Ok(script) => run_statements(rt, alloc, script.statements.as_slice(), store, out),
+        Ok(script) => run_statements(rt, alloc, script.statements.as_slice(), store, out, gate),
         Err(ParseFault::Script(fault)) => Status::BadScript(fault),
         Err(ParseFault::NoMemory) => Status::NoMemory,
     }
 }
 
 // The run of the script of a name.
-fn run_named<R: Threads + Sync, S: Store, O: Sink>(
+fn run_named<R: Threads + Sync, S: Store, O: Sink, G: Gate>(
     rt: &R,
     alloc: Global,
     name: &TextBytes,
     store: &mut S,
     out: &mut O,
+    gate: &G,
 ) -> Status
     requires sync { IsSync R.row }
     ensures ends { IsTrue (S.tells store.old) → CommandEnds (S.held store.old) (Some name.now) (S.held store.new) (O.tells out.old) (O.taken out.old) (O.taken out.new) result }
@@ -60,7 +63,7 @@ fn run_named<R: Threads + Sync, S: Store, O: Sink>(
     ensures tallied { StatusTallied (S.faults store.old) (S.faults store.new) (O.faults out.old) (O.faults out.new) result }
 {
     match store.get(alloc, name, MOST_SCRIPT_BYTES as u64) {
-        Ok(Got::Found(bytes)) => run_bytes(rt, alloc, &bytes, store, out),
+        Ok(Got::Found(bytes)) => run_bytes(rt, alloc, &bytes, store, out, gate),
         Ok(Got::Absent) => Status::NoScript,
         Ok(Got::TooLong) => Status::BadScript(ScriptFault {
             kind: ScriptKind::TooMany,
@@ -72,12 +75,13 @@ fn run_named<R: Threads + Sync, S: Store, O: Sink>(
 }
 
 // All of the run but the words and the line on the error sink.
-fn work<R: Threads + Sync, S: Store, O: Sink>(
+fn work<R: Threads + Sync, S: Store, O: Sink, G: Gate>(
     rt: &R,
     alloc: Global,
     script: &Option<TextBytes>,
     store: &mut S,
     out: &mut O,
+    gate: &G,
 ) -> Status
     requires sync { IsSync R.row }
     ensures ends { IsTrue (S.tells store.old) → CommandEnds (S.held store.old) script.now (S.held store.new) (O.tells out.old) (O.taken out.old) (O.taken out.new) result }
@@ -90,7 +94,7 @@ fn work<R: Threads + Sync, S: Store, O: Sink>(
     ensures tallied { StatusTallied (S.faults store.old) (S.faults store.new) (O.faults out.old) (O.faults out.new) result }
 {
     match script {
-        Some(name) => run_named(rt, alloc, name, store, out),
+        Some(name) => run_named(rt, alloc, name, store, out, gate),
         None => Status::BadWords,
     }
 }
@@ -145,7 +149,7 @@ pub fn run<R: Threads + Sync, S: Store, O: Sink, E: Sink, G: Gate>(
     store: &mut S,
     out: &mut O,
     err: &mut E,
-    _gate: &G,
+    gate: &G,
 ) -> Status
     // Where nothing failed, status, files and text are those that the definitions give on whole arrays.
     ensures headline { IsTrue (S.tells store.old) → IsTrue (O.tells out.old) → IsTrue (E.tells err.old) → RunEnds (S.held store.old) (named_script words.now) (S.held store.new) (O.taken out.old) (O.taken out.new) (E.taken err.old) (E.taken err.new) result }
@@ -174,7 +178,7 @@ pub fn run<R: Threads + Sync, S: Store, O: Sink, E: Sink, G: Gate>(
         say_no_memory(err);
         return Status::NoMemory;
     };
-    let status = work(rt, alloc, &script, store, out);
+    let status = work(rt, alloc, &script, store, out, gate);
     let Ok(text) = status_line(alloc, &script, &status) else {
         say_no_memory(err);
         return Status::NoMemory;

@@ -13,7 +13,7 @@ use crate::stopped::Stopped;
 use bytes::BytesQueue;
 use cdf_writer::write_pieces;
 use dataset_core::write_request;
-use plan_whole::Whole;
+use graph_pool::{Gate, Pool};
 use std::alloc::Global;
 use std::thread::Threads;
 use xr_defs::WriteOptions;
@@ -23,10 +23,10 @@ use xr_types::TextBytes;
 use xr_values::{Args, Cx, Dataset, Value};
 
 // The file of a dataset. Nothing is declined.
-fn encoded<R: Threads + Sync>(
+fn encoded<R: Threads + Sync, G: Gate>(
     rt: &R,
     alloc: Global,
-    cx: &mut Cx<Whole>,
+    cx: &mut Cx<Pool<'_, G>>,
     set: &Dataset,
     options: &WriteOptions,
 ) -> Result<CdfFile, Stopped>
@@ -45,10 +45,10 @@ fn encoded<R: Threads + Sync>(
 
 /// The name of the file that `to_netcdf` puts, and its bytes in pieces, once all checks are passed.
 #[tactic(auto, unfolding(xr_runs::specs::Calls::set_written))]
-pub(crate) fn written<R: Threads + Sync>(
+pub(crate) fn written<R: Threads + Sync, G: Gate>(
     rt: &R,
     alloc: Global,
-    cx: &mut Cx<Whole>,
+    cx: &mut Cx<Pool<'_, G>>,
     value: &Value,
     args: &Args,
 ) -> Result<(TextBytes, BytesQueue), Stopped>
