@@ -8,6 +8,8 @@ mod calendars;
 #[cfg(test)]
 mod folds;
 #[cfg(test)]
+mod halves;
+#[cfg(test)]
 mod indexes;
 #[cfg(test)]
 mod operations;
