@@ -347,3 +347,19 @@ eval_right-returns-in-Ok-clause-value g t c = λ s.
     let later = c.eval.new.cx.plan in
     binary_last (meaning c.binary_value.new.plan) (names_of start c.args.names.now) (g.S.Store.held c.args.store.now) (tree_of c.args.expr.now) c.args.op (meaning start c.args.left) (meaning later c.args.left) (meaning later c.in-Ok.right) c.binary_value.result
     (c.in-Ok.ensures.value s) (meaning_kept start later c.args.left c.in-Ok.ensures.grows c.requires.left) c.binary_value.ensures.value
+
+-- what stands in the expression itself adds no node
+pub eval-returns-in-Name-clause-grows : goal.eval-returns-in-Name-clause-grows
+eval-returns-in-Name-clause-grows g t c = grows_by_none c.args.cx.now.plan
+
+pub eval-returns-in-Number-clause-grows : goal.eval-returns-in-Number-clause-grows
+eval-returns-in-Number-clause-grows g t c = grows_by_none c.args.cx.now.plan
+
+pub eval-returns-in_err-deep_copy-in-Text-clause-grows : goal.eval-returns-in_err-deep_copy-in-Text-clause-grows
+eval-returns-in_err-deep_copy-in-Text-clause-grows g t c = grows_by_none c.args.cx.now.plan
+
+pub eval-returns-in-Text-clause-grows : goal.eval-returns-in-Text-clause-grows
+eval-returns-in-Text-clause-grows g t c = grows_by_none c.args.cx.now.plan
+
+pub eval-returns-in-Constant-clause-grows : goal.eval-returns-in-Constant-clause-grows
+eval-returns-in-Constant-clause-grows g t c = grows_by_none c.args.cx.now.plan
