@@ -9,16 +9,11 @@ use Rattle.xr_arrays.proofs.LabelPlaces.{range_with_len-add}
 use Rattle.xr_files.specs.Files.{most_bytes}
 use Rattle.cdf_reader.specs.declared.strips.Strip.{Strip}
 use Rattle.cdf_reader.specs.declared.gather.Column.{Column}
-use Rattle.cdf_reader.specs.Sizes.{capped, pieces}
+use Rattle.cdf_reader.specs.Sizes.{capped}
+use Rattle.xr_arrays.specs.Pieces.{pieces}
 use Rattle.cdf_reader.specs.Gathered.{apart, strip_of, Holds, IsFull}
 use Rattle.cdf_reader.proofs.Reversed.{moved}
 use Rattle.cdf_reader.proofs.Placed.{drop_same, capped_twice}
-
--- a single piece
-pub one_piece : (bytes : List ℕ) (begin step n : ℕ) → pieces bytes begin step n 1 ≡ take n (drop begin bytes)
-one_piece bytes begin step n =
-    let here : begin + 0 * step ≡ begin = grind arith in
-    append-nil (take n (drop (begin + 0 * step) bytes)) ∙ ap (λ (k : ℕ). take n (drop k bytes)) here
 
 -- one piece more, at the front of the bytes from its record on
 pub one_more : (bytes rest : List ℕ) (begin step n r : ℕ) → rest ≡ drop (begin + r * step) bytes → pieces bytes begin step n (r + 1) ≡ pieces bytes begin step n r ++ take n rest

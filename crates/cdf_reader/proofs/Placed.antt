@@ -5,7 +5,8 @@ use Rattle.std.proofs.Math.Nat.{add-zero}
 use Rattle.std.proofs.lemmas.List.{nil_from_length, take_all, append-nil}
 use Rattle.std.proofs.lemmas.Grind.{flat_map-append}
 use Rattle.xr_files.specs.Files.{most_bytes}
-use Rattle.cdf_reader.specs.Sizes.{capped, pieces}
+use Rattle.cdf_reader.specs.Sizes.{capped}
+use Rattle.xr_arrays.specs.Pieces.{pieces}
 use Rattle.cdf_reader.proofs.Capped.{ordered, mul_right}
 
 past : (n : ℕ) (bytes : List ℕ) → length bytes ≤ n → drop n bytes ≡ []

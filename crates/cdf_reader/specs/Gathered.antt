@@ -1,6 +1,6 @@
 -- Values of several variables as they are gathered, some records at a time.
 use Rattle.std.specs.Prelude.{◌≡◌, ◌==◌, ℕ, List, min, if◌then◌else◌}
-use Rattle.cdf_reader.specs.Sizes.{pieces}
+use Rattle.xr_arrays.specs.Pieces.{pieces}
 use Rattle.cdf_reader.specs.declared.strips.Strip.{Strip}
 use Rattle.cdf_reader.specs.declared.gather.Column.{Column}
 

@@ -1,6 +1,5 @@
 -- Sizes as the code keeps them: numbers without limit, cut off at the greatest of 64 bits, which is far beyond a file's bytes.
-use Rattle.std.specs.Prelude.{◌+◌, ◌*◌, ℕ, List, map, flat_map, take, drop, min}
-use Rattle.std.specs.List.{range_with_len}
+use Rattle.std.specs.Prelude.{ℕ, List, map, min}
 use Rattle.xr_files.specs.declared.file.CdfDim.{CdfDim}
 use Rattle.xr_files.specs.declared.file.VarHead.{VarHead}
 use Rattle.xr_files.specs.Files.{head_size, record_vars, sizes_together}
@@ -15,7 +14,3 @@ record_sizes dims vars = map (head_size dims) (record_vars dims vars)
 -- the distance from one record to the next
 abbrev pub distance : List CdfDim → List VarHead → ℕ
 distance dims vars = sizes_together (record_sizes dims vars)
-
--- so many pieces of n bytes, one each step from begin on
-abbrev pub pieces : List ℕ → ℕ → ℕ → ℕ → ℕ → List ℕ
-pieces bytes begin step n count = flat_map (λ r. take n (drop (begin + r * step) bytes)) (range_with_len 0 count)

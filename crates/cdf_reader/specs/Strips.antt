@@ -1,6 +1,6 @@
 -- Pieces of a file's bytes.
 use Rattle.std.specs.Prelude.{ℕ, List}
-use Rattle.cdf_reader.specs.Sizes.{pieces}
+use Rattle.xr_arrays.specs.Pieces.{pieces}
 use Rattle.cdf_reader.specs.declared.strips.Strip.{Strip}
 
 -- the values that a strip is

@@ -4,7 +4,8 @@ ghost use Rattle.std.specs.List.{list_all};
 ghost use Rattle.xr_files.specs.declared.file.VarHead.{VarHead};
 ghost use Rattle.xr_files.specs.Classic.{Header};
 ghost use Rattle.xr_files.specs.Files.{most_bytes, head_size, recsize, end_of, is_inside, raw_of, var_of};
-ghost use Rattle.cdf_reader.specs.Sizes.{capped, pieces};
+ghost use Rattle.cdf_reader.specs.Sizes.{capped};
+ghost use Rattle.xr_arrays.specs.Pieces.{pieces};
 
 use crate::sizes::{cells_of, head_size_of, is_record};
 use bytes::Bytes;

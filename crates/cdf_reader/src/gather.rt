@@ -1,7 +1,7 @@
 //! Values that stand in the records of a file, gathered in one pass over them.
 ghost use Rattle.std.specs.Prelude.{◌≡◌, ◌≤◌, ◌++◌, ℕ, List, All, length, map, take, min, IfOk, OnOk};
 ghost use Rattle.xr_files.specs.Files.{most_bytes};
-ghost use Rattle.cdf_reader.specs.Sizes.{pieces};
+ghost use Rattle.xr_arrays.specs.Pieces.{pieces};
 ghost use Rattle.cdf_reader.specs.Strips.{strip_values};
 ghost use Rattle.cdf_reader.specs.declared.strips.Strip.{Strip as AStrip};
 ghost use Rattle.cdf_reader.specs.declared.gather.Column.{Column as AColumn};

@@ -2,7 +2,8 @@
 ghost use Rattle.std.specs.Prelude.{◌≡◌, ◌≤◌, ℕ, List, length, map, IfOk};
 ghost use Rattle.xr_files.specs.Classic.{Header};
 ghost use Rattle.xr_files.specs.Files.{most_bytes, recsize, raw_of};
-ghost use Rattle.cdf_reader.specs.Sizes.{capped, pieces};
+ghost use Rattle.cdf_reader.specs.Sizes.{capped};
+ghost use Rattle.xr_arrays.specs.Pieces.{pieces};
 ghost use Rattle.cdf_reader.specs.Strips.{strip_values};
 
 use crate::data::Places;

@@ -1,10 +1,9 @@
 -- The numbers of a run of values.
-use Rattle.std.proofs.Common.{◌≡◌, ◌+◌, ◌-◌, ◌*◌, ◌/◌, ◌<◌, ◌≤◌, ◌^◌, ℕ, zero, suc, ℤ, true, List, ◌∷◌, length, map, take, drop, Option, zero-add, refl, sym, ap, ◌∙◌, arith, length-drop}
-use Rattle.std.specs.List.{range_with_len, slice_range}
+use Rattle.std.proofs.Common.{◌≡◌, ◌+◌, ◌-◌, ◌*◌, ◌/◌, ◌<◌, ◌≤◌, ℕ, zero, suc, ℤ, true, List, ◌∷◌, length, map, take, drop, Option, zero-add, refl, sym, ap, ◌∙◌, arith, length-drop}
+use Rattle.std.specs.List.{range_with_len}
 use Rattle.std.proofs.lemmas.List.{drop-map, take-map, drop-drop, drop-take, take-take, length-take-le}
 use Rattle.std.proofs.lemmas.List.FromFn.{take-map-range_with_len}
 use Rattle.xr_types.specs.declared.attr.NcType.{NcType}
-use Rattle.xr_types.specs.declared.attr.NcType.TheVariants.{Byte, Char, Short, Int, Float, Double, UByte, UShort, UInt, Int64, UInt64}
 use Rattle.xr_types.specs.declared.kind.DType.{DType}
 use Rattle.xr_arrays.specs.Arrays.{Array}
 use Rattle.xr_types.specs.Widths.{width}
@@ -77,41 +76,11 @@ cells_in_run kind raw fills n from count is long inside =
     ap (map f) (numbers_in_run kind raw n from count is long inside)
     ∙ sym (ap (take count) (drop-map f from (numbers_of kind raw)) ∙ take-map f count (drop from (numbers_of kind raw)))
 
-narrow : (kind : NcType) → width kind ≤ 8
-narrow Byte = omega arith
-narrow Char = omega arith
-narrow Short = omega arith
-narrow Int = omega arith
-narrow Float = omega arith
-narrow Double = omega arith
-narrow UByte = omega arith
-narrow UShort = omega arith
-narrow UInt = omega arith
-narrow Int64 = omega arith
-narrow UInt64 = omega arith
-
-times_le : (a b c d : ℕ) → a ≤ b → c ≤ d → a * c ≤ b * d
-times_le a b c d le few = grind arith
-
--- where a run of values ends in the bytes
-pub run_fits : (kind : NcType) (w from count n : ℕ) → w ≡ width kind → from + count ≤ n → n ≤ 2 ^ 50 → (from * w ≤ (from + count) * w) × ((from + count) * w ≤ 2 ^ 53)
-run_fits kind w from count n is inside few =
-    let thin = narrow kind in
-    let all : (from + count) * w ≤ 2 ^ 50 * 8 = times_le (from + count) (2 ^ 50) w 8 (omega arith) (omega arith) in
-    (times_le from (from + count) w w (omega arith) (omega arith), omega arith)
-
-run_bytes : (raw : List ℕ) (w from count : ℕ) → slice_range raw (from * w) ((from + count) * w) ≡ take (count * w) (drop (from * w) raw)
-run_bytes raw w from count =
-    let e : (from + count) * w ≡ from * w + count * w = grind arith in
-    let k : (from + count) * w - from * w ≡ count * w = omega arith in
-    ap (λ n. take n (drop (from * w) raw)) k
-
 -- the array over the bytes of a run of values
-pub run_is : (a : Array) (kind : NcType) (raw part : List ℕ) (fills held : List ℤ) (shape : List ℕ) (w from count : ℕ) → a ≡ stored_array a.shape kind raw fills → IsStored a.shape kind raw
-    → w ≡ width kind → part ≡ slice_range raw (from * w) ((from + count) * w) → held ≡ fills → from + count ≤ size a.shape
+pub run_is : (a : Array) (kind : NcType) (raw part : List ℕ) (fills held : List ℤ) (shape : List ℕ) (from count : ℕ) → a ≡ stored_array a.shape kind raw fills → IsStored a.shape kind raw
+    → part ≡ take (count * width kind) (drop (from * width kind) raw) → held ≡ fills → from + count ≤ size a.shape
     → stored_array shape kind part held ≡ record { kind = a.kind; shape = shape; cells = take count (drop from a.cells) }
-run_is a kind raw part fills held shape w from count is stored is_w is_part is_held inside =
-    let run : part ≡ take (count * width kind) (drop (from * width kind) raw) = is_part ∙ run_bytes raw w from count ∙ ap (λ k. take (count * k) (drop (from * k) raw)) is_w in
+run_is a kind raw part fills held shape from count is stored run is_held inside =
     ap (λ k. array k (stored_cells kind part held)) (sym (ap (λ (b : Array). b.kind) is))
     ∙ ap (array a.kind) (ap (stored_cells kind part) is_held ∙ ap (λ (b : List ℕ). stored_cells kind b fills) run ∙ cells_in_run kind raw fills (size a.shape) from count stored.whole stored.long inside ∙ sym (ap (λ (b : Array). take count (drop from b.cells)) is))
   where

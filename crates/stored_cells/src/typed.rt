@@ -47,7 +47,8 @@ pub fn decoded(alloc: Global, array: &StoredArray) -> Result<TypedArray, AllocEr
     ensures { IfOk result (λ a. a ≡ array.now) }
 {
     let parts = array.parts();
-    let cells = decoded_cells(alloc, parts.kind, parts.bytes.as_slice())?;
+    let bytes = parts.pieces.bytes(alloc, parts.kind)?;
+    let cells = decoded_cells(alloc, parts.kind, bytes.as_slice())?;
     let mask = mask_for(alloc, &cells, parts.fills)?;
     let shape = Items::from_slice(alloc, array.shape())?;
     Ok(TypedArray::of(shape, cells, mask))

@@ -1,3 +1,4 @@
+pub mod Together
 pub mod LabelLaws
 pub mod LabelPlaces
 pub mod Folds

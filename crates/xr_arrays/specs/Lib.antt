@@ -1,5 +1,6 @@
 pub mod Arrays
 pub mod Numbers
+pub mod Pieces
 pub mod Stored
 pub mod Forms
 pub mod Labels

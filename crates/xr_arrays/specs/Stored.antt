@@ -8,6 +8,8 @@ use Rattle.xr_types.specs.Points.{size}
 use Rattle.xr_types.specs.Widths.{width}
 use Rattle.xr_arrays.specs.Numbers.{is_whole, cells_kind, numbers_of}
 use Rattle.xr_arrays.specs.Arrays.{Array}
+use Rattle.xr_arrays.specs.declared.pieces.Pieces.{Pieces}
+use Rattle.xr_arrays.specs.Pieces.{together, AreInside}
 
 abbrev pub is_fill : List ℤ → ℤ → Bool
 is_fill fills n = list_any (int_eq n) fills
@@ -27,3 +29,8 @@ stored_array shape kind raw fills = record { kind = cells_kind kind; shape = sha
 pub record IsStored (shape : List ℕ) (kind : NcType) (raw : List ℕ) : Type 0 where
   pub whole : is_whole kind ≡ true
   pub long : length raw ≡ size shape * width kind
+
+-- the same of values that stand in pieces
+pub record IsStoredIn (shape : List ℕ) (kind : NcType) (pieces : Pieces) : Type 0 where
+  pub inside : AreInside kind pieces
+  pub stored : IsStored shape kind (together kind pieces)

@@ -1,5 +1,5 @@
 use Rattle.std.proofs.Common.{◌≡◌, ◌+◌, ◌*◌, drop}
-use Rattle.cdf_reader.specs.Sizes.{pieces}
+use Rattle.xr_arrays.specs.Pieces.{pieces}
 use Rattle.cdf_reader.proofs.gather.push_run.Given as goal
 
 abbrev pub invariant-loop-r : goal.invariant-loop-r

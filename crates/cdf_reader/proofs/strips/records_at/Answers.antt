@@ -1,7 +1,8 @@
 use Rattle.std.proofs.Common.{◌*◌, ℕ, take, drop, sym, ap, ◌∙◌, arith, length-drop}
-use Rattle.cdf_reader.specs.Sizes.{pieces}
+use Rattle.xr_arrays.specs.Pieces.{pieces}
 use Rattle.cdf_reader.proofs.Placed.{take_capped}
-use Rattle.cdf_reader.proofs.Columns.{one_piece, contiguous}
+use Rattle.cdf_reader.proofs.Columns.{contiguous}
+use Rattle.xr_arrays.proofs.Together.{one_piece}
 use Rattle.cdf_reader.proofs.strips.records_at.Goals as goal
 
 pub returns-then-size-places : goal.returns-then-size-places

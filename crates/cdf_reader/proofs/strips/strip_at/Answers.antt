@@ -1,7 +1,8 @@
 use Rattle.std.proofs.Common.{◌≡◌, ℕ, List, sym, ap, ◌∙◌, true}
 use Rattle.xr_files.specs.declared.file.CdfDim.{CdfDim}
 use Rattle.xr_files.specs.Files.{is_record_var, head_size, recsize}
-use Rattle.cdf_reader.specs.Sizes.{capped, pieces}
+use Rattle.cdf_reader.specs.Sizes.{capped}
+use Rattle.xr_arrays.specs.Pieces.{pieces}
 use Rattle.cdf_reader.proofs.Placed.{pieces_capped}
 use Rattle.cdf_reader.proofs.strips.strip_at.Goals as goal
 

@@ -7,7 +7,7 @@ use Rattle.stored_cells.proofs.typed.decoded.Goals as goal
 pub of-requires-clause-cells : goal.of-requires-clause-cells
 of-requires-clause-cells c =
     let same = ap size (sym c.shape.ensures) ∙ ap size (sym c.in_ok-shape.ensures) in
-    let raw = c.as_slice.ensures in
+    let raw = c.as_slice.ensures ∙ c.in_ok-bytes.ensures in
     ap length c.in_ok-cells.ensures.values
     ∙ numbers-length c.parts-parts.result.kind c.as_slice.result.now (size c.args.array.now.shape) c.parts-parts.ensures.whole.whole (ap length raw ∙ c.parts-parts.ensures.whole.long)
     ∙ same
