@@ -46,7 +46,7 @@ value_in_run raw w from count i lt =
         let e : (i + (1 + m)) * w ≡ i * w + (w + m * w) = grind arith in
         ap (λ n. n * w) k ∙ e
 
-run_length : (raw : List ℕ) (w n from count : ℕ) → length raw ≡ n * w → from + count ≤ n → length (take (count * w) (drop (from * w) raw)) ≡ count * w
+pub run_length : (raw : List ℕ) (w n from count : ℕ) → length raw ≡ n * w → from + count ≤ n → length (take (count * w) (drop (from * w) raw)) ≡ count * w
 run_length raw w n from count long inside =
     let more = n - (from + count) in
     let k : n ≡ from + (count + more) = omega arith in

@@ -7,7 +7,8 @@ use std::alloc::{AllocError, Global};
 use xr_arrays::StoredArray;
 use xr_types::Items;
 
-/// The array of so many cells from a place on, which shares their bytes where they stand in one piece.
+/// The array of so many cells from a place on, which shares their bytes where they stand in one piece or are
+/// whole pieces.
 pub fn shared_block(
     alloc: Global,
     array: &StoredArray,
@@ -22,7 +23,7 @@ pub fn shared_block(
     ensures block { IfOk result (λ b. b ≡ record { kind = array.now.kind; shape = shape; cells = take count (drop from array.now.cells) }) }
 {
     let parts = array.parts();
-    let bytes = parts.pieces.part(alloc, parts.kind, from, count)?;
+    let pieces = parts.pieces.cut(alloc, parts.kind, from, count)?;
     let fills = Items::from_slice(alloc, parts.fills)?;
-    Ok(StoredArray::of(shape, parts.kind, bytes, fills))
+    Ok(StoredArray::in_pieces(shape, parts.kind, pieces, fills))
 }

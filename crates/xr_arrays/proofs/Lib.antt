@@ -1,4 +1,5 @@
 pub mod Together
+pub mod Cut
 pub mod LabelLaws
 pub mod LabelPlaces
 pub mod Folds

@@ -17,7 +17,7 @@ one_piece bytes begin step n =
     append-nil (take n (drop (begin + 0 * step) bytes)) ∙ ap (λ (k : ℕ). take n (drop k bytes)) here
 
 -- lists of one length behind the first j of them
-dropped : (f : ℕ → List ℕ) (s a n j : ℕ) → j ≤ n → ((r : ℕ) → a ≤ r → r < a + n → length (f r) ≡ s) → drop (j * s) (flat_map f (range_with_len a n)) ≡ flat_map f (range_with_len (a + j) (n - j))
+pub dropped : (f : ℕ → List ℕ) (s a n j : ℕ) → j ≤ n → ((r : ℕ) → a ≤ r → r < a + n → length (f r) ≡ s) → drop (j * s) (flat_map f (range_with_len a n)) ≡ flat_map f (range_with_len (a + j) (n - j))
 dropped f s a n zero le long = let z : 0 * s ≡ 0 = grind arith in let x : a ≡ a + 0 = omega arith in let y : n ≡ n - 0 = omega arith in ap (λ k. drop k (flat_map f (range_with_len a n))) z ∙ ap (λ b. flat_map f (range_with_len b n)) x ∙ ap (λ m. flat_map f (range_with_len (a + 0) m)) y
 dropped f s a zero (suc j) le long = absurd (not-suc-le-zero le)
 dropped f s a (suc n) (suc j) le long =
@@ -183,7 +183,7 @@ apart_is kind bytes begin step size count w is rest apart some end short =
     )
 
 -- lists of one length one behind the other
-long_pieces : (f : ℕ → List ℕ) (s a n : ℕ) → ((r : ℕ) → a ≤ r → r < a + n → length (f r) ≡ s) → length (flat_map f (range_with_len a n)) ≡ n * s
+pub long_pieces : (f : ℕ → List ℕ) (s a n : ℕ) → ((r : ℕ) → a ≤ r → r < a + n → length (f r) ≡ s) → length (flat_map f (range_with_len a n)) ≡ n * s
 long_pieces f s a zero long = let z : 0 ≡ 0 * s = grind arith in z
 long_pieces f s a (suc n) long =
     let rest = flat_map f (range_with_len (a + 1) n) in
@@ -192,13 +192,17 @@ long_pieces f s a (suc n) long =
     let others = long_pieces f s (a + 1) n (λ r from to. long r (omega arith) (omega arith)) in
     omega (arith, length-append (f a) rest, first, others, both)
 
+-- a piece that is inside has its length
+pub piece_long : (bytes : List ℕ) (begin step s count r : ℕ) → ((r : ℕ) → r < count → begin + r * step + s ≤ length bytes) → r < count → length (take s (drop (begin + r * step) bytes)) ≡ s
+piece_long bytes begin step s count r inside lt = let fits = inside r lt in length-take-le s (drop (begin + r * step) bytes) (omega (arith, length-drop (begin + r * step) bytes, fits))
+
 -- as many bytes as the values have
 pub long_together : (kind : NcType) (p : Pieces) → AreInside kind p → length (together kind p) ≡ values_in p * width kind
 long_together kind p inside =
     let s = p.cells * width kind in
     let f : ℕ → List ℕ = λ r. take s (drop (p.begin + r * p.step) p.bytes) in
     let turn : p.count * (p.cells * width kind) ≡ p.count * p.cells * width kind = grind arith in
-    long_pieces f s 0 p.count (λ r from to. let fits = inside.inside r (omega arith) in length-take-le s (drop (p.begin + r * p.step) p.bytes) (omega (arith, length-drop (p.begin + r * p.step) p.bytes, fits)))
+    long_pieces f s 0 p.count (λ r from to. piece_long p.bytes p.begin p.step s p.count r inside.inside (omega arith))
     ∙ turn
 
 -- all values from the first on

@@ -1,5 +1,5 @@
 //! Bytes that stand in pieces, as the values of a record variable do in a file.
-ghost use Rattle.std.specs.Prelude.{◌≡◌, ◌<◌, ◌≤◌, ◌+◌, ◌*◌, ◌%◌, true, false, length, take, drop, IfOk, MatchOption, OnSome};
+ghost use Rattle.std.specs.Prelude.{◌≡◌, ◌<◌, ◌≤◌, ◌+◌, ◌*◌, ◌%◌, ◌/◌, true, false, length, take, drop, IfOk, MatchOption, OnSome};
 ghost use Rattle.xr_types.specs.declared.attr.NcType.{NcType as AType};
 ghost use Rattle.xr_types.specs.Widths.{width};
 ghost use Rattle.xr_arrays.specs.Pieces.{are_inside, pieces, together, values_in, AreInside};
@@ -97,6 +97,7 @@ impl Pieces {
         ensures some { 0 < result.count }
         ensures within { from + result.count ≤ values_in self.now }
         ensures end { result.byte + result.count * width kind ≤ length self.now.bytes }
+        ensures byte { result.byte ≡ self.now.begin + from / self.now.cells * self.now.step + from % self.now.cells * width kind }
         ensures values { take (result.count * width kind) (drop result.byte self.now.bytes) ≡ take (result.count * width kind) (drop (from * width kind) (together kind self.now)) }
     {
         let piece = from / self.cells;
@@ -168,6 +169,54 @@ impl Pieces {
             return self.gathered(alloc, kind, from, n);
         }
         self.bytes.slice(place.byte..place.byte + n * width(kind))
+    }
+
+    // Whether so many values from one on are whole pieces.
+    fn are_pieces(&self, from: usize, n: usize) -> bool
+        ensures { result ≡ true → (0 < n) × (0 < self.now.cells) × (from % self.now.cells ≡ 0) × (n % self.now.cells ≡ 0) }
+    {
+        n > 0 && self.cells > 0 && from % self.cells == 0 && n % self.cells == 0
+    }
+
+    // So many values from one on, which are whole pieces.
+    fn some_pieces(&self, kind: NcType, from: usize, n: usize) -> Result<Pieces, AllocError>
+        requires some { 0 < n }
+        requires cells { 0 < self.now.cells }
+        requires from { from % self.now.cells ≡ 0 }
+        requires whole { n % self.now.cells ≡ 0 }
+        requires inside { AreInside kind self.now }
+        requires within { from + n ≤ values_in self.now }
+        ensures values { IfOk result (λ p. together kind p ≡ take (n * width kind) (drop (from * width kind) (together kind self.now))) }
+        ensures inside { IfOk result (AreInside kind) }
+    {
+        let place = self.place(kind, from);
+        Ok(Pieces {
+            bytes: self.bytes.slice(..)?,
+            begin: place.byte,
+            step: self.step,
+            cells: self.cells,
+            count: n / self.cells,
+        })
+    }
+
+    /// So many values from one on: they share the bytes where they stand in one piece or are whole pieces, else they are put
+    /// together in new memory.
+    pub fn cut(
+        &self,
+        alloc: Global,
+        kind: NcType,
+        from: usize,
+        n: usize,
+    ) -> Result<Pieces, AllocError>
+        requires inside { AreInside kind self.now }
+        requires within { from + n ≤ values_in self.now }
+        ensures values { IfOk result (λ p. together kind p ≡ take (n * width kind) (drop (from * width kind) (together kind self.now))) }
+        ensures inside { IfOk result (AreInside kind) }
+    {
+        if self.are_pieces(from, n) {
+            return self.some_pieces(kind, from, n);
+        }
+        Ok(Pieces::whole(kind, self.part(alloc, kind, from, n)?))
     }
 
     #[tactic(auto, using(crate::proofs::Together::all_together, crate::proofs::Together::long_together))]

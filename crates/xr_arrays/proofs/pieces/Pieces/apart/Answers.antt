@@ -1,4 +1,4 @@
-use Rattle.std.proofs.Common.{◌≡◌, ◌≤◌, ◌+◌, ◌-◌, ◌*◌, length, arith}
+use Rattle.std.proofs.Common.{◌≤◌, ◌+◌, ◌-◌, ◌*◌, length, arith}
 use Rattle.xr_arrays.proofs.Together.{apart_is}
 use Rattle.xr_arrays.proofs.pieces.Pieces.apart.Goals as goal
 

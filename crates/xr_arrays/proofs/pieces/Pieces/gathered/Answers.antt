@@ -1,4 +1,4 @@
-use Rattle.std.proofs.Common.{◌+◌, ◌*◌, ◌≤◌, ◌≡◌, ◌++◌, ℕ, List, sym, ap, ◌∙◌, take, drop, length, arith, mul-le-mul_right}
+use Rattle.std.proofs.Common.{◌*◌, ◌≤◌, ◌++◌, ℕ, sym, ap, ◌∙◌, take, arith, mul-le-mul_right}
 use Rattle.xr_types.specs.Widths.{width}
 use Rattle.xr_arrays.specs.Pieces.{together}
 use Rattle.xr_arrays.proofs.Together.{grown}

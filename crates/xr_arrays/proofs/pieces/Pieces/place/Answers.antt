@@ -1,4 +1,4 @@
-use Rattle.std.proofs.Common.{◌≡◌, ◌+◌, ◌-◌, ◌*◌, ◌/◌, ◌%◌, ℕ, sym, ap, ◌∙◌, take, drop, arith}
+use Rattle.std.proofs.Common.{◌+◌, ◌-◌, ◌*◌, ◌/◌, ◌%◌, ℕ, ap, ◌∙◌, take, drop, arith}
 use Rattle.xr_types.specs.Widths.{width}
 use Rattle.xr_arrays.proofs.Together.{stands, stand_together}
 use Rattle.xr_arrays.proofs.pieces.Pieces.place.Goals as goal
