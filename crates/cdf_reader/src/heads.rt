@@ -1,16 +1,19 @@
 //! A file without its values.
-ghost use Rattle.std.specs.Prelude.{◌≡◌, ◌≤◌, length, map, take, drop, false, IfOk};
+ghost use Rattle.std.specs.Prelude.{◌≡◌, ◌≤◌, ◌%◌, length, map, take, drop, false, IfOk};
 ghost use Rattle.xr_files.specs.Files.{most_bytes, head_size, is_record_var};
+ghost use Rattle.xr_types.specs.Widths.{width};
+ghost use Rattle.xr_arrays.specs.Pieces.{together, AreInside};
 ghost use Rattle.cdf_reader.specs.Heads.{var_seen};
 
 use crate::data::{Places, fixed_values, raw_at, shared_fixed};
 use crate::gather::gather;
 use crate::sizes::distance_of;
-use crate::strips::strips_at;
+use crate::strips::{pieces_at, strips_at};
 use bytes::Bytes;
 use std::alloc::{AllocError, Global};
+use xr_arrays::Pieces;
 use xr_files::{CdfDim, VarHead};
-use xr_types::{Attr, Items};
+use xr_types::{Attr, Items, NcType};
 
 /// What the header of a file lists. `numrecs` is the number of records; of a streamed file, those that lie in it.
 #[derive(Drop)]
@@ -88,4 +91,34 @@ pub fn gathered_values(
     };
     let strips = strips_at(alloc, places, vars)?;
     gather(alloc, bytes, places.distance, strips.as_slice())
+}
+
+/// The values of a variable where they lie: they share the file's bytes, a record variable's in a piece for each record. Values that
+/// don't hold whole numbers of the type in each piece are put together in new memory.
+///
+/// # Errors
+/// Want of memory.
+pub fn values_in_pieces(
+    alloc: Global,
+    kind: NcType,
+    bytes: &Bytes,
+    head: &FileHead,
+    var: &VarHead,
+) -> Result<Pieces, AllocError>
+    requires short { length bytes.now ≤ most_bytes }
+    requires whole { length (var_seen bytes.now head.now var.now).raw % width kind ≡ 0 }
+    ensures values { IfOk result (λ p. together kind p ≡ (var_seen bytes.now head.now var.now).raw) }
+    ensures inside { IfOk result (AreInside kind) }
+{
+    let dims = head.dims.as_slice();
+    let places = Places {
+        dims,
+        numrecs: head.numrecs,
+        distance: distance_of(dims, head.vars.as_slice()),
+    };
+    if let Some(pieces) = pieces_at(kind, bytes, places, var)? {
+        return Ok(pieces);
+    }
+    let raw = copied_values(alloc, bytes.as_slice(), head, var)?;
+    Ok(Pieces::whole(kind, raw))
 }

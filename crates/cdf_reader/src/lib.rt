@@ -21,7 +21,9 @@ mod variables;
 pub use cells::Numbers;
 pub use decode::numbers;
 pub use fault::CdfFault;
-pub use heads::{FileHead, copied_values, gathered_values, shared_values, values_at};
+pub use heads::{
+    FileHead, copied_values, gathered_values, shared_values, values_at, values_in_pieces,
+};
 pub use laws::{most_records, one_answer};
 pub use reading::{read, read_head};
 pub use sizes::is_record;

@@ -1,15 +1,18 @@
 //! Where the values of a variable stand in its file.
-ghost use Rattle.std.specs.Prelude.{◌≡◌, ◌≤◌, ℕ, List, length, map, IfOk};
+ghost use Rattle.std.specs.Prelude.{◌≡◌, ◌≤◌, ℕ, List, length, map, IfOk, IfSome};
 ghost use Rattle.xr_files.specs.Classic.{Header};
 ghost use Rattle.xr_files.specs.Files.{most_bytes, recsize, raw_of};
 ghost use Rattle.cdf_reader.specs.Sizes.{capped};
-ghost use Rattle.xr_arrays.specs.Pieces.{pieces};
+ghost use Rattle.xr_arrays.specs.Pieces.{pieces, together, AreInside};
 ghost use Rattle.cdf_reader.specs.Strips.{strip_values};
 
 use crate::data::Places;
 use crate::sizes::{head_size_of, is_record};
+use bytes::Bytes;
 use std::alloc::{AllocError, Global};
+use xr_arrays::Pieces;
 use xr_files::VarHead;
+use xr_types::NcType;
 
 /// Pieces of a file's bytes: so many, of so many bytes each, the first from a byte on, and one each step.
 #[derive(Clone, Copy)]
@@ -67,4 +70,32 @@ pub(crate) fn strips_at(
         strips.push(strip_at(places, var))?;
     }
     Ok(strips)
+}
+
+// How far the pieces of a strip lie apart. A single one lies apart from none.
+fn step_of(strip: Strip, distance: u64) -> u64
+    ensures { (bytes : List ℕ) → pieces bytes strip.begin result strip.size strip.count ≡ strip_values bytes distance strip }
+{
+    if strip.count == 1 {
+        strip.size
+    } else {
+        distance
+    }
+}
+
+/// The values of a variable where they lie, if each piece holds whole numbers of the type and they lie apart.
+pub(crate) fn pieces_at(
+    kind: NcType,
+    bytes: &Bytes,
+    places: Places<'_>,
+    var: &VarHead,
+) -> Result<Option<Pieces>, AllocError>
+    requires { length bytes.now ≤ most_bytes }
+    ensures values { (h : Header) → h.dims ≡ places.entry.dims.now → places.entry.distance ≡ capped (recsize h) → IfOk result (λ found. IfSome found (λ p. together kind p ≡ raw_of bytes.now h places.entry.numrecs var.now)) }
+    ensures inside { IfOk result (λ found. IfSome found (AreInside kind)) }
+{
+    let strip = strip_at(places, var);
+    let step = step_of(strip, places.distance);
+    let shared = bytes.slice(..)?;
+    Ok(Pieces::apart(kind, shared, strip.begin, step, strip.size, strip.count))
 }
