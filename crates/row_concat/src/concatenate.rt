@@ -4,7 +4,7 @@ ghost use Rattle.xr_types.specs.Points.{size};
 ghost use Rattle.xr_arrays.specs.Nodes.{Continues, concatenated, first_array, most_node_cells};
 
 use crate::join::join;
-use crate::spelt::all_bytes;
+use crate::spelt::{all_bytes, slices_of};
 use std::alloc::{AllocError, Global};
 use xr_arrays::{ArrayValue, Form};
 
@@ -25,7 +25,8 @@ pub fn concat(alloc: Global, inputs: &[&ArrayValue], axis: usize) -> Result<Arra
             if inputs.len() == 1 {
                 return first.copy(alloc);
             }
-            return join(alloc, inputs, axis, parts.kind, parts.fills, &bytes);
+            let slices = slices_of(alloc, &bytes)?;
+            return join(alloc, inputs, axis, parts.kind, parts.fills, &slices);
         }
     }
     arrangement::concat(alloc, inputs, axis)

@@ -73,9 +73,9 @@ fn numbers_in(
     requires numbers { is_bool var.now ≡ false }
     ensures { IfOk result (λ a. (mask : Bool) → fills ≡ fills_used mask var.now → a ≡ array_in source.now mask var.now) }
 {
-    let raw = var.raw(alloc)?;
+    let pieces = var.pieces(alloc)?;
     let shape = var_shape(alloc, source, var)?;
-    let array = StoredArray::of(shape, var.kind(), raw, fills);
+    let array = StoredArray::in_pieces(shape, var.kind(), pieces, fills);
     Ok(ArrayValue::stored(array))
 }
 

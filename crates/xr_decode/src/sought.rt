@@ -12,12 +12,18 @@ use std::alloc::{AllocError, Global};
 use xr_files::VarHead;
 use xr_types::MOST_CELLS;
 
-/// Whether the values of a variable are looked for: they are whole numbers or texts, and not more than an array may have.
+// The values of a record variable with more of them in a record stay where they lie.
+const MOST_IN_A_RECORD: u64 = 2048;
+
+/// Whether the values of a variable are looked for: they are whole numbers or texts, not more than an array may have, and few in
+/// each record.
 fn is_sought(head: &FileHead, var: &VarHead) -> bool
     ensures { result ≡ is_sought head.now var.now }
 {
+    let count = size(head.dims.as_slice(), head.numrecs, var.dims.as_slice());
     is_whole(var.kind)
-        && size(head.dims.as_slice(), head.numrecs, var.dims.as_slice()) <= MOST_CELLS
+        && count <= MOST_CELLS
+        && count <= head.numrecs.saturating_mul(MOST_IN_A_RECORD)
 }
 
 // The variables of which the values are looked for.

@@ -1,5 +1,7 @@
 //! A file as it is decoded, with the values of its variables where they lie.
-ghost use Rattle.std.specs.Prelude.{◌≡◌, ◌≤◌, ◌++◌, length, map, take, All, IfOk, IfSome};
+ghost use Rattle.std.specs.Prelude.{◌≡◌, ◌≤◌, ◌%◌, ◌++◌, length, map, take, All, IfOk, IfSome};
+ghost use Rattle.xr_types.specs.Widths.{width};
+ghost use Rattle.xr_arrays.specs.Pieces.{together, AreInside};
 ghost use Rattle.xr_files.specs.Files.{most_bytes};
 ghost use Rattle.cdf_reader.specs.Heads.{file_seen, var_seen};
 ghost use Rattle.xr_decode.specs.Readable.{IsReadable};
@@ -12,6 +14,7 @@ use bytes::Bytes;
 use cdf_reader::{FileHead, is_record, shared_values};
 use std::alloc::{AllocError, Global};
 use std::marker::Model;
+use xr_arrays::Pieces;
 use xr_files::{CdfDim, CdfFile, CdfVar, VarHead};
 use xr_types::{Attr, Name, NcType};
 
@@ -87,6 +90,15 @@ impl<'a> StoredVar<'a> {
         ensures { IfOk result (λ r. r ≡ self.now.raw) }
     {
         self.values.raw(alloc)
+    }
+
+    /// Its values where they lie: they share the bytes of the file.
+    pub(crate) fn pieces(&self, alloc: Global) -> Result<Pieces, AllocError>
+        requires { length self.now.raw % width self.now.kind ≡ 0 }
+        ensures values { IfOk result (λ p. together self.now.kind p ≡ self.now.raw) }
+        ensures inside { IfOk result (AreInside self.now.kind) }
+    {
+        self.values.pieces(alloc, self.kind)
     }
 
     /// Its values are bytes.

@@ -1,15 +1,20 @@
 //! The values of a variable.
-ghost use Rattle.std.specs.Prelude.{◌≡◌, ◌≤◌, length, IfOk};
+ghost use Rattle.std.specs.Prelude.{◌≡◌, ◌≤◌, ◌%◌, length, IfOk};
+ghost use Rattle.xr_types.specs.Widths.{width};
+ghost use Rattle.xr_arrays.specs.Pieces.{together, AreInside};
 ghost use Rattle.xr_files.specs.Files.{most_bytes};
 ghost use Rattle.cdf_reader.specs.Heads.{var_seen};
 ghost use Rattle.xr_decode.specs.Stored.{AreBytes};
 
 use crate::place::Place;
 use bytes::Bytes;
-use cdf_reader::{FileHead, copied_values};
+use cdf_reader::{FileHead, copied_values, values_in_pieces};
 use std::alloc::{AllocError, Global};
 use std::marker::Model;
+use xr_arrays::Pieces;
 use xr_files::VarHead;
+use xr_types::NcType;
+
 /// The values of a variable, where they lie.
 #[derive(Drop)]
 pub(crate) struct Values<'a> {
@@ -64,6 +69,20 @@ impl<'a> Values<'a> {
             Place::Together(raw) => raw.slice(..),
             Place::InRecords(bytes, head, var) => {
                 copied_values(alloc, bytes.as_slice(), head, var)
+            }
+        }
+    }
+
+    /// Their bytes where they lie, as values of a type.
+    pub(crate) fn pieces(&self, alloc: Global, kind: NcType) -> Result<Pieces, AllocError>
+        requires { length self.now % width kind ≡ 0 }
+        ensures values { IfOk result (λ p. together kind p ≡ self.now) }
+        ensures inside { IfOk result (AreInside kind) }
+    {
+        match &self.place {
+            Place::Together(raw) => Ok(Pieces::whole(kind, raw.slice(..)?)),
+            Place::InRecords(bytes, head, var) => {
+                values_in_pieces(alloc, kind, bytes, head, var)
             }
         }
     }

@@ -9,5 +9,5 @@ returns-then-inputs-eq1 c =
     let inputs = c.args.inputs.now in
     let parts = c.parts-parts.result in
     let single : length inputs ≡ 1 = omega arith in
-    let spell : AllSpell parts.kind parts.fills.now (map (λ l. l.now) c.in-Some.bytes.items) (map (λ a. a.now) inputs) = search rules in
-    if_ok c.copy.result _ _ (λ v is. is ∙ alone (λ a. a.now) inputs c.index-inputs-0.result c.args.axis parts.kind parts.fills.now (map (λ l. l.now) c.in-Some.bytes.items) single c.index-inputs-0.is c.requires.axis spell) c.copy.ensures
+    let spell : AllSpell parts.kind parts.fills.now c.in-Some.bytes.items (map (λ a. a.now) inputs) = search rules in
+    if_ok c.copy.result _ _ (λ v is. is ∙ alone (λ a. a.now) inputs c.index-inputs-0.result c.args.axis parts.kind parts.fills.now c.in-Some.bytes.items single c.index-inputs-0.is c.requires.axis spell) c.copy.ensures
