@@ -307,7 +307,8 @@ fn fold_stored(
     ensures { IfOk result (λ b. b ≡ folded fold feeds.now array.now) }
 {
     let parts = array.parts();
-    let bytes = parts.bytes.as_slice();
+    let raw = parts.pieces.bytes(alloc, parts.kind)?;
+    let bytes = raw.as_slice();
     match parts.fills {
         [] => fold_numbers(alloc, fold, parts.kind, feeds, shape, sizes, bytes, NoFill),
         [fill] => fold_numbers(

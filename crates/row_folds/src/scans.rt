@@ -140,7 +140,8 @@ fn scan_stored(
     ensures { IfOk result (λ b. b ≡ scanned Sum array.now axis) }
 {
     let parts = array.parts();
-    let bytes = parts.bytes.as_slice();
+    let raw = parts.pieces.bytes(alloc, parts.kind)?;
+    let bytes = raw.as_slice();
     match parts.fills {
         [] => scan_numbers(alloc, parts.kind, shape, axis, bytes, NoFill),
         [fill] => scan_numbers(
