@@ -193,7 +193,7 @@ pub fn array_bytes(
     ensures { IfOk result (λ raw. raw ≡ cells_bytes kind fill array.now.cells) }
 {
     if let Form::Stored(stored) = array.form() {
-        if let Some(raw) = shared_bytes(kind, stored, fill)? {
+        if let Some(raw) = shared_bytes(alloc, kind, stored, fill)? {
             return Ok(raw);
         }
     }

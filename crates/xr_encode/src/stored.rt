@@ -6,7 +6,7 @@ ghost use Rattle.xr_arrays.specs.Stored.{is_fill};
 ghost use Rattle.xr_encode.specs.Rows.{cells_bytes, is_number};
 
 use bytes::Bytes;
-use std::alloc::AllocError;
+use std::alloc::{AllocError, Global};
 use xr_arrays::StoredArray;
 use xr_types::NcType;
 
@@ -64,9 +64,10 @@ fn read_bytes(raw: &[u8])
     ensures { (i : ℕ) → get_or raw.now i 0 < 256 }
 {}
 
-/// The bytes of a stored array, shared, where they are of the type and each number that stands for missing cells is the
-/// one that is written for them.
+/// The bytes of a stored array, shared where they stand in one piece, if they are of the type and each number that stands for
+/// missing cells is the one that is written for them.
 pub fn shared_bytes(
+    alloc: Global,
     kind: NcType,
     array: &StoredArray,
     fill: i128,
@@ -80,7 +81,7 @@ pub fn shared_bytes(
     if !are_all(parts.fills, fill) {
         return Ok(None);
     }
-    read_bytes(parts.bytes.as_slice());
-    let raw = parts.bytes.slice(..)?;
+    let raw = parts.pieces.bytes(alloc, parts.kind)?;
+    read_bytes(raw.as_slice());
     Ok(Some(raw))
 }
