@@ -32,13 +32,19 @@ fn has_mask(array: &ArrayValue, cells: &[u8]) -> bool {
 }
 
 /// Whether an array is stored as these bytes and has these fill numbers.
-fn has_bytes(array: &ArrayValue, bytes: &[u8], fills: &[i128]) -> bool {
+fn has_bytes(
+    alloc: Global,
+    array: &ArrayValue,
+    bytes: &[u8],
+    fills: &[i128],
+) -> Result<bool, AllocError> {
     match array.form() {
         Form::Stored(stored) => {
             let parts = stored.parts();
-            parts.bytes.as_slice() == bytes && parts.fills == fills
+            let raw = parts.pieces.bytes(alloc, parts.kind)?;
+            Ok(raw.as_slice() == bytes && parts.fills == fills)
         }
-        Form::Typed(_) => false,
+        Form::Typed(_) => Ok(false),
     }
 }
 
@@ -57,6 +63,6 @@ fn a_copy_of_a_stored_array_has_its_bytes(rt: HostRuntime) -> Result<(), Fail> {
     let array = stored(rt.alloc())?;
     let copy = array.copy(rt.alloc())?;
     assert!(rt; copy.kind() == DType::Int16);
-    assert!(rt; has_bytes(&copy, &[0, 7, 255, 249], &[-7]));
+    assert!(rt; has_bytes(rt.alloc(), &copy, &[0, 7, 255, 249], &[-7])?);
     Ok(())
 }

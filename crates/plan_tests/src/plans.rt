@@ -190,10 +190,13 @@ fn in_file(
 }
 
 // The bytes of an array that is kept as a file has it.
-fn bytes_of(a: &ArrayValue) -> Option<&[u8]> {
+fn bytes_of(alloc: Global, a: &ArrayValue) -> Result<Option<Bytes>, AllocError> {
     match a.form() {
-        Form::Stored(array) => Some(array.parts().bytes.as_slice()),
-        Form::Typed(_) => None,
+        Form::Stored(array) => {
+            let parts = array.parts();
+            Ok(Some(parts.pieces.bytes(alloc, parts.kind)?))
+        }
+        Form::Typed(_) => Ok(None),
     }
 }
 
@@ -616,7 +619,12 @@ fn is_kept(
     bytes: Option<&[u8]>,
     cells: &[Option<i128>],
 ) -> Result<(), Fail> {
-    if bytes_of(a) != bytes {
+    let same = match (&bytes_of(alloc, a)?, bytes) {
+        (Some(kept), Some(bytes)) => kept.as_slice() == bytes,
+        (None, None) => true,
+        _ => false,
+    };
+    if !same {
         return Err("other bytes".into());
     }
     has_cells(alloc, a, cells)

@@ -6,6 +6,7 @@ ghost use Rattle.xr_arrays.specs.Arrays.{cell, hidden, wide, IsArray};
 ghost use Rattle.xr_arrays.specs.Folds.{sum_of};
 ghost use Rattle.plan_core.specs.Rows.{those};
 
+use arrangement::points;
 use cell_strips::{Strips, strip_length};
 use std::alloc::{AllocError, Global};
 use stored_cells::sum;
@@ -96,7 +97,15 @@ fn total_stored(array: &StoredArray) -> i64
     ensures sum { result ≡ int_wrap w64 (sum_of (those array.now.cells)) }
 {
     let parts = array.parts();
-    sum(parts.kind, parts.bytes.as_slice(), parts.fills)
+    let count = points(array.shape()) as usize;
+    let mut total = 0;
+    let mut from = 0;
+    while from < count {
+        let run = parts.pieces.run(parts.kind, from);
+        total = added(total, sum(parts.kind, run.bytes, parts.fills));
+        from += run.count;
+    }
+    total
 }
 
 /// The sum of the cells that aren't missing, wrapped at 64 bits.
