@@ -1,12 +1,12 @@
 -- Entries over bare axes leave them as they have to be, and as long.
-use Rattle.std.proofs.Common.{◌≡◌, ◌==◌, ℕ, ℤ, Bool, true, false, not, List, [], ◌∷◌, map, All, Option, Result, Ok, Err, refl, sym, ap, ◌∙◌}
+use Rattle.std.proofs.Common.{◌≡◌, ◌==◌, ℕ, ℤ, Bool, true, false, List, [], ◌∷◌, map, All, Option, Result, Ok, Err, refl, sym, ap, ◌∙◌}
 use Rattle.std.specs.Prelude.{if◌then◌else◌}
 use Rattle.std.specs.List.{list_all}
 use Rattle.xr_types.specs.declared.axis.Labels.{Labels}
 use Rattle.xr_types.specs.declared.text.TextBytes.{TextBytes}
 use Rattle.xr_types.specs.declared.kind.DType.{DType}
 use Rattle.xr_types.specs.declared.fault.Fault.{Fault}
-use Rattle.xr_types.specs.declared.fault.Fault.TheVariants.{DoesNotFit, DuplicateName, SizeConflict}
+use Rattle.xr_types.specs.declared.fault.Fault.TheVariants.{DoesNotFit, SizeConflict}
 use Rattle.xr_types.specs.declared.fault.CallFault.{CallFault}
 use Rattle.xr_types.specs.Names.{shape_over}
 use Rattle.xr_types.specs.Results.{◌>>=◌, unless, all_of}
@@ -15,7 +15,7 @@ use Rattle.xr_arrays.specs.declared.node.Node.{Node}
 use Rattle.xr_defs.specs.declared.value.Coord.{Coord}
 use Rattle.xr_defs.specs.Meanings.{Value as Meant}
 use Rattle.xr_defs.specs.Selecting.{axis_called}
-use Rattle.xr_defs.specs.Building.{Frame, check_entry, check_numbers, check_place, coordinate_given, fits_kind, frame_labelled, is_dimension, label_total, labels_given, relabelled, with_coord, with_coordinate, with_entry, with_labels}
+use Rattle.xr_defs.specs.Building.{Frame, check_entry, check_place, coordinate_given, fits_kind, frame_labelled, is_dimension, label_total, labels_given, relabelled, with_coord, with_coordinate, with_entry, with_labels}
 use Rattle.xr_values.specs.declared.value.Value.{Value}
 use Rattle.xr_values.specs.Meaning.{with_key, IsEntryIn}
 use Rattle.xr_building.specs.Entries.{computed, entries_in, entry_in, refused}

@@ -26,7 +26,7 @@ use Rattle.xr_values.specs.declared.value.Value.TheVariants as variants
 use Rattle.xr_values.specs.declared.value.Value.TheOpen as held
 use Rattle.xr_values.specs.declared.value.Value.TheOpen.{Value-F}
 use Rattle.xr_values.specs.declared.value.Value.TheViews.{out-Value, roll-Value, out-roll-Value, roll-out-Value}
-use Rattle.xr_values.specs.Meaning.{meaning, with_key}
+use Rattle.xr_values.specs.Meaning.{with_key}
 use Rattle.xr_values.specs.Stands.{array_in}
 use Rattle.xr_arguments.proofs.Variants.{is_array}
 use Rattle.xr_building.specs.declared.puts.Put.{Put}

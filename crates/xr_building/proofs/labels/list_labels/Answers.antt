@@ -1,4 +1,4 @@
-use Rattle.std.proofs.Common.{Ok, sym, ap, subst, ◌∙◌}
+use Rattle.std.proofs.Common.{sym, ap, subst, ◌∙◌}
 use Rattle.xr_types.specs.Results.{Answers}
 use Rattle.xr_building.specs.Puts.{labels_of}
 use Rattle.xr_building.proofs.Items.{none_given, numbers_given, plain_numbers, texts_given}
