@@ -22,5 +22,4 @@ pub mod Steps
 pub mod Tables
 pub mod Undeclined
 pub mod Unlabelled
-pub mod Unrefused
 pub mod Within
