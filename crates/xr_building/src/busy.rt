@@ -17,16 +17,23 @@ use xr_values::{Dataset, Variable};
 fn have_axis(coords: &[Coord], name: &TextBytes) -> bool
     ensures { result ≡ list_any (λ (c : Other). among (axis_names c.axes) name.now) coords.now }
 {
-    coords
-        .iter()
-        .any(|coord| has_axis(coord.axes.as_slice(), name))
+    for coord in coords {
+        if has_axis(coord.axes.as_slice(), name) {
+            return true;
+        }
+    }
+    false
 }
 
 fn have_dim(vars: &[Variable], name: &TextBytes) -> bool
     ensures { result ≡ list_any (λ (v : Var). among v.dims name.now) vars.now }
 {
-    vars.iter()
-        .any(|variable| is_among(variable.dims.as_slice(), name))
+    for variable in vars {
+        if is_among(variable.dims.as_slice(), name) {
+            return true;
+        }
+    }
+    false
 }
 
 #[tactic(auto, unfolding(crate::specs::Idle::is_held))]

@@ -2,7 +2,6 @@
 #![tactic(auto)]
 
 mod aligned;
-mod apart;
 mod assigned;
 mod assigned_sets;
 mod axes;
@@ -11,6 +10,7 @@ mod busy;
 mod cells;
 mod check;
 mod computed;
+mod coordinates;
 mod draft;
 mod elements;
 mod entries;
@@ -23,7 +23,6 @@ mod outlined;
 mod placed;
 mod placing;
 mod put;
-mod puts;
 mod written;
 
 pub use assigned::assign_to_array;
