@@ -1,7 +1,10 @@
-use Rattle.std.proofs.Common.{◌+◌, List, map, filter, drop, ap, ◌∙◌, rules, arith}
+use Rattle.std.proofs.Common.{◌+◌, List, map, filter, drop, sym, subst, ap, ◌∙◌, rules, arith}
+use Rattle.std.specs.List.{All}
+use Rattle.std.proofs.lemmas.List.Elements.{All-push}
 use Rattle.std.proofs.lemmas.Grind.{common_steps}
 use Rattle.xr_files.specs.declared.file.VarHead.{VarHead}
 use Rattle.xr_decode.specs.Sought.{is_sought, values_seen}
+use Rattle.xr_decode.specs.Stored.{HoldsBytes}
 use Rattle.xr_decode.proofs.Found.{from_here}
 use Rattle.xr_decode.proofs.stored.head_vars.Goals as goal
 
@@ -15,5 +18,5 @@ loop-head_of_var-preserved c =
     record {
       found = (c.next_found-values.ensures bytes (drop (i + 1) heads) (c.loop-head_of_var.invariant.found ∙ ap (λ (l : List VarHead). map (values_seen bytes head) (filter (is_sought head) l)) here)).1;
       vars = first_of (search rules, grind (arith, common_steps));
-      bytes = first_of (search rules, grind (arith, common_steps));
+      bytes = subst (All HoldsBytes) (sym c.in_ok-push.ensures.items) (All-push HoldsBytes c.loop-head_of_var.stored.items c.in_ok-var.var c.loop-head_of_var.invariant.bytes c.holds_bytes.ensures);
     }
