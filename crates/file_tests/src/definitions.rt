@@ -1,7 +1,7 @@
 use bytes::Bytes;
 use std::alloc::{AllocError, Global};
 use std::test::Fail;
-use xr_arrays::{ArrayValue, Cells, Form, StoredArray};
+use xr_arrays::{ArrayValue, Cells, Form, Pieces, StoredArray};
 use xr_types::{DType, Items, NcType};
 
 /// The shorts 7 and -7, the second hidden.
@@ -64,5 +64,52 @@ fn a_copy_of_a_stored_array_has_its_bytes(rt: HostRuntime) -> Result<(), Fail> {
     let copy = array.copy(rt.alloc())?;
     assert!(rt; copy.kind() == DType::Int16);
     assert!(rt; has_bytes(rt.alloc(), &copy, &[0, 7, 255, 249], &[-7])?);
+    Ok(())
+}
+
+/// The numbers from 0 to 11.
+const TWELVE: [u8; 12] = [0, 1, 2, 3, 4, 5, 6, 7, 8, 9, 10, 11];
+
+fn twelve() -> &'static [u8] {
+    &TWELVE
+}
+
+/// Pieces of shorts in twelve bytes put together, if they lie apart and inside.
+fn put_together(
+    alloc: Global,
+    begin: u64,
+    step: u64,
+    size: u64,
+    count: u64,
+) -> Result<Option<Bytes>, AllocError> {
+    let bytes = Bytes::from_static(twelve());
+    match Pieces::apart(NcType::Short, bytes, begin, step, size, count) {
+        Some(pieces) => Ok(Some(pieces.bytes(alloc, NcType::Short)?)),
+        None => Ok(None),
+    }
+}
+
+#[test]
+fn pieces_are_put_together(rt: HostRuntime) -> Result<(), Fail> {
+    let alloc = rt.alloc();
+    let two = put_together(alloc, 2, 5, 4, 2)?.ok_or("none")?;
+    assert_eq!(rt; two.as_slice(), [2, 3, 4, 5, 7, 8, 9, 10].as_slice());
+    let last = put_together(alloc, 3, 5, 4, 2)?.ok_or("none")?;
+    assert_eq!(rt; last.as_slice(), [3, 4, 5, 6, 8, 9, 10, 11].as_slice());
+    Ok(())
+}
+
+/// Half a short, pieces that overlap, none, and one that ends behind the bytes.
+#[test]
+fn pieces_lie_apart_and_inside(rt: HostRuntime) -> Result<(), Fail> {
+    let alloc = rt.alloc();
+    for (begin, step, size, count) in [
+        (0u64, 4u64, 3u64, 1u64),
+        (0, 2, 4, 2),
+        (0, 4, 4, 0),
+        (4, 5, 4, 2),
+    ] {
+        assert!(rt; put_together(alloc, begin, step, size, count)?.is_none());
+    }
     Ok(())
 }

@@ -2,9 +2,10 @@
 //!
 //! A record of the long files takes 4,096 bytes, so that 64 of them are gone through at a time.
 use bytes::Bytes;
-use cdf_reader::{gathered_values, read_head};
+use cdf_reader::{gathered_values, read_head, values_in_pieces};
 use std::alloc::{AllocError, Global};
 use std::test::*;
+use xr_types::NcType;
 
 /// The header of the long files behind the number of records: the bytes `b` over `t` and `x`, 4,089 in each record and three more that
 /// fill it up, and the int `i` over `t`.
@@ -147,5 +148,38 @@ fn short_records(rt: HostRuntime) -> Result<(), Fail> {
     );
     let none = gathered(alloc, &Bytes::from_static(records()), &[])?;
     assert!(rt; none.is_empty());
+    Ok(())
+}
+
+/// The values of a variable of a file as they lie, put together.
+fn as_they_lie(alloc: Global, file: &Bytes, number: usize) -> Result<Bytes, Fail> {
+    match read_head(alloc, file.as_slice()) {
+        Ok(head) => {
+            let heads = head.vars.as_slice();
+            let var = heads.get(number).ok_or("no variable")?;
+            let pieces = values_in_pieces(alloc, NcType::Byte, file, &head, var)?;
+            Ok(pieces.bytes(alloc, NcType::Byte)?)
+        }
+        Err(_) => Err("no head".into()),
+    }
+}
+
+/// Values in records of other ones too, of a lone variable, and of a file without records.
+#[test]
+fn values_lie_in_pieces(rt: HostRuntime) -> Result<(), Fail> {
+    let alloc = rt.alloc();
+    for numrecs in [0u8, 1, 2, 65] {
+        let file = Bytes::from_vec(long_file(alloc, numrecs)?)
+            .ok()
+            .ok_or("memory")?;
+        let (bytes, ints) = long_values(alloc, numrecs)?;
+        let found = [as_they_lie(alloc, &file, 0)?, as_they_lie(alloc, &file, 1)?];
+        assert!(rt;
+            are(&found, &[bytes.as_slice(), ints.as_slice()]),
+            "{numrecs} records"
+        );
+    }
+    let shorts = [as_they_lie(alloc, &Bytes::from_static(lone()), 0)?];
+    assert!(rt; are(&shorts, &[&[0, 1, 0, 2, 0, 3]]));
     Ok(())
 }

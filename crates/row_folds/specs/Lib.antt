@@ -1,3 +1,4 @@
 pub mod Rows
+pub mod Runs
 pub mod SumsTo
 pub mod Windows

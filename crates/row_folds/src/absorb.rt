@@ -9,7 +9,7 @@ use crate::leaf::{absorb_row, absorb_run};
 use crate::lists::absorb_lists;
 use crate::positions::{count, nth};
 use crate::sizes::{begin, behind, points};
-use crate::source::Source;
+use crate::source::InRuns;
 use crate::strip::Strip;
 use xr_arrays::{Feed, Feeds};
 use xr_types::Elem;
@@ -44,7 +44,7 @@ fn is_run(feeds: &[Feed]) -> bool
 }
 
 // Absorbs the cells of a shape by lists of positions of its first axis, where all axes behind that stay.
-fn absorb_table<T: Elem, A: Accumulator<T>, S: Source<T>>(
+fn absorb_table<T: Elem, A: Accumulator<T>, S: InRuns<T>>(
     rows: &mut [A],
     at: usize,
     position: u64,
@@ -58,6 +58,7 @@ fn absorb_table<T: Elem, A: Accumulator<T>, S: Source<T>>(
     width: usize,
     empty: A,
 )
+    requires ready { S.Ready source }
     requires rows { AreRows (By lists.now ∷ rest.now) shape.now sizes.now at (length rows.old) start (length (S.cells source)) position }
     requires kept { AllKept rest.now }
     requires folds { length folds.old ≤ most_node_cells }
@@ -77,7 +78,7 @@ fn absorb_table<T: Elem, A: Accumulator<T>, S: Source<T>>(
 /// Absorbs the cells of a shape, which lie from `start` on, into the accumulators of the sizes that stay, which lie from `at`
 /// on. The position is that along the last axis before that was folded. What the memory for folds holds doesn't matter; windows
 /// are put together there, so many columns at a time.
-pub fn absorb<T: Elem, A: Accumulator<T>, S: Source<T>>(
+pub fn absorb<T: Elem, A: Accumulator<T>, S: InRuns<T>>(
     rows: &mut [A],
     at: usize,
     position: u64,
@@ -90,6 +91,7 @@ pub fn absorb<T: Elem, A: Accumulator<T>, S: Source<T>>(
     width: usize,
     empty: A,
 )
+    requires ready { S.Ready source }
     requires rows { AreRows feeds.now shape.now sizes.now at (length rows.old) start (length (S.cells source)) position }
     requires folds { length folds.old ≤ most_node_cells }
     requires empty { A.Is empty [] }

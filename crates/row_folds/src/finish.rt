@@ -11,13 +11,13 @@ use crate::celled::{Celled, array};
 use crate::kinds::folded_kind;
 use crate::outcome::{Chosen, Extreme, Finish, Finished, Reached};
 use crate::rows::folded_rows;
-use crate::source::Source;
+use crate::source::InRuns;
 use std::alloc::{AllocError, Global};
 use xr_arrays::{ArrayValue, Feed};
 use xr_types::{DType, Elem, FoldKind};
 
 /// The array of a fold whose accumulators hold their results.
-pub fn finished<T: Elem, O: Celled, A: Accumulator<T> + Finish<O>, S: Source<T>>(
+pub fn finished<T: Elem, O: Celled, A: Accumulator<T> + Finish<O>, S: InRuns<T>>(
     alloc: Global,
     fold: FoldKind,
     kind: DType,
@@ -27,6 +27,7 @@ pub fn finished<T: Elem, O: Celled, A: Accumulator<T> + Finish<O>, S: Source<T>>
     sizes: &[u64],
     source: S,
 ) -> Result<ArrayValue, AllocError>
+    requires ready { S.Ready source }
     requires start { A.Is start [] }
     requires folding { IsFolding feeds.now shape.now sizes.now (length (S.cells source)) }
     requires range { All (IsCell kind) (S.cells source) }
@@ -61,7 +62,7 @@ fn are_reached<T: Elem, A: Extreme<T>>(rows: &[A], none: T) -> bool
 }
 
 /// The array of least or greatest numbers.
-pub fn chosen<T: Celled, A: Accumulator<T> + Extreme<T>, S: Source<T>>(
+pub fn chosen<T: Celled, A: Accumulator<T> + Extreme<T>, S: InRuns<T>>(
     alloc: Global,
     fold: FoldKind,
     kind: DType,
@@ -71,6 +72,7 @@ pub fn chosen<T: Celled, A: Accumulator<T> + Extreme<T>, S: Source<T>>(
     sizes: &[u64],
     source: S,
 ) -> Result<ArrayValue, AllocError>
+    requires ready { S.Ready source }
     requires start { A.Is start [] }
     requires folding { IsFolding feeds.now shape.now sizes.now (length (S.cells source)) }
     requires range { All (IsCell kind) (S.cells source) }

@@ -14,13 +14,13 @@ use crate::accumulator::{
 use crate::celled::{Celled, whole_array};
 use crate::finish::{chosen, finished};
 use crate::rows::folded_rows;
-use crate::source::Source;
+use crate::source::InRuns;
 use std::alloc::{AllocError, Global};
 use xr_arrays::{ArrayValue, Feed};
 use xr_types::{DType, Elem, FoldKind, is_unsigned};
 
 // The sums of signed cells, which the accumulators are.
-fn signed_sum<T: Elem, S: Source<T>>(
+fn signed_sum<T: Elem, S: InRuns<T>>(
     alloc: Global,
     kind: DType,
     feeds: &[Feed],
@@ -28,6 +28,7 @@ fn signed_sum<T: Elem, S: Source<T>>(
     sizes: &[u64],
     source: S,
 ) -> Result<ArrayValue, AllocError>
+    requires ready { S.Ready source }
     requires folding { IsFolding feeds.now shape.now sizes.now (length (S.cells source)) }
     requires range { All (IsCell kind) (S.cells source) }
     requires signed { is_unsigned kind ≡ false }
@@ -38,7 +39,7 @@ fn signed_sum<T: Elem, S: Source<T>>(
 }
 
 #[tactic(auto, using(crate::proofs::Meanings::sum_unsigned, crate::proofs::Meanings::unsigned_total, crate::proofs::Meanings::sum_none_is))]
-fn sum<T: Elem, S: Source<T>>(
+fn sum<T: Elem, S: InRuns<T>>(
     alloc: Global,
     kind: DType,
     feeds: &[Feed],
@@ -46,6 +47,7 @@ fn sum<T: Elem, S: Source<T>>(
     sizes: &[u64],
     source: S,
 ) -> Result<ArrayValue, AllocError>
+    requires ready { S.Ready source }
     requires folding { IsFolding feeds.now shape.now sizes.now (length (S.cells source)) }
     requires range { All (IsCell kind) (S.cells source) }
     ensures { IfOk result (λ b. b ≡ folded Sum feeds.now (array_of kind shape.now (S.cells source))) }
@@ -58,7 +60,7 @@ fn sum<T: Elem, S: Source<T>>(
 }
 
 #[tactic(auto, using(crate::proofs::Meanings::product_signed, crate::proofs::Meanings::product_unsigned, crate::proofs::Meanings::signed_total, crate::proofs::Meanings::unsigned_total, crate::proofs::Meanings::product_none_is))]
-fn product<T: Elem, S: Source<T>>(
+fn product<T: Elem, S: InRuns<T>>(
     alloc: Global,
     kind: DType,
     feeds: &[Feed],
@@ -66,6 +68,7 @@ fn product<T: Elem, S: Source<T>>(
     sizes: &[u64],
     source: S,
 ) -> Result<ArrayValue, AllocError>
+    requires ready { S.Ready source }
     requires folding { IsFolding feeds.now shape.now sizes.now (length (S.cells source)) }
     requires range { All (IsCell kind) (S.cells source) }
     ensures { IfOk result (λ b. b ≡ folded Prod feeds.now (array_of kind shape.now (S.cells source))) }
@@ -96,7 +99,7 @@ fn product<T: Elem, S: Source<T>>(
 }
 
 #[tactic(auto, using(crate::proofs::Meanings::count_meaning))]
-fn count<T: Elem, S: Source<T>>(
+fn count<T: Elem, S: InRuns<T>>(
     alloc: Global,
     kind: DType,
     feeds: &[Feed],
@@ -104,6 +107,7 @@ fn count<T: Elem, S: Source<T>>(
     sizes: &[u64],
     source: S,
 ) -> Result<ArrayValue, AllocError>
+    requires ready { S.Ready source }
     requires folding { IsFolding feeds.now shape.now sizes.now (length (S.cells source)) }
     requires range { All (IsCell kind) (S.cells source) }
     ensures { IfOk result (λ b. b ≡ folded Count feeds.now (array_of kind shape.now (S.cells source))) }
@@ -121,7 +125,7 @@ fn count<T: Elem, S: Source<T>>(
 }
 
 #[tactic(auto, using(crate::proofs::Meanings::any_meaning))]
-fn any<T: Elem, S: Source<T>>(
+fn any<T: Elem, S: InRuns<T>>(
     alloc: Global,
     kind: DType,
     feeds: &[Feed],
@@ -129,6 +133,7 @@ fn any<T: Elem, S: Source<T>>(
     sizes: &[u64],
     source: S,
 ) -> Result<ArrayValue, AllocError>
+    requires ready { S.Ready source }
     requires folding { IsFolding feeds.now shape.now sizes.now (length (S.cells source)) }
     requires range { All (IsCell kind) (S.cells source) }
     ensures { IfOk result (λ b. b ≡ folded Any feeds.now (array_of kind shape.now (S.cells source))) }
@@ -146,7 +151,7 @@ fn any<T: Elem, S: Source<T>>(
 }
 
 #[tactic(auto, using(crate::proofs::Meanings::all_meaning))]
-fn all<T: Elem, S: Source<T>>(
+fn all<T: Elem, S: InRuns<T>>(
     alloc: Global,
     kind: DType,
     feeds: &[Feed],
@@ -154,6 +159,7 @@ fn all<T: Elem, S: Source<T>>(
     sizes: &[u64],
     source: S,
 ) -> Result<ArrayValue, AllocError>
+    requires ready { S.Ready source }
     requires folding { IsFolding feeds.now shape.now sizes.now (length (S.cells source)) }
     requires range { All (IsCell kind) (S.cells source) }
     ensures { IfOk result (λ b. b ≡ folded Alls feeds.now (array_of kind shape.now (S.cells source))) }
@@ -171,7 +177,7 @@ fn all<T: Elem, S: Source<T>>(
 }
 
 #[tactic(auto, using(crate::proofs::Meanings::least_meaning))]
-fn min<T: Celled, S: Source<T>>(
+fn min<T: Celled, S: InRuns<T>>(
     alloc: Global,
     kind: DType,
     feeds: &[Feed],
@@ -179,6 +185,7 @@ fn min<T: Celled, S: Source<T>>(
     sizes: &[u64],
     source: S,
 ) -> Result<ArrayValue, AllocError>
+    requires ready { S.Ready source }
     requires folding { IsFolding feeds.now shape.now sizes.now (length (S.cells source)) }
     requires range { All (IsCell kind) (S.cells source) }
     requires keeps { T.Keeps kind }
@@ -200,7 +207,7 @@ fn min<T: Celled, S: Source<T>>(
 }
 
 #[tactic(auto, using(crate::proofs::Meanings::greatest_meaning))]
-fn max<T: Celled, S: Source<T>>(
+fn max<T: Celled, S: InRuns<T>>(
     alloc: Global,
     kind: DType,
     feeds: &[Feed],
@@ -208,6 +215,7 @@ fn max<T: Celled, S: Source<T>>(
     sizes: &[u64],
     source: S,
 ) -> Result<ArrayValue, AllocError>
+    requires ready { S.Ready source }
     requires folding { IsFolding feeds.now shape.now sizes.now (length (S.cells source)) }
     requires range { All (IsCell kind) (S.cells source) }
     requires keeps { T.Keeps kind }
@@ -227,7 +235,7 @@ fn max<T: Celled, S: Source<T>>(
 }
 
 #[tactic(auto, using(crate::proofs::Meanings::first_meaning))]
-fn first<T: Celled, S: Source<T>>(
+fn first<T: Celled, S: InRuns<T>>(
     alloc: Global,
     kind: DType,
     feeds: &[Feed],
@@ -235,6 +243,7 @@ fn first<T: Celled, S: Source<T>>(
     sizes: &[u64],
     source: S,
 ) -> Result<ArrayValue, AllocError>
+    requires ready { S.Ready source }
     requires folding { IsFolding feeds.now shape.now sizes.now (length (S.cells source)) }
     requires range { All (IsCell kind) (S.cells source) }
     requires keeps { T.Keeps kind }
@@ -257,7 +266,7 @@ fn first<T: Celled, S: Source<T>>(
 }
 
 #[tactic(auto, using(crate::proofs::Meanings::last_meaning))]
-fn last<T: Celled, S: Source<T>>(
+fn last<T: Celled, S: InRuns<T>>(
     alloc: Global,
     kind: DType,
     feeds: &[Feed],
@@ -265,6 +274,7 @@ fn last<T: Celled, S: Source<T>>(
     sizes: &[u64],
     source: S,
 ) -> Result<ArrayValue, AllocError>
+    requires ready { S.Ready source }
     requires folding { IsFolding feeds.now shape.now sizes.now (length (S.cells source)) }
     requires range { All (IsCell kind) (S.cells source) }
     requires keeps { T.Keeps kind }
@@ -287,7 +297,7 @@ fn last<T: Celled, S: Source<T>>(
 }
 
 #[tactic(auto, using(crate::proofs::Meanings::least_at_meaning))]
-fn least_at<T: Elem, S: Source<T>>(
+fn least_at<T: Elem, S: InRuns<T>>(
     alloc: Global,
     kind: DType,
     feeds: &[Feed],
@@ -295,6 +305,7 @@ fn least_at<T: Elem, S: Source<T>>(
     sizes: &[u64],
     source: S,
 ) -> Result<ArrayValue, AllocError>
+    requires ready { S.Ready source }
     requires folding { IsFolding feeds.now shape.now sizes.now (length (S.cells source)) }
     requires range { All (IsCell kind) (S.cells source) }
     ensures { IfOk result (λ b. b ≡ folded ArgMin feeds.now (array_of kind shape.now (S.cells source))) }
@@ -317,7 +328,7 @@ fn least_at<T: Elem, S: Source<T>>(
 }
 
 #[tactic(auto, using(crate::proofs::Meanings::greatest_at_meaning))]
-fn greatest_at<T: Elem, S: Source<T>>(
+fn greatest_at<T: Elem, S: InRuns<T>>(
     alloc: Global,
     kind: DType,
     feeds: &[Feed],
@@ -325,6 +336,7 @@ fn greatest_at<T: Elem, S: Source<T>>(
     sizes: &[u64],
     source: S,
 ) -> Result<ArrayValue, AllocError>
+    requires ready { S.Ready source }
     requires folding { IsFolding feeds.now shape.now sizes.now (length (S.cells source)) }
     requires range { All (IsCell kind) (S.cells source) }
     ensures { IfOk result (λ b. b ≡ folded ArgMax feeds.now (array_of kind shape.now (S.cells source))) }
@@ -347,7 +359,7 @@ fn greatest_at<T: Elem, S: Source<T>>(
 }
 
 /// The fold of the cells of a source.
-pub fn folded<T: Celled, S: Source<T>>(
+pub fn folded<T: Celled, S: InRuns<T>>(
     alloc: Global,
     fold: FoldKind,
     kind: DType,
@@ -356,6 +368,7 @@ pub fn folded<T: Celled, S: Source<T>>(
     sizes: &[u64],
     source: S,
 ) -> Result<ArrayValue, AllocError>
+    requires ready { S.Ready source }
     requires folding { IsFolding feeds.now shape.now sizes.now (length (S.cells source)) }
     requires range { All (IsCell kind) (S.cells source) }
     requires keeps { T.Keeps kind }

@@ -3,15 +3,18 @@ ghost use Rattle.std.specs.Prelude.{◌≡◌, ◌≤◌, ◌++◌, ℤ, List, l
 ghost use Rattle.xr_types.specs.Points.{size};
 ghost use Rattle.xr_arrays.specs.Arrays.{hidden, kind_of, wide, IsArray, IsCell};
 ghost use Rattle.xr_arrays.specs.Nodes.{kept, folded, AreFed, most_node_cells};
+ghost use Rattle.xr_arrays.specs.Pieces.{together, values_in, AreInside};
 ghost use Rattle.xr_arrays.specs.Stored.{stored_array, IsStored};
 ghost use Rattle.row_folds.specs.Rows.{array_of, kept_one, IsFolding};
+ghost use Rattle.row_folds.specs.Runs.{ArePart};
 
 use crate::celled::Celled;
 use crate::folded::folded;
-use crate::source::{Masked, Stored, Whole};
+use crate::sizes::points;
+use crate::source::{InPieces, Masked, Whole};
 use std::alloc::{AllocError, Global};
 use stored_cells::{Fills, NoFill, OneFill, decoded};
-use xr_arrays::{ArrayValue, Cells, Feed, Form, StoredArray, TypedArray};
+use xr_arrays::{ArrayValue, Cells, Feed, Form, Pieces, Run, StoredArray, TypedArray};
 use xr_types::{DType, FoldKind, Items, NcType};
 
 fn push_kept(sizes: &mut Vec<u64>, feed: &Feed, size: u64) -> Result<(), AllocError>
@@ -188,6 +191,22 @@ fn fold_typed(
     }
 }
 
+// The first values of an array, if it has any.
+fn first_run<'a>(pieces: &'a Pieces, kind: NcType, shape: &[u64]) -> Run<'a>
+    requires inside { AreInside kind pieces.now }
+    requires stored { IsStored shape.now kind (together kind pieces.now) }
+    ensures within { result.count ≤ values_in pieces.now }
+    ensures part { ArePart kind (together kind pieces.now) result.bytes.now 0 result.count }
+{
+    if points(shape) == 0 {
+        return Run {
+            bytes: &[],
+            count: 0,
+        };
+    }
+    pieces.run(kind, 0)
+}
+
 // The fold of numbers as a file stores them, of which some stand for missing cells.
 fn fold_numbers<F: Fills + Drop>(
     alloc: Global,
@@ -196,17 +215,23 @@ fn fold_numbers<F: Fills + Drop>(
     feeds: &[Feed],
     shape: &[u64],
     sizes: &[u64],
-    bytes: &[u8],
+    pieces: &Pieces,
     fills: F,
 ) -> Result<ArrayValue, AllocError>
-    requires stored { IsStored shape.now kind bytes.now }
-    requires array { IsArray (stored_array shape.now kind bytes.now (F.numbers fills)) }
+    requires inside { AreInside kind pieces.now }
+    requires stored { IsStored shape.now kind (together kind pieces.now) }
+    requires array { IsArray (stored_array shape.now kind (together kind pieces.now) (F.numbers fills)) }
     requires folding { IsFolding feeds.now shape.now sizes.now (size shape.now) }
-    ensures { IfOk result (λ b. b ≡ folded fold feeds.now (stored_array shape.now kind bytes.now (F.numbers fills))) }
+    ensures { IfOk result (λ b. b ≡ folded fold feeds.now (stored_array shape.now kind (together kind pieces.now) (F.numbers fills))) }
 {
-    let source = Stored { bytes, fills };
+    let source = InPieces {
+        pieces,
+        kind,
+        first: first_run(pieces, kind, shape),
+        fills,
+    };
     match kind {
-        NcType::Byte => folded::<i8, Stored<'_, F>>(
+        NcType::Byte => folded::<i8, InPieces<'_, F>>(
             alloc,
             fold,
             DType::Int8,
@@ -215,7 +240,7 @@ fn fold_numbers<F: Fills + Drop>(
             sizes,
             source,
         ),
-        NcType::Char => folded::<u8, Stored<'_, F>>(
+        NcType::Char => folded::<u8, InPieces<'_, F>>(
             alloc,
             fold,
             DType::Char,
@@ -224,7 +249,7 @@ fn fold_numbers<F: Fills + Drop>(
             sizes,
             source,
         ),
-        NcType::Short => folded::<i16, Stored<'_, F>>(
+        NcType::Short => folded::<i16, InPieces<'_, F>>(
             alloc,
             fold,
             DType::Int16,
@@ -233,7 +258,7 @@ fn fold_numbers<F: Fills + Drop>(
             sizes,
             source,
         ),
-        NcType::Int => folded::<i32, Stored<'_, F>>(
+        NcType::Int => folded::<i32, InPieces<'_, F>>(
             alloc,
             fold,
             DType::Int32,
@@ -242,7 +267,7 @@ fn fold_numbers<F: Fills + Drop>(
             sizes,
             source,
         ),
-        NcType::UByte => folded::<u8, Stored<'_, F>>(
+        NcType::UByte => folded::<u8, InPieces<'_, F>>(
             alloc,
             fold,
             DType::UInt8,
@@ -251,7 +276,7 @@ fn fold_numbers<F: Fills + Drop>(
             sizes,
             source,
         ),
-        NcType::UShort => folded::<u16, Stored<'_, F>>(
+        NcType::UShort => folded::<u16, InPieces<'_, F>>(
             alloc,
             fold,
             DType::UInt16,
@@ -260,7 +285,7 @@ fn fold_numbers<F: Fills + Drop>(
             sizes,
             source,
         ),
-        NcType::UInt => folded::<u32, Stored<'_, F>>(
+        NcType::UInt => folded::<u32, InPieces<'_, F>>(
             alloc,
             fold,
             DType::UInt32,
@@ -269,7 +294,7 @@ fn fold_numbers<F: Fills + Drop>(
             sizes,
             source,
         ),
-        NcType::Int64 => folded::<i64, Stored<'_, F>>(
+        NcType::Int64 => folded::<i64, InPieces<'_, F>>(
             alloc,
             fold,
             DType::Int64,
@@ -278,7 +303,7 @@ fn fold_numbers<F: Fills + Drop>(
             sizes,
             source,
         ),
-        NcType::UInt64 => folded::<u64, Stored<'_, F>>(
+        NcType::UInt64 => folded::<u64, InPieces<'_, F>>(
             alloc,
             fold,
             DType::UInt64,
@@ -307,20 +332,13 @@ fn fold_stored(
     ensures { IfOk result (λ b. b ≡ folded fold feeds.now array.now) }
 {
     let parts = array.parts();
-    let raw = parts.pieces.bytes(alloc, parts.kind)?;
-    let bytes = raw.as_slice();
+    let pieces = parts.pieces;
     match parts.fills {
-        [] => fold_numbers(alloc, fold, parts.kind, feeds, shape, sizes, bytes, NoFill),
-        [fill] => fold_numbers(
-            alloc,
-            fold,
-            parts.kind,
-            feeds,
-            shape,
-            sizes,
-            bytes,
-            OneFill { fill: *fill },
-        ),
+        [] => fold_numbers(alloc, fold, parts.kind, feeds, shape, sizes, pieces, NoFill),
+        [fill] => {
+            let fills = OneFill { fill: *fill };
+            fold_numbers(alloc, fold, parts.kind, feeds, shape, sizes, pieces, fills)
+        }
         _ => {
             let typed = decoded(alloc, array)?;
             fold_typed(alloc, fold, feeds, shape, sizes, &typed)

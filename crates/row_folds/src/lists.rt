@@ -7,20 +7,21 @@ ghost use Rattle.row_folds.specs.Windows.{column, IsStrip, RowAbsorbs, RowsAbsor
 use crate::accumulator::Accumulator;
 use crate::leaf::absorb_row;
 use crate::positions::{count, nth};
-use crate::source::Source;
+use crate::source::InRuns;
 use crate::strip::{Strip, begin_at};
 use crate::windows::{Reach, absorb_window};
 use xr_arrays::{Feeds, Positions};
 use xr_types::Elem;
 
 // Absorbs the cells at these positions into a row.
-fn absorb_positions<T: Elem, A: Accumulator<T>, S: Source<T>>(
+fn absorb_positions<T: Elem, A: Accumulator<T>, S: InRuns<T>>(
     rows: &mut [A],
     row: usize,
     strip: Strip,
     positions: Positions<'_>,
     source: S,
 )
+    requires ready { S.Ready source }
     requires strip { IsStrip strip (length (S.cells source)) }
     requires inside { row + strip.count ≤ length rows.old }
     requires few { length rows.old ≤ most_node_cells }
@@ -44,7 +45,7 @@ fn is_short(from: u64, to: u64, rows: u64) -> bool
 
 // Absorbs the cells at these positions into a row, a window for which there is room by the folds at hand. It answers what those
 // reach then.
-fn absorb_place<T: Elem, A: Accumulator<T>, S: Source<T>>(
+fn absorb_place<T: Elem, A: Accumulator<T>, S: InRuns<T>>(
     rows: &mut [A],
     row: usize,
     strip: Strip,
@@ -54,6 +55,7 @@ fn absorb_place<T: Elem, A: Accumulator<T>, S: Source<T>>(
     empty: A,
     reach: Option<Reach>,
 ) -> Option<Reach>
+    requires ready { S.Ready source }
     requires strip { IsStrip strip (length (S.cells source)) }
     requires some { 0 < strip.count }
     requires inside { row + strip.count ≤ length rows.old }
@@ -79,7 +81,7 @@ fn absorb_place<T: Elem, A: Accumulator<T>, S: Source<T>>(
 }
 
 // Absorbs the cells at the positions of each list into a row of its own, along a strip.
-fn absorb_strip<T: Elem, A: Accumulator<T>, S: Source<T>>(
+fn absorb_strip<T: Elem, A: Accumulator<T>, S: InRuns<T>>(
     rows: &mut [A],
     at: usize,
     strip: Strip,
@@ -88,6 +90,7 @@ fn absorb_strip<T: Elem, A: Accumulator<T>, S: Source<T>>(
     folds: &mut [A],
     empty: A,
 )
+    requires ready { S.Ready source }
     requires strip { IsStrip strip (length (S.cells source)) }
     requires some { 0 < strip.count }
     requires narrow { strip.count ≤ strip.stride }
@@ -118,7 +121,7 @@ fn next_count(width: usize, left: usize) -> usize
 
 /// Absorbs the cells at the positions of each list into a row of its own, one strip of so many columns after the other,
 /// or all columns at once where that is 0.
-pub fn absorb_lists<T: Elem, A: Accumulator<T>, S: Source<T>>(
+pub fn absorb_lists<T: Elem, A: Accumulator<T>, S: InRuns<T>>(
     rows: &mut [A],
     at: usize,
     table: Strip,
@@ -128,6 +131,7 @@ pub fn absorb_lists<T: Elem, A: Accumulator<T>, S: Source<T>>(
     folds: &mut [A],
     empty: A,
 )
+    requires ready { S.Ready source }
     requires table { IsStrip table (length (S.cells source)) }
     requires start { table.start ≤ most_node_cells }
     requires whole { table.count ≡ table.stride }

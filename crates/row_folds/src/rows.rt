@@ -8,12 +8,12 @@ use crate::absorb::absorb;
 use crate::accumulator::Accumulator;
 use crate::room::room_for;
 use crate::sizes::points;
-use crate::source::Source;
+use crate::source::InRuns;
 use std::alloc::{AllocError, Global};
 use xr_arrays::Feed;
 use xr_types::Elem;
 
-fn absorb_all<T: Elem, A: Accumulator<T>, S: Source<T>>(
+fn absorb_all<T: Elem, A: Accumulator<T>, S: InRuns<T>>(
     rows: &mut [A],
     feeds: &[Feed],
     shape: &[u64],
@@ -23,6 +23,7 @@ fn absorb_all<T: Elem, A: Accumulator<T>, S: Source<T>>(
     width: usize,
     empty: A,
 )
+    requires ready { S.Ready source }
     requires folding { IsFolding feeds.now shape.now sizes.now (length (S.cells source)) }
     requires folds { length folds.old ≤ most_node_cells }
     requires empty { A.Is empty [] }
@@ -50,7 +51,7 @@ fn starts<A: Copy + Drop>(alloc: Global, start: A, count: usize) -> Result<Vec<A
 }
 
 /// The accumulators of a fold, each of which begins with the same fold of no cells.
-pub fn folded_rows<T: Elem, A: Accumulator<T>, S: Source<T>>(
+pub fn folded_rows<T: Elem, A: Accumulator<T>, S: InRuns<T>>(
     alloc: Global,
     start: A,
     feeds: &[Feed],
@@ -58,6 +59,7 @@ pub fn folded_rows<T: Elem, A: Accumulator<T>, S: Source<T>>(
     sizes: &[u64],
     source: S,
 ) -> Result<Vec<A>, AllocError>
+    requires ready { S.Ready source }
     requires start { A.Is start [] }
     requires folding { IsFolding feeds.now shape.now sizes.now (length (S.cells source)) }
     ensures { IfOk result (λ v. AreFolds A.Is v.items feeds.now shape.now sizes.now (S.cells source)) }

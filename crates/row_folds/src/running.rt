@@ -42,6 +42,7 @@ fn totals<T: Elem, S: Source<T>>(
     axis: usize,
     source: S,
 ) -> Result<Vec<i64>, AllocError>
+    requires ready { S.Ready source }
     requires axis { axis < length shape.now }
     requires whole { length (S.cells source) ≡ size shape.now }
     requires few { size shape.now ≤ most_node_cells }
@@ -86,6 +87,7 @@ pub fn scan_source<T: Elem, S: Source<T>>(
     axis: usize,
     source: S,
 ) -> Result<ArrayValue, AllocError>
+    requires ready { S.Ready source }
     requires axis { axis < length shape.now }
     requires whole { length (S.cells source) ≡ size shape.now }
     requires few { size shape.now ≤ most_node_cells }

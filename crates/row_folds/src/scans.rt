@@ -140,18 +140,16 @@ fn scan_stored(
     ensures { IfOk result (λ b. b ≡ scanned Sum array.now axis) }
 {
     let parts = array.parts();
-    let raw = parts.pieces.bytes(alloc, parts.kind)?;
-    let bytes = raw.as_slice();
     match parts.fills {
-        [] => scan_numbers(alloc, parts.kind, shape, axis, bytes, NoFill),
-        [fill] => scan_numbers(
-            alloc,
-            parts.kind,
-            shape,
-            axis,
-            bytes,
-            OneFill { fill: *fill },
-        ),
+        [] => {
+            let raw = parts.pieces.bytes(alloc, parts.kind)?;
+            scan_numbers(alloc, parts.kind, shape, axis, raw.as_slice(), NoFill)
+        }
+        [fill] => {
+            let raw = parts.pieces.bytes(alloc, parts.kind)?;
+            let fills = OneFill { fill: *fill };
+            scan_numbers(alloc, parts.kind, shape, axis, raw.as_slice(), fills)
+        }
         _ => {
             let typed = decoded(alloc, array)?;
             scan_typed(alloc, shape, axis, &typed)

@@ -7,7 +7,7 @@ ghost use Rattle.row_folds.specs.Windows.{column, IsStrip, RowAbsorbs, FoldsBefo
 
 use crate::accumulator::Accumulator;
 use crate::leaf::{absorb_row, with_cell};
-use crate::source::Source;
+use crate::source::{InRuns, Source};
 use crate::strip::{Strip, begin_at};
 use xr_types::Elem;
 
@@ -27,6 +27,7 @@ fn with_behind<T: Elem, A: Accumulator<T>, S: Source<T>>(
     index: usize,
     behind: A,
 ) -> A
+    requires ready { S.Ready source }
     requires near { position < 2 ^ 62 }
     requires inside { index < length (S.cells source) }
     requires empty { A.Is empty [] }
@@ -35,8 +36,8 @@ fn with_behind<T: Elem, A: Accumulator<T>, S: Source<T>>(
     with_cell(empty, position, source, index).combine(behind)
 }
 
-// Folds a row of cells before a row of folds, into another row.
-fn fold_before<T: Elem, A: Accumulator<T>, S: Source<T>>(
+// Folds cells one by one before a row of folds, into another row.
+fn fold_each_before<T: Elem, A: Accumulator<T>, S: Source<T>>(
     folds: &mut [A],
     behind: usize,
     into: usize,
@@ -46,6 +47,7 @@ fn fold_before<T: Elem, A: Accumulator<T>, S: Source<T>>(
     start: usize,
     empty: A,
 )
+    requires ready { S.Ready source }
     requires near { position < 2 ^ 62 }
     requires order { behind + count ≤ into }
     requires inside { into + count ≤ length folds.old }
@@ -57,6 +59,35 @@ fn fold_before<T: Elem, A: Accumulator<T>, S: Source<T>>(
 {
     for i in 0..count {
         folds[into + i] = with_behind(empty, position, source, start + i, folds[behind + i]);
+    }
+}
+
+// Folds a row of cells before a row of folds, into another row.
+fn fold_before<T: Elem, A: Accumulator<T>, S: InRuns<T>>(
+    folds: &mut [A],
+    behind: usize,
+    into: usize,
+    count: usize,
+    position: u64,
+    source: S,
+    start: usize,
+    empty: A,
+)
+    requires ready { S.Ready source }
+    requires near { position < 2 ^ 62 }
+    requires order { behind + count ≤ into }
+    requires inside { into + count ≤ length folds.old }
+    requires folds { length folds.old ≤ most_node_cells }
+    requires cells { start + count ≤ length (S.cells source) }
+    requires few { length (S.cells source) ≤ most_node_cells }
+    requires empty { A.Is empty [] }
+    ensures { FoldsBefore A.Is folds.old folds.new behind into count position (S.cells source) start }
+{
+    match source.run(start, count) {
+        Some((run, first)) => {
+            fold_each_before(folds, behind, into, count, position, run, first, empty);
+        }
+        None => fold_each_before(folds, behind, into, count, position, source, start, empty),
     }
 }
 
@@ -72,7 +103,7 @@ fn clear<A: Copy + Drop>(folds: &mut [A], count: usize, empty: A)
 }
 
 // Makes the folds for windows from a position on, and up to another one or beyond.
-fn refilled<T: Elem, A: Accumulator<T>, S: Source<T>>(
+fn refilled<T: Elem, A: Accumulator<T>, S: InRuns<T>>(
     folds: &mut [A],
     strip: Strip,
     from: u64,
@@ -80,6 +111,7 @@ fn refilled<T: Elem, A: Accumulator<T>, S: Source<T>>(
     source: S,
     empty: A,
 ) -> Reach
+    requires ready { S.Ready source }
     requires strip { IsStrip strip (length (S.cells source)) }
     requires order { from ≤ to }
     requires end { to ≤ strip.size }
@@ -114,13 +146,14 @@ fn refilled<T: Elem, A: Accumulator<T>, S: Source<T>>(
 }
 
 // Absorbs the cells up to another end.
-fn extended<T: Elem, A: Accumulator<T>, S: Source<T>>(
+fn extended<T: Elem, A: Accumulator<T>, S: InRuns<T>>(
     folds: &mut [A],
     strip: Strip,
     reach: Reach,
     to: u64,
     source: S,
 ) -> Reach
+    requires ready { S.Ready source }
     requires strip { IsStrip strip (length (S.cells source)) }
     requires hand { AtHand A.Is folds.old strip reach (S.cells source) }
     requires order { reach.end ≤ to }
@@ -149,7 +182,7 @@ fn is_near(reach: Reach, from: u64, to: u64) -> bool
 }
 
 // Sees to it that the folds at hand give a window.
-fn reaching<T: Elem, A: Accumulator<T>, S: Source<T>>(
+fn reaching<T: Elem, A: Accumulator<T>, S: InRuns<T>>(
     folds: &mut [A],
     strip: Strip,
     reach: Option<Reach>,
@@ -158,6 +191,7 @@ fn reaching<T: Elem, A: Accumulator<T>, S: Source<T>>(
     source: S,
     empty: A,
 ) -> Reach
+    requires ready { S.Ready source }
     requires strip { IsStrip strip (length (S.cells source)) }
     requires hand { IfSome reach (λ h. AtHand A.Is folds.old strip h (S.cells source)) }
     requires order { from ≤ to }
@@ -195,7 +229,7 @@ fn give<T: Elem, A: Accumulator<T>>(
 }
 
 /// Absorbs the cells from one position up to another into a row, by the folds at hand, and answers what those reach then.
-pub fn absorb_window<T: Elem, A: Accumulator<T>, S: Source<T>>(
+pub fn absorb_window<T: Elem, A: Accumulator<T>, S: InRuns<T>>(
     rows: &mut [A],
     row: usize,
     strip: Strip,
@@ -206,6 +240,7 @@ pub fn absorb_window<T: Elem, A: Accumulator<T>, S: Source<T>>(
     empty: A,
     reach: Option<Reach>,
 ) -> Reach
+    requires ready { S.Ready source }
     requires strip { IsStrip strip (length (S.cells source)) }
     requires inside { row + strip.count ≤ length rows.old }
     requires few { length rows.old ≤ most_node_cells }

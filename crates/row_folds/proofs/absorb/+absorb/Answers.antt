@@ -71,7 +71,7 @@ absorb-requires-in-loop-i-3 g t c =
     let next = k.next c.loop-place.place c.nth-one.result c.begin-row-in-loop-place.result c.begin-cells-in-loop-i-3.result c.behind-in-loop-i-3.result.now c.behind-in-loop-i-3-2.result.now lt_place lt_one c.begin-row-in-loop-place.ensures c.begin-cells-in-loop-i-3.ensures c.behind-in-loop-i-3.ensures c.behind-in-loop-i-3-2.ensures in
     let long : length c.args.rows.now ≡ length c.loop-i-3.rows = sym (c.loop-i-3.invariant.long ∙ c.loop-place.invariant.long) in
     let f = falls c.args.feeds.now c.feeds_behind-rest.result.now some c.feeds_behind-rest.ensures in
-    λ κs lives. (let d = c.decreases in omega (arith, f, d), (lives.0, (lives.1.0, (lives.1.1, (subst (λ m. AreRows c.feeds_behind-rest.result.now c.behind-in-loop-i-3.result.now c.behind-in-loop-i-3-2.result.now c.begin-row-in-loop-place.result m c.begin-cells-in-loop-i-3.result (length (g.S.Source.cells c.args.source)) c.nth-one.result) long next, (search (rules, arith), c.requires.empty))))))
+    λ κs lives. (let d = c.decreases in omega (arith, f, d), (lives.0, (lives.1.0, (lives.1.1.0, (lives.1.1.1, (c.requires.ready, (subst (λ m. AreRows c.feeds_behind-rest.result.now c.behind-in-loop-i-3.result.now c.behind-in-loop-i-3-2.result.now c.begin-row-in-loop-place.result m c.begin-cells-in-loop-i-3.result (length (g.S.Source.cells c.args.source)) c.nth-one.result) long next, (search (rules, arith), c.requires.empty))))))))
 
 pub loop-place-preserved : goal.loop-place-preserved
 loop-place-preserved g t c =

@@ -1,4 +1,4 @@
-use Rattle.std.proofs.Common.{◌<◌, ◌∙◌, [], ◌∷◌, SFits, ap, arith, get_or, length, pos, rules}
+use Rattle.std.proofs.Common.{◌<◌, ◌∙◌, [], ◌∷◌, SFits, ap, arith, get_or, length, pos, refl, rules}
 use Rattle.std.specs.Int.{w128}
 use Rattle.std.proofs.lemmas.Int.{to_z-of_z}
 use Rattle.xr_arrays.specs.Nodes.{folded}
@@ -16,6 +16,6 @@ returns-in-len1 c =
     let some : 0 < length fills = omega (arith, least) in
     let few : length fills < 2 = omega (arith, most) in
     let fits : SFits w128 (get_or fills 0 (pos 0)) = search rules in
-    let one = one_fill c.args.array.now c.parts-parts.result.kind c.args.shape.now (together c.parts-parts.result.kind c.parts-parts.result.pieces.now) c.as_slice-bytes.result.now fills c.parts-parts.ensures.is c.requires.shape (c.as_slice-bytes.ensures ∙ c.in_ok-raw.ensures) some few in
-    let same = ap (λ n. stored_array c.args.shape.now c.parts-parts.result.kind c.as_slice-bytes.result.now (n ∷ [])) (to_z-of_z w128 (get_or fills 0 (pos 0)) fits) ∙ one in
+    let one = one_fill c.args.array.now c.parts-parts.result.kind c.args.shape.now (together c.parts-parts.result.kind c.parts-parts.result.pieces.now) (together c.parts-parts.result.kind c.parts-parts.result.pieces.now) fills c.parts-parts.ensures.is c.requires.shape refl some few in
+    let same = ap (λ n. stored_array c.args.shape.now c.parts-parts.result.kind (together c.parts-parts.result.kind c.parts-parts.result.pieces.now) (n ∷ [])) (to_z-of_z w128 (get_or fills 0 (pos 0)) fits) ∙ one in
     if_ok c.fold_numbers-in-len1.result _ _ (λ b is. is ∙ ap (folded c.args.fold c.args.feeds.now) same) c.fold_numbers-in-len1.ensures
