@@ -10,14 +10,11 @@ use Rattle.xr_types.proofs.Wrapping.{wrapped_is, wrapped_only}
 use Rattle.xr_arrays.specs.Folds.{sum_of, total_kind}
 use Rattle.plan_core.specs.Rows.{those}
 use Rattle.xr_types.specs.declared.attr.NcType.{NcType}
-use Rattle.xr_types.specs.declared.attr.NcType.TheVariants.{Byte, Char, Short, Int, Float, Double, UByte, UShort, UInt, Int64, UInt64}
 use Rattle.xr_types.specs.Points.{size}
 use Rattle.xr_types.specs.Widths.{width}
 use Rattle.xr_arrays.specs.Arrays.{Array}
 use Rattle.xr_arrays.specs.Numbers.{numbers_of}
 use Rattle.xr_arrays.specs.Stored.{stored_array, stored_cells, IsStored}
-use Rattle.xr_arrays.specs.declared.pieces.Pieces.{Pieces}
-use Rattle.xr_arrays.specs.Pieces.{values_in, AreInside}
 use Rattle.stored_cells.specs.Counted.{present as shown}
 use Rattle.stored_cells.proofs.Blocks.{cells_in_run}
 use Rattle.plan_whole.proofs.Present.{those_present}
@@ -83,23 +80,6 @@ part_more xs f n before part all is_before is_part is_all =
     is_all ∙ (λ i. int_wrap w64 (is_before i +ℤ is_part i)) ∙ int_wrap-add_left w64 a (int_wrap w64 b) ∙ int_wrap-add_right w64 a b ∙ ap (int_wrap w64) (sym (sum_both (take f xs) (take n (drop f xs)))) ∙ ap (λ t. int_wrap w64 (sum_of (those t))) (sym (take-add f n xs))
 
 -- ---- values that stand in pieces
-
-wide : (kind : NcType) (n : ℕ) → n ≤ n * width kind
-wide Byte n = omega arith
-wide Char n = omega arith
-wide Short n = omega arith
-wide Int n = omega arith
-wide Float n = omega arith
-wide Double n = omega arith
-wide UByte n = omega arith
-wide UShort n = omega arith
-wide UInt n = omega arith
-wide Int64 n = omega arith
-wide UInt64 n = omega arith
-
--- 64 bits count them
-pub few_values : (kind : NcType) (p : Pieces) → AreInside kind p → values_in p < 18446744073709551616
-few_values kind p inside = let w = wide kind (values_in p) in omega (arith, inside.few, inside.short, w)
 
 -- the sum of a run of cells, from their bytes
 pub run_sum : (a : Array) (kind : NcType) (raw run : List ℕ) (fills : List ℤ) (from n : ℕ) (part : ℤ) → a ≡ stored_array a.shape kind raw fills → IsStored a.shape kind raw → from + n ≤ size a.shape → run ≡ take (n * width kind) (drop (from * width kind) raw) → part ≡ int_wrap w64 (sum_of (shown fills (numbers_of kind run)))

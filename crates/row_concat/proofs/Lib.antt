@@ -2,3 +2,4 @@ pub mod Turns
 pub mod Stands
 pub mod Whole
 pub mod Alone
+pub mod Values

@@ -1,6 +1,7 @@
 -- Arrays of files whose bytes are put together.
-use Rattle.std.proofs.Common.{◌≡◌, ◌<◌, ◌≤◌, ◌+◌, ◌-◌, ◌*◌, ◌^◌, ℕ, ℤ, zero, suc, true, List, [], ◌∷◌, ◌++◌, length, map, take, drop, set, sum, min, get_or, Option, refl, sym, ap, subst, ◌∙◌, arith, length-append, inl, inr}
+use Rattle.std.proofs.Common.{◌≡◌, ◌<◌, ◌≤◌, ◌+◌, ◌-◌, ◌*◌, ◌%◌, ◌^◌, ℕ, ℤ, zero, suc, true, List, [], ◌∷◌, ◌++◌, length, map, take, drop, set, sum, min, get_or, Option, refl, sym, ap, subst, ◌∙◌, arith, length-append, inl, inr}
 use Rattle.std.specs.List.{All, flat_map, range_with_len}
+use Rattle.std.proofs.Math.Nat.{mul-mod_right}
 use Rattle.std.proofs.lemmas.Bool.{cases_lt}
 use Rattle.std.proofs.lemmas.List.{nil_from_length, length-map, map-append, take_more}
 use Rattle.std.proofs.lemmas.List.Elements.{All-head, All-tail, All-cons}
@@ -168,3 +169,35 @@ joined now at xs rs x axis kind fills sizes shape count total outer raw some is_
       stored = record { whole = type_is.0; long = here.long ∙ ap (λ n. n * width kind) times_is };
       is = ap (λ (k : DType). array k shape (stored_cells kind raw fills)) type_is.1 ∙ ap (λ (t : List ℕ). array a.kind t (stored_cells kind raw fills)) shape_is ∙ ap (array a.kind all.shape) here.are;
     }
+
+-- ---- blocks of whole values
+
+even : {R : Type 0} (at : R → List ℕ) (count : R → ℕ) (rs : List R) (bs : List Array) (kind : NcType) (fills : List ℤ) (s : List ℕ) (axis : ℕ) → is_whole kind ≡ true → axis < length s → AllSpell kind fills (map at rs) bs → All (IsPart s axis) bs → All (λ r. length (at r) ≡ count r * width kind) rs
+    → All (λ r. count r % size (take axis s) ≡ 0) rs
+even at count [] bs kind fills s axis is lt spell parts long = λ k d below. absurd (omega arith)
+even at count (r ∷ rs) [] kind fills s axis is lt spell parts long = absurd spell
+even at count (r ∷ rs) (b ∷ bs) kind fills s axis is lt spell parts long =
+    let outer = size (take axis s) in
+    let here = spell.0 in
+    let same : count r ≡ size b.shape = sym (share_by kind (length (at r)) (count r) is (All-head (λ r. length (at r) ≡ count r * width kind) r rs long)) ∙ share_by kind (length (at r)) (size b.shape) is here.stored.long in
+    let parted : size b.shape ≡ outer * (get_or b.shape axis 0 * size (drop (suc axis) s)) = sym (whole kind fills (at r) b here) ∙ part_size s axis b lt (All-head (IsPart s axis) b bs parts) in
+    All-cons (λ r. count r % outer ≡ 0) r rs (ap (λ n. n % outer) (same ∙ parted) ∙ mul-mod_right outer (get_or b.shape axis 0 * size (drop (suc axis) s)))
+    (even at count rs bs kind fills s axis is lt spell.1 (All-tail (IsPart s axis) b bs parts) (All-tail (λ r. length (at r) ≡ count r * width kind) r rs long))
+
+pub divided : {B R : Type 0} (now : B → Array) (at : R → List ℕ) (count : R → ℕ) (xs : List B) (rs : List R) (x : B) (axis : ℕ) (kind : NcType) (fills : List ℤ) (sizes : List ℕ) (total outer : ℕ) → 0 < length xs → x ≡ get_or xs 0 x → axis < length (first_array (map now xs)).shape
+    → All (λ b. Continues axis (first_array (map now xs)) (now b)) xs → size (concatenated (map now xs) axis).shape ≤ most_node_cells → AllSpell kind fills (map at rs) (map now xs) → All (λ r. length (at r) ≡ count r * width kind) rs
+    → sizes ≡ (now x).shape → total ≡ sum (map (λ r. length (at r)) rs) → (total ≡ 0 → outer ≡ 0) → (0 < total → outer ≡ min (size (take axis sizes)) (2 ^ 64 - 1)) → 0 < outer → All (λ r. count r % outer ≡ 0) rs
+divided now at count xs rs x axis kind fills sizes total outer some is_x lt each small spell long is_sizes is_total none_is some_is more =
+    let bs : List Array = map now xs in
+    let a : Array = first_array bs in
+    let s : List ℕ = a.shape in
+    let all = cells_of bs in
+    let type_is = typed kind fills (map at rs) bs (let e = length-map xs now in omega (arith, e, some)) spell in
+    let parts_are = parts kind fills (map at rs) bs a axis spell (all_mapped (Continues axis a) now xs each) in
+    let same : sizes ≡ s = is_sizes ∙ ap (λ (b : Array). b.shape) (first now xs x some is_x) in
+    let bytes : total ≡ length all * width kind = is_total ∙ sum_total (map (λ r. length (at r)) rs) ∙ lengths_mapped at rs ∙ counted kind fills (map at rs) bs spell in
+    let there : 0 < total = elim (cases_lt 0 total) [ inl lt ↦ lt | inr le ↦ absurd (let e = none_is (omega (arith, le)) in omega (arith, e, more)) ] in
+    let cells : 0 < length all * width kind = omega (arith, there, bytes) in
+    let made = concat_is bs axis lt parts_are small in
+    let cut = cut_is s (take axis s) (drop (axis + 1) s) axis (counts_of axis bs) (length all) outer (min (size (drop (axis + 1) s)) (2 ^ 64 - 1)) made.joining refl refl (some_is there ∙ ap (λ (t : List ℕ). min (size (take axis t)) (2 ^ 64 - 1)) same) refl (positive (length all) (width kind) cells).0 in
+    subst (λ n. All (λ r. count r % n ≡ 0) rs) (sym cut.outer_is) (even at count rs bs kind fills s axis type_is.0 lt spell parts_are long)

@@ -4,7 +4,7 @@ ghost use Rattle.xr_types.specs.Points.{size};
 ghost use Rattle.xr_arrays.specs.Nodes.{Continues, concatenated, first_array, most_node_cells};
 
 use crate::join::join;
-use crate::spelt::{all_bytes, slices_of};
+use crate::spelt::all_values;
 use std::alloc::{AllocError, Global};
 use xr_arrays::{ArrayValue, Form};
 
@@ -21,12 +21,11 @@ pub fn concat(alloc: Global, inputs: &[&ArrayValue], axis: usize) -> Result<Arra
     let first = inputs[0];
     if let Form::Stored(array) = first.form() {
         let parts = array.parts();
-        if let Some(bytes) = all_bytes(alloc, inputs, parts.kind, parts.fills)? {
+        if let Some(lists) = all_values(alloc, inputs, parts.kind, parts.fills)? {
             if inputs.len() == 1 {
                 return first.copy(alloc);
             }
-            let slices = slices_of(alloc, &bytes)?;
-            return join(alloc, inputs, axis, parts.kind, parts.fills, &slices);
+            return join(alloc, inputs, axis, parts.kind, parts.fills, &lists);
         }
     }
     arrangement::concat(alloc, inputs, axis)

@@ -2,9 +2,11 @@
 ghost use Rattle.std.specs.Prelude.{◌≡◌, ◌<◌, ◌≤◌, ◌-◌, ◌^◌, length, map, take, min, sum, get_or, slice_set, All, IfOk};
 ghost use Rattle.xr_types.specs.Points.{size};
 ghost use Rattle.xr_arrays.specs.Nodes.{Continues, concatenated, first_array, most_node_cells};
-ghost use Rattle.row_concat.specs.Spelt.{AllSpell};
+ghost use Rattle.xr_arrays.specs.Pieces.{together};
+ghost use Rattle.row_concat.specs.Spelt.{AllSpell, AreValues};
 
 use crate::blocks::{in_turn, total};
+use crate::spelt::Values;
 use arrangement::points;
 use bytes::Bytes;
 use std::alloc::{AllocError, Global};
@@ -52,26 +54,28 @@ fn blocks_in_front(shape: &[u64], axis: usize, total: usize) -> usize
     points(front) as usize
 }
 
-/// The array of these arrays along an axis, whose bytes these are, in new memory.
+/// The array of these arrays along an axis, whose values these are, in new memory.
 pub fn join(
     alloc: Global,
     inputs: &[&ArrayValue],
     axis: usize,
     kind: NcType,
     fills: &[i128],
-    bytes: &[&[u8]],
+    lists: &[Values<'_>],
 ) -> Result<ArrayValue, AllocError>
     requires some { 0 < length inputs.now }
     requires axis { axis < length (first_array (map (λ a. a.now) inputs.now)).shape }
     requires each { All (λ a. Continues axis (first_array (map (λ a. a.now) inputs.now)) a.now) inputs.now }
     requires small { size (concatenated (map (λ a. a.now) inputs.now) axis).shape ≤ most_node_cells }
-    requires spelt { AllSpell kind fills.now (map (λ l. l.now) bytes.now) (map (λ a. a.now) inputs.now) }
+    requires spelt { AllSpell kind fills.now (map (λ v. together kind v.pieces.now) lists.now) (map (λ a. a.now) inputs.now) }
+    requires counted { All (AreValues kind) lists.now }
     ensures { IfOk result (λ b. b ≡ concatenated (map (λ a. a.now) inputs.now) axis) }
 {
     let first = inputs[0].shape();
     let shape = resized(alloc, first, axis, positions(inputs, axis)?)?;
-    let all = total(bytes)?;
-    let joined = Bytes::from_vec(in_turn(alloc, bytes, blocks_in_front(first, axis, all), all)?)?;
+    let all = total(kind, lists)?;
+    let outer = blocks_in_front(first, axis, all);
+    let joined = Bytes::from_vec(in_turn(alloc, kind, lists, outer, all)?)?;
     let fills = Items::from_slice(alloc, fills)?;
     let stored = StoredArray::of(shape, kind, joined, fills);
     Ok(ArrayValue::stored(stored))

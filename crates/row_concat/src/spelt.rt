@@ -1,11 +1,19 @@
-//! The bytes of arrays that are alike in their files.
-ghost use Rattle.std.specs.Prelude.{◌≡◌, true, map, IfOk, IfSome};
-ghost use Rattle.row_concat.specs.Spelt.{Spells, AllSpell};
+//! The values of arrays that are alike in their files.
+ghost use Rattle.std.specs.Prelude.{◌≡◌, true, map, All, IfOk, IfSome};
+ghost use Rattle.xr_arrays.specs.Pieces.{together};
+ghost use Rattle.row_concat.specs.Spelt.{AreValues, Spells, AllSpell};
 
-use bytes::Bytes;
+use arrangement::points;
 use std::alloc::{AllocError, Global};
-use xr_arrays::{ArrayValue, Form, StoredParts};
+use xr_arrays::{ArrayValue, Form, Pieces, StoredParts};
 use xr_types::NcType;
+
+/// The values of an array as its file has them, and how many they are.
+#[derive(Clone, Copy)]
+pub struct Values<'a> {
+    pub pieces: &'a Pieces,
+    pub count: usize,
+}
 
 // Whether an array stands in a type and with fill numbers.
 fn alike(parts: &StoredParts<'_>, kind: NcType, fills: &[i128]) -> bool
@@ -15,54 +23,42 @@ fn alike(parts: &StoredParts<'_>, kind: NcType, fills: &[i128]) -> bool
     parts.kind == kind && parts.fills == fills
 }
 
-// The bytes of an array, where it stands as a file has it, in this type and with these fill numbers.
-fn bytes_of(
-    alloc: Global,
-    array: &ArrayValue,
-    kind: NcType,
-    fills: &[i128],
-) -> Result<Option<Bytes>, AllocError>
-    ensures { IfOk result (λ found. IfSome found (λ raw. Spells kind fills.now raw array.now)) }
+// The values of an array, where it stands as a file has it, in this type and with these fill numbers.
+fn values_of<'a>(array: &'a ArrayValue, kind: NcType, fills: &[i128]) -> Option<Values<'a>>
+    ensures spells { IfSome result (λ v. Spells kind fills.now (together kind v.pieces.now) array.now) }
+    ensures counted { IfSome result (AreValues kind) }
 {
     match array.form() {
         Form::Stored(stored) => {
             let parts = stored.parts();
             if !alike(&parts, kind, fills) {
-                return Ok(None);
+                return None;
             }
-            Ok(Some(parts.pieces.bytes(alloc, parts.kind)?))
+            Some(Values {
+                pieces: parts.pieces,
+                count: points(array.shape()) as usize,
+            })
         }
-        Form::Typed(_) => Ok(None),
+        Form::Typed(_) => None,
     }
 }
 
-/// The bytes of each array, where all stand as files have them, in this type and with these fill numbers. They are shared where
-/// they stand in one piece.
-pub fn all_bytes(
+/// The values of each array, where all stand as files have them, in this type and with these fill numbers.
+pub fn all_values<'a>(
     alloc: Global,
-    arrays: &[&ArrayValue],
+    arrays: &[&'a ArrayValue],
     kind: NcType,
     fills: &[i128],
-) -> Result<Option<Vec<Bytes>>, AllocError>
-    ensures { IfOk result (λ found. IfSome found (λ v. AllSpell kind fills.now v.items (map (λ a. a.now) arrays.now))) }
+) -> Result<Option<Vec<Values<'a>>>, AllocError>
+    ensures spell { IfOk result (λ found. IfSome found (λ all. AllSpell kind fills.now (map (λ v. together kind v.pieces.now) all.items) (map (λ a. a.now) arrays.now))) }
+    ensures counted { IfOk result (λ found. IfSome found (λ all. All (AreValues kind) all.items)) }
 {
     let mut all = Vec::with_capacity(alloc, arrays.len())?;
     for array in arrays {
-        let Some(bytes) = bytes_of(alloc, array, kind, fills)? else {
+        let Some(values) = values_of(array, kind, fills) else {
             return Ok(None);
         };
-        all.push(bytes)?;
+        all.push(values)?;
     }
     Ok(Some(all))
-}
-
-/// The slices of bytes.
-pub fn slices_of<'a>(alloc: Global, bytes: &'a [Bytes]) -> Result<Vec<&'a [u8]>, AllocError>
-    ensures { IfOk result (λ v. map (λ l. l.now) v.items ≡ bytes.now) }
-{
-    let mut slices = Vec::with_capacity(alloc, bytes.len())?;
-    for one in bytes {
-        slices.push(one.as_slice())?;
-    }
-    Ok(slices)
 }

@@ -7,7 +7,8 @@ use Rattle.xr_arrays.specs.Folds.{sum_of}
 use Rattle.xr_arrays.specs.Pieces.{together}
 use Rattle.stored_cells.proofs.Lengths.{whole_stored}
 use Rattle.plan_core.specs.Rows.{those}
-use Rattle.plan_whole.proofs.Totals.{few_values, part_more, run_sum}
+use Rattle.row_concat.proofs.Values.{few_values}
+use Rattle.plan_whole.proofs.Totals.{part_more, run_sum}
 use Rattle.plan_whole.proofs.total.total_stored.Goals as goal
 
 pub loop-from-preserved : goal.loop-from-preserved
