@@ -23,10 +23,8 @@ use Rattle.xr_defs.specs.WellFormed.{AreAttributes, AreCells, AreDimensions, IsC
 use Rattle.xr_values.specs.Stands.{variable_in, IsNodeOf}
 use Rattle.xr_values.proofs.Named.{bytes_eq_swap}
 use Rattle.xr_building.specs.Idle.{is_held}
-use Rattle.xr_building.proofs.Apart.{distinct_cons, distinct_parts}
-use Rattle.xr_building.proofs.Called.{called_name, dimension_named}
-use Rattle.xr_building.proofs.Framed.{called_cons}
-use Rattle.xr_building.proofs.Names.{false_or}
+use Rattle.xr_building.proofs.Called.{called_cons, called_name, dimension_named}
+use Rattle.xr_building.proofs.Names.{distinct_cons, distinct_parts, false_or}
 
 -- ---- an axis that a test leaves
 

@@ -1,5 +1,5 @@
 -- Items and elements of lists of values.
-use Rattle.std.proofs.Common.{◌≡◌, ◌<◌, ◌≤◌, ◌+◌, ◌-◌, ◌==◌, ℕ, ℤ, zero, suc, arith, drop, Bool, true, false, ◌&&◌, ◌||◌, List, [], ◌∷◌, ◌++◌, length, map, take, get_or, Option, Ok, Err, if◌then◌else◌, refl, sym, ap, ◌∙◌, append_assoc}
+use Rattle.std.proofs.Common.{◌≡◌, ◌<◌, ◌≤◌, ◌+◌, ◌-◌, ◌==◌, ℕ, ℤ, zero, suc, arith, drop, Bool, true, false, ◌&&◌, ◌||◌, List, [], ◌∷◌, ◌++◌, length, map, take, get_or, Option, Result, Ok, Err, if◌then◌else◌, refl, sym, ap, ◌∙◌, append_assoc}
 use Rattle.std.proofs.Math.Bool.{and_assoc, or_assoc, and-true, or-false}
 use Rattle.std.proofs.lemmas.Bool.{and_parts}
 use Rattle.std.proofs.Math.Seq.{drop-cons}
@@ -8,14 +8,21 @@ use Rattle.std.proofs.lemmas.Bool.Decides.{nat_tests}
 use Rattle.std.proofs.lemmas.List.Folds.{list_all-append, list_any-append}
 use Rattle.std.specs.List.{list_all, list_any}
 use Rattle.xr_types.specs.declared.fault.Fault.TheVariants.{WrongKind}
-use Rattle.xr_types.specs.declared.axis.LabelList.TheVariants.{Texts}
+use Rattle.xr_types.specs.declared.fault.Fault.{Fault}
+use Rattle.xr_types.specs.declared.axis.LabelList.{LabelList}
+use Rattle.xr_types.specs.declared.axis.LabelList.TheVariants.{Numbers, Texts}
+use Rattle.xr_types.specs.declared.axis.Labels.{Labels}
 use Rattle.xr_arrays.specs.declared.node.Node.{Node}
 use Rattle.xr_types.specs.Results.{◌>>=◌}
 use Rattle.xr_defs.specs.Arguments.{as_text}
 use Rattle.xr_defs.specs.Parts.{texts_in}
 use Rattle.xr_defs.specs.Meanings as of
 use Rattle.xr_defs.specs.Meanings.{Values, NoValue, With, Absent, Sequence}
-use Rattle.xr_defs.specs.Building.{elements, elements_of, items, item_count, first_item, all_values, is_number, is_text, as_labels, is_nested, is_regular, nested_shape, is_whole_cell, is_truth_cell, is_missing, element_cell}
+use Rattle.xr_types.specs.Kinds.{in_range}
+use Rattle.xr_types.specs.declared.kind.DType.TheVariants as kinds
+use Rattle.xr_building.specs.Placing.{number_fits}
+use Rattle.xr_building.specs.Puts.{texts_put}
+use Rattle.xr_defs.specs.Building.{elements, elements_of, items, item_count, first_item, all_values, numbers_in, is_number, is_text, as_labels, labels_given, is_nested, is_regular, nested_shape, is_whole_cell, is_truth_cell, is_missing, element_cell}
 use Rattle.xr_values.specs.declared.value.Value.{Value}
 use Rattle.xr_values.specs.Meaning.{meaning, values}
 use Rattle.xr_values.specs.Meaning.{all_values as listed}
@@ -72,13 +79,70 @@ gathered_on nodes start now next vs i v lt is so_far here =
 
 -- ---- a list of numbers, or of texts
 
-all_from : (test : of.Value → Bool) (ws : Values) (vs : List of.Value) → all_values test (values ws vs) ≡ (all_values test ws && list_all test vs)
-all_from test ws [] = sym (and-true (all_values test ws))
-all_from test ws (v ∷ vs) = all_from test (With ws v) vs ∙ and_assoc (all_values test ws) (test v) (list_all test vs)
+module _ (all : Values → Bool) (test : of.Value → Bool) (more : (ws : Values) (v : of.Value) → all (With ws v) ≡ (all ws && test v)) where
+  all_from : (ws : Values) (vs : List of.Value) → all (values ws vs) ≡ (all ws && list_all test vs)
+  all_from ws [] = sym (and-true (all ws))
+  all_from ws (v ∷ vs) = all_from (With ws v) vs ∙ ap (λ b. b && list_all test vs) (more ws v) ∙ and_assoc (all ws) (test v) (list_all test vs)
 
 pub all_are : (test : of.Value → Bool) (nodes : List Node) (vs : List Value) → all_values test (listed nodes vs) ≡ list_all test (map (meaning nodes) vs)
 unfolding listed
-all_are test nodes vs = all_from test NoValue (map (meaning nodes) vs)
+all_are test nodes vs = all_from (all_values test) test (λ ws v. refl) NoValue (map (meaning nodes) vs)
+
+-- ---- the labels of a list
+
+abbrev plain : LabelList → Labels
+plain list = record { list = list; attrs = [] }
+
+abbrev pub plain_numbers : List ℤ → Result Labels Fault
+plain_numbers ns = Ok (plain (Numbers kinds.Int64 ns))
+
+module _ (nodes : List Node) (vs : List Value) where
+  abbrev chosen : Bool → Bool → Result Labels Fault
+  chosen n t = (if n then Ok (Numbers kinds.Int64 (numbers_in (listed nodes vs))) else if t then (texts_in (listed nodes vs) >>= λ ts. Ok (Texts ts)) else Err WrongKind) >>= λ l. Ok (plain l)
+
+  labels_chosen : labels_given (Sequence (listed nodes vs)) ≡ chosen (list_all is_number (map (meaning nodes) vs)) (list_all is_text (map (meaning nodes) vs))
+  unfolding as_labels
+  labels_chosen = ap (λ n. chosen n (all_values is_text (listed nodes vs))) (all_are is_number nodes vs) ∙ ap (chosen (list_all is_number (map (meaning nodes) vs))) (all_are is_text nodes vs)
+
+  pub numbers_given : list_all is_number (map (meaning nodes) vs) ≡ true → labels_given (Sequence (listed nodes vs)) ≡ plain_numbers (numbers_in (listed nodes vs))
+  numbers_given numbers = labels_chosen ∙ ap (λ n. chosen n (list_all is_text (map (meaning nodes) vs))) numbers
+
+  pub texts_given : list_all is_number (map (meaning nodes) vs) ≡ false → list_all is_text (map (meaning nodes) vs) ≡ true → labels_given (Sequence (listed nodes vs)) ≡ texts_put (texts_in (listed nodes vs))
+  texts_given numbers texts = labels_chosen ∙ ap (λ n. chosen n (list_all is_text (map (meaning nodes) vs))) numbers ∙ ap (chosen false) texts ∙ by (texts_in (listed nodes vs))
+    where
+      by : (r : Result (List (List ℕ)) Fault) → ((r >>= λ ts. Ok (Texts ts)) >>= λ l. Ok (plain l)) ≡ texts_put r
+      by (Ok ts) = refl
+      by (Err e) = refl
+
+  pub none_given : list_all is_number (map (meaning nodes) vs) ≡ false → list_all is_text (map (meaning nodes) vs) ≡ false → labels_given (Sequence (listed nodes vs)) ≡ Err WrongKind
+  none_given numbers texts = labels_chosen ∙ ap (λ n. chosen n (list_all is_text (map (meaning nodes) vs))) numbers ∙ ap (chosen false) texts
+
+-- ---- the numbers of a list
+
+pub number_on : (nodes : List Node) (vs : List Value) (i : ℕ) (v : Value) (n : ℤ) (new : List ℤ) → i < length vs → v ≡ get_or vs i v → meaning nodes v ≡ of.Number n → (numbers : List ℤ) → numbers ≡ numbers_in (listed nodes (take i vs)) → new ≡ numbers ++ n ∷ []
+    → new ≡ numbers_in (listed nodes (take (i + 1) vs))
+number_on nodes vs i v n new lt is here numbers so_far pushed =
+    pushed ∙ ap (λ ns. ns ++ n ∷ []) so_far
+    ∙ sym (ap (λ us. numbers_in (listed nodes us)) (take_one vs i v lt is) ∙ ap numbers_in (all_more nodes (take i vs) v) ∙ ap (λ m. numbers_in (With (listed nodes (take i vs)) m)) here)
+
+fits_more : (ws : Values) (v : of.Value) → list_all (in_range kinds.Int64) (numbers_in (With ws v)) ≡ (list_all (in_range kinds.Int64) (numbers_in ws) && number_fits v)
+fits_more ws (of.Number n) = list_all-append (in_range kinds.Int64) (numbers_in ws) (n ∷ []) ∙ ap (λ b. list_all (in_range kinds.Int64) (numbers_in ws) && b) (and-true (in_range kinds.Int64 n))
+fits_more ws of.Absent = sym (and-true _)
+fits_more ws of.Missing = sym (and-true _)
+fits_more ws (of.Truth b) = sym (and-true _)
+fits_more ws (of.Text t) = sym (and-true _)
+fits_more ws (of.Sequence vs) = sym (and-true _)
+fits_more ws (of.Table es) = sym (and-true _)
+fits_more ws (of.Slice a b c) = sym (and-true _)
+fits_more ws (of.Array a) = sym (and-true _)
+fits_more ws (of.Set s) = sym (and-true _)
+fits_more ws (of.Times coding times) = sym (and-true _)
+fits_more ws (of.GroupedArray a by) = sym (and-true _)
+fits_more ws (of.GroupedSet s by) = sym (and-true _)
+
+pub numbers_fit_all : (nodes : List Node) (vs : List Value) → list_all (in_range kinds.Int64) (numbers_in (listed nodes vs)) ≡ list_all number_fits (map (meaning nodes) vs)
+unfolding listed
+numbers_fit_all nodes vs = all_from (λ ws. list_all (in_range kinds.Int64) (numbers_in ws)) number_fits fits_more NoValue (map (meaning nodes) vs)
 
 text_is : (v : of.Value) → is_text v ≡ true → (t : List ℕ) × (as_text v ≡ Ok t)
 unfolding as_text

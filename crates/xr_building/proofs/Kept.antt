@@ -15,6 +15,7 @@ use Rattle.xr_arrays.specs.Arrays.{Array, IsCell, hidden, cell, kind_of, wide}
 use Rattle.xr_defs.specs.Building.{fits_kind}
 use Rattle.xr_defs.specs.WellFormed.{AreSeen}
 use Rattle.xr_building.specs.Gathered.{number_or_zero, mask_byte}
+use Rattle.xr_building.proofs.Fitting.{fits_in_range}
 
 -- ---- a number of a kind is left as it is
 
@@ -90,18 +91,9 @@ mask-length cells = length-map cells mask_byte
 
 -- ---- elements of a kind
 
-up_to : (x y : ℤ) → int_le x y ≡ true → x ≤ℤ y
-up_to x y is = grind (arith, ints)
-
-between_in : (l h n : ℤ) → (int_le l n && int_le n h) ≡ true → (l ≤ℤ n) × (n ≤ℤ h)
-between_in l h n is = let p = and_parts (int_le l n) (int_le n h) is in let a = p.0 in let b = p.1 in (up_to l n a, up_to n h b)
-
-number_fits : (k : DType) (n : ℤ) → in_range k n ≡ true → InRange k n
-number_fits k n is = between_in (low k) (high k) n is
-
 fits_in : (k : DType) (c : Option ℤ) → fits_kind k c ≡ true → IsCell k c
 fits_in k None is = tt
-fits_in k (Some n) is = number_fits k n is
+fits_in k (Some n) is = fits_in_range k n is
 
 pub all_in : (k : DType) (cells : List (Option ℤ)) → list_all (fits_kind k) cells ≡ true → All (IsCell k) cells
 all_in k [] is = All-nil (IsCell k)

@@ -41,3 +41,9 @@ absent_both (m ∷ xs) ys x a b =
 -- a text that isn't empty is a name
 pub named : (t : List ℕ) → IsUtf8 t → not (length t == 0) ≡ is_name t
 named t whole = sym (ap (λ b. not (length t == 0) && b) (is_utf8-from_IsUtf8 t whole) ∙ and-true (not (length t == 0)))
+
+pub distinct_parts : (n : List ℕ) (ns : List (List ℕ)) → are_distinct (n ∷ ns) ≡ true → (among ns n ≡ false) × (are_distinct ns ≡ true)
+distinct_parts n ns d = let parts = and_parts (not (among ns n)) (are_distinct ns) d in (not-true (among ns n) parts.0, parts.1)
+
+pub distinct_cons : (n : List ℕ) (ns : List (List ℕ)) → among ns n ≡ false → are_distinct ns ≡ true → are_distinct (n ∷ ns) ≡ true
+distinct_cons n ns a d = and_from (not (among ns n)) (are_distinct ns) (not_from_false (among ns n) a) d

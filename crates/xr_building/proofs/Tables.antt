@@ -69,8 +69,8 @@ each_passes : (axes : List Axis) (es : List (List ℕ × Value)) → all_of (che
 unfolding check_table_entry
 each_passes axes [] is = refl
 each_passes axes (kv ∷ kvs) is =
-    let p = first_passes (check_table_entry axes kv) (all_of (check_table_entry axes) kvs) is in
-    let q = first_passes (check_entry axes kv) (unless (is_named_entry kv) BadArgument) p.0 in
+    let p = first_passes (check_table_entry axes kv) (all_of (check_table_entry axes) kvs) tt is in
+    let q = first_passes (check_entry axes kv) (unless (is_named_entry kv) BadArgument) tt p.0 in
     ap (λ r. r >>= λ u. all_of (check_entry axes) kvs) q.0 ∙ each_passes axes kvs p.1
 
 -- and each of them is labels or a coordinate

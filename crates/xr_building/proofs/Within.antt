@@ -18,7 +18,7 @@ use Rattle.xr_defs.specs.Values.{Dataset, Variable}
 use Rattle.xr_defs.specs.Selecting.{are_few, are_within, axis_called, check_set, is_within, variable_array}
 use Rattle.xr_defs.specs.WellFormed.{IsContent, IsCoordinate, IsDimension, IsVariable}
 use Rattle.xr_values.proofs.Named.{bytes_eq_swap}
-use Rattle.xr_building.proofs.Framed.{called_cons}
+use Rattle.xr_building.proofs.Called.{called_cons}
 
 within_cell : (n : ℕ) → n ≤ most_cells → nat_le n most_cells ≡ true
 within_cell n few = le-leb n most_cells few

@@ -20,7 +20,6 @@ use Rattle.xr_building.specs.declared.placed.Outline.{Outline}
 use Rattle.xr_building.specs.Entries.{refused, entries_in}
 use Rattle.xr_building.specs.Gathered.{gathered, kind_of_all, suits_all}
 use Rattle.xr_building.specs.Placed.{limited, with_written}
-use Rattle.xr_building.specs.Walk.{entries_put}
 
 -- the entries of a table
 unfoldable pub table_entries : List Axis → List (List ℕ × Value) → Result (List (List ℕ × Value)) Fault
@@ -35,10 +34,7 @@ header_of e named kinded =
 unfoldable pub check_fit : DType → List (Option ℤ) → List (List ℕ × Value) → Result (Unit {0}) Fault
 check_fit kind cells entries = unless (list_all (fits_kind kind) cells) DoesNotFit >>= λ u. all_of check_numbers entries
 
--- the entries over bare axes, as the code puts them and as the definitions do
-unfoldable pub draft_put : (ℕ → Bool) → List Node → Frame → DType → List (Option ℤ) → List (TextBytes × Held) → Result Frame CallFault
-draft_put declines nodes f kind cells kvs = entries_put declines nodes [] f kvs >>= λ g. refused (check_fit kind cells (map (with_key nodes) kvs)) >>= λ u. Ok g
-
+-- the entries over bare axes
 unfoldable pub draft_in : (ℕ → Bool) → List Node → Frame → DType → List (Option ℤ) → List (TextBytes × Held) → Result Frame CallFault
 draft_in declines nodes f kind cells kvs = entries_in declines nodes [] f kvs >>= λ g. refused (check_fit kind cells (map (with_key nodes) kvs)) >>= λ u. Ok g
 

@@ -11,9 +11,11 @@ ghost use Rattle.xr_values.specs.Meaning.{given, AreArgsIn};
 ghost use Rattle.xr_values.specs.Stands.{dataset_in, IsDatasetIn};
 ghost use Rattle.xr_building.specs.Entries.{set_assigned, FollowsSet};
 
+use crate::apart::all_names;
 use crate::assigned::assigned;
 use crate::busy::busy_axes;
-use crate::draft::Draft;
+use crate::draft::{Draft, with_puts};
+use crate::given::are_distinct;
 use plan_core::Compute;
 use std::alloc::{AllocError, Global};
 use std::thread::Threads;
@@ -58,7 +60,12 @@ fn set_with<R: Threads + Sync, C: Compute>(
     ensures keeps { (nodes : List Node) (n : ℕ) → C.declines cx.new.compute nodes n ≡ C.declines cx.old.compute nodes n }
 {
     let draft = draft_of(alloc, on)?;
-    let draft = assigned(rt, alloc, cx, on.vars.as_slice(), draft, args)?;
+    let puts = assigned(rt, alloc, cx, on.vars.as_slice(), on.axes.as_slice(), args)?;
+    let draft = with_puts(alloc, draft, puts.as_slice())?;
+    if !are_distinct(all_names(alloc, &draft, on.vars.as_slice())?.as_slice()) {
+        // The checks of entries let no name through that is taken.
+        return Err(CallFault::NoMemory);
+    }
     check_few(&draft, on)?;
     let axes = busy_axes(alloc, &draft, on)?;
     let mut set = on.deep_copy(alloc)?;

@@ -1,14 +1,17 @@
-//! Axes and coordinates while entries are put in their places.
+//! Axes and coordinates with what entries come to.
 ghost use Rattle.std.specs.Prelude.{◌≡◌, ◌<◌, length, map, IfOk, IfSome, OnOk};
+ghost use Rattle.xr_types.specs.declared.axis.Axis.{Axis as Dimension};
 ghost use Rattle.xr_defs.specs.Building as of;
-ghost use Rattle.xr_building.specs.Found.{coord_place};
-ghost use Rattle.xr_building.specs.Frames.{with_index, coord_with_index};
-ghost use Rattle.xr_building.specs.Walk.{frame_of, indexed, with_another};
+ghost use Rattle.xr_defs.specs.Selecting.{axis_called};
+ghost use Rattle.xr_building.specs.Puts.{after, coord_place, frame_of, labels_of, number_coord, over_called, put_on};
 
+use crate::axes::called;
+use crate::cells::array_value;
+use crate::puts::{NewLabels, Put};
 use std::alloc::{AllocError, Global};
-use xr_defs::Coord;
-use xr_types::{Axis, DeepCopy, Items, Labels, TextBytes};
-use xr_values::copy_content;
+use xr_defs::{Content, Coord};
+use xr_types::{Axis, DType, DeepCopy, Integers, Items, LabelList, Labels, NoMemory, TextBytes};
+use xr_values::{copy_content, copy_coord};
 
 /// Axes with the coordinates over them.
 #[derive(Drop)]
@@ -17,88 +20,130 @@ pub struct Draft {
     pub coords: Items<Coord>,
 }
 
-// An axis with these labels, or none, where it has the name.
-fn with_index(
+// ---- labels
+
+// An axis with these labels where it has the name.
+fn relabelled(
     alloc: Global,
     axis: &Axis,
     name: &TextBytes,
-    labels: &Option<Labels>,
+    labels: &Labels,
 ) -> Result<Axis, AllocError>
-    ensures { IfOk result (λ x. x ≡ with_index name.now labels.now axis.now) }
+    ensures { IfOk result (λ x. x ≡ of.relabelled name.now labels.now axis.now) }
 {
     if axis.name.is(name) {
         Ok(Axis {
             name: axis.name.deep_copy(alloc)?,
             size: axis.size,
-            labels: labels.deep_copy(alloc)?,
+            labels: Some(labels.deep_copy(alloc)?),
         })
     } else {
         axis.deep_copy(alloc)
     }
 }
 
-fn axes_with_index(
+fn axes_relabelled(
     alloc: Global,
     axes: &[Axis],
     name: &TextBytes,
-    labels: &Option<Labels>,
+    labels: &Labels,
 ) -> Result<Items<Axis>, AllocError>
-    ensures { IfOk result (λ xs. xs ≡ map (with_index name.now labels.now) axes.now) }
+    ensures { IfOk result (λ xs. xs ≡ map (of.relabelled name.now labels.now) axes.now) }
 {
     let mut out = Items::new(alloc);
     for axis in axes {
-        out.push(with_index(alloc, axis, name, labels)?)?;
+        out.push(relabelled(alloc, axis, name, labels)?)?;
     }
     Ok(out)
 }
 
-fn coord_with_index(
+fn coord_relabelled(
     alloc: Global,
     coord: &Coord,
     name: &TextBytes,
-    labels: &Option<Labels>,
+    labels: &Labels,
 ) -> Result<Coord, AllocError>
-    ensures { IfOk result (λ c. c ≡ coord_with_index name.now labels.now coord.now) }
+    ensures { IfOk result (λ c. c ≡ of.coord_relabelled name.now labels.now coord.now) }
 {
     Ok(Coord {
         name: coord.name.deep_copy(alloc)?,
-        axes: axes_with_index(alloc, coord.axes.as_slice(), name, labels)?,
+        axes: axes_relabelled(alloc, coord.axes.as_slice(), name, labels)?,
         attrs: coord.attrs.deep_copy(alloc)?,
         content: copy_content(alloc, &coord.content)?,
     })
 }
 
-fn coords_with_index(
+fn coords_relabelled(
     alloc: Global,
     coords: &[Coord],
     name: &TextBytes,
-    labels: &Option<Labels>,
+    labels: &Labels,
 ) -> Result<Items<Coord>, AllocError>
-    ensures { IfOk result (λ cs. cs ≡ map (coord_with_index name.now labels.now) coords.now) }
+    ensures { IfOk result (λ cs. cs ≡ map (of.coord_relabelled name.now labels.now) coords.now) }
 {
     let mut out = Items::new(alloc);
     for coord in coords {
-        out.push(coord_with_index(alloc, coord, name, labels)?)?;
+        out.push(coord_relabelled(alloc, coord, name, labels)?)?;
     }
     Ok(out)
 }
 
-/// The axis of this name has these labels, or none, wherever it stands.
-pub fn indexed(
+fn labelled(
     alloc: Global,
     draft: &Draft,
     name: &TextBytes,
-    labels: &Option<Labels>,
+    labels: &Labels,
 ) -> Result<Draft, AllocError>
-    ensures { IfOk result (λ d. frame_of d ≡ indexed (frame_of draft.now) name.now labels.now) }
+    ensures { IfOk result (λ d. frame_of d ≡ of.frame_labelled (frame_of draft.now) name.now labels.now) }
 {
     Ok(Draft {
-        axes: axes_with_index(alloc, draft.axes.as_slice(), name, labels)?,
-        coords: coords_with_index(alloc, draft.coords.as_slice(), name, labels)?,
+        axes: axes_relabelled(alloc, draft.axes.as_slice(), name, labels)?,
+        coords: coords_relabelled(alloc, draft.coords.as_slice(), name, labels)?,
     })
 }
 
-#[tactic(auto, unfolding(crate::specs::Found::coord_place))]
+// Numbers of 64 bits.
+fn integers(alloc: Global, numbers: &[i128]) -> Result<Integers, NoMemory>
+    ensures { IfOk result (λ ns. ns ≡ numbers.now) }
+{
+    let mut out = Items::new(alloc);
+    for number in numbers {
+        let n = *number;
+        if n < -9_223_372_036_854_775_808 || n > 9_223_372_036_854_775_807 {
+            return Err(NoMemory);
+        }
+        out.push(n as i64)?;
+    }
+    Ok(Integers::signed(alloc, out)?)
+}
+
+fn labels_of(alloc: Global, labels: &NewLabels) -> Result<Labels, NoMemory>
+    ensures { IfOk result (λ l. l ≡ labels_of labels.now) }
+{
+    match labels {
+        NewLabels::Numbers(numbers) => Ok(Labels {
+            list: LabelList::Numbers(DType::Int64, integers(alloc, numbers.as_slice())?),
+            attrs: Items::new(alloc),
+        }),
+        NewLabels::Labels(labels) => Ok(labels.deep_copy(alloc)?),
+    }
+}
+
+fn with_labels(
+    alloc: Global,
+    draft: &Draft,
+    name: &TextBytes,
+    labels: &NewLabels,
+) -> Result<Draft, NoMemory>
+    ensures { IfOk result (λ d. frame_of d ≡ of.frame_labelled (frame_of draft.now) name.now (labels_of labels.now)) }
+{
+    let labels = labels_of(alloc, labels)?;
+    Ok(labelled(alloc, draft, name, &labels)?)
+}
+
+// ---- coordinates
+
+#[tactic(auto, unfolding(crate::specs::Puts::coord_place))]
 fn coord_place(coords: &[Coord], name: &TextBytes) -> Option<usize>
     ensures place { result ≡ coord_place coords.now name.now }
     ensures inside { IfSome result (λ k. k < length coords.now) }
@@ -120,13 +165,86 @@ fn put_coord(coords: &mut Items<Coord>, coord: Coord) -> Result<(), AllocError>
     }
 }
 
-/// With another coordinate, where there is one.
-pub fn with_another(draft: Draft, coord: Option<Coord>) -> Result<Draft, AllocError>
-    ensures { IfOk result (λ d. frame_of d ≡ with_another (frame_of draft) coord) }
+// A coordinate of one number of 64 bits.
+fn number_coord(alloc: Global, name: &TextBytes, n: i128) -> Result<Coord, NoMemory>
+    ensures { IfOk result (λ c. c ≡ number_coord name.now n) }
+{
+    if n < -9_223_372_036_854_775_808 || n > 9_223_372_036_854_775_807 {
+        return Err(NoMemory);
+    }
+    let cells = array_value(
+        alloc,
+        DType::Int64,
+        Items::new(alloc),
+        false,
+        [Some(n)].as_slice(),
+    )?;
+    Ok(Coord {
+        name: name.deep_copy(alloc)?,
+        axes: Items::new(alloc),
+        attrs: Items::new(alloc),
+        content: Content::Cells(cells, false),
+    })
+}
+
+// The checks of entries let no array through that has a dimension more.
+fn axes_called(alloc: Global, axes: &[Axis], own: &[Axis]) -> Result<Items<Axis>, NoMemory>
+    ensures { IfOk result (λ xs. xs ≡ map (λ (x : Dimension). axis_called axes.now x.name) own.now) }
+{
+    let mut out = Items::new(alloc);
+    for axis in own {
+        match called(axes, &axis.name) {
+            Some(axis) => out.push(axis.deep_copy(alloc)?)?,
+            None => return Err(NoMemory),
+        }
+    }
+    Ok(out)
+}
+
+fn over_called(alloc: Global, axes: &[Axis], coord: &Coord) -> Result<Coord, NoMemory>
+    ensures { IfOk result (λ c. c ≡ over_called axes.now coord.now) }
+{
+    let own = axes_called(alloc, axes, coord.axes.as_slice())?;
+    let mut coord = copy_coord(alloc, coord)?;
+    coord.axes = own;
+    Ok(coord)
+}
+
+fn with_coord(draft: Draft, coord: Coord) -> Result<Draft, AllocError>
+    ensures { IfOk result (λ d. frame_of d ≡ record { axes = draft.axes; coords = of.with_coord draft.coords coord }) }
 {
     let mut draft = draft;
-    if let Some(coord) = coord {
-        put_coord(&mut draft.coords, coord)?;
-    }
+    put_coord(&mut draft.coords, coord)?;
     Ok(draft)
+}
+
+// ---- both
+
+fn with_put(alloc: Global, draft: Draft, put: &Put) -> Result<Draft, NoMemory>
+    ensures { IfOk result (λ d. frame_of d ≡ put_on (frame_of draft) put.now) }
+{
+    match put {
+        Put::Labels(name, labels) => with_labels(alloc, &draft, name, labels),
+        Put::Number(name, n) => {
+            let coord = number_coord(alloc, name, *n)?;
+            Ok(with_coord(draft, coord)?)
+        }
+        Put::Coord(coord) => {
+            let coord = over_called(alloc, draft.axes.as_slice(), coord)?;
+            Ok(with_coord(draft, coord)?)
+        }
+    }
+}
+
+/// Axes and coordinates with these puts, whose numbers 64 bits hold.
+pub fn with_puts(alloc: Global, draft: Draft, puts: &[Put]) -> Result<Draft, NoMemory>
+    ensures { IfOk result (λ d. frame_of d ≡ after (frame_of draft) puts.now) }
+{
+    match puts {
+        [] => Ok(draft),
+        [put, rest @ ..] => {
+            let draft = with_put(alloc, draft, put)?;
+            with_puts(alloc, draft, rest)
+        }
+    }
 }

@@ -40,15 +40,11 @@ fn are_named(names: &[TextBytes]) -> bool
 pub fn is_among(names: &[TextBytes], name: &TextBytes) -> bool
     ensures { result ≡ among names.now name.now }
 {
-    for other in names {
-        if name.is(other) {
-            return true;
-        }
-    }
-    false
+    names.iter().any(|other| name.is(other))
 }
 
-fn are_distinct(names: &[TextBytes]) -> bool
+/// Whether no name stands twice.
+pub fn are_distinct(names: &[TextBytes]) -> bool
     ensures { result ≡ are_distinct names.now }
 {
     for at in 0..names.len() {

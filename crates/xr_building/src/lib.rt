@@ -2,6 +2,7 @@
 #![tactic(auto)]
 
 mod aligned;
+mod apart;
 mod assigned;
 mod assigned_sets;
 mod axes;
@@ -10,7 +11,6 @@ mod busy;
 mod cells;
 mod check;
 mod computed;
-mod coordinates;
 mod draft;
 mod elements;
 mod entries;
@@ -23,6 +23,7 @@ mod outlined;
 mod placed;
 mod placing;
 mod put;
+mod puts;
 mod written;
 
 pub use assigned::assign_to_array;

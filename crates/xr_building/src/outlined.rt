@@ -13,15 +13,15 @@ ghost use Rattle.xr_values.specs.Meaning.{meaning, with_key, IsEntryIn, IsValueI
 ghost use Rattle.xr_building.specs.Entries.{Follows};
 ghost use Rattle.xr_building.specs.Frames.{IsFrame};
 ghost use Rattle.xr_building.specs.Gathered.{gathered as elements_of};
-ghost use Rattle.xr_building.specs.Outlined.{check_fit, draft_in, draft_put, outline_in, outline_over};
+ghost use Rattle.xr_building.specs.Outlined.{check_fit, draft_in, outline_in, outline_over};
 ghost use Rattle.xr_building.specs.Placed.{IsFilled};
-ghost use Rattle.xr_building.specs.Walk.{frame_of};
+ghost use Rattle.xr_building.specs.Puts.{frame_of};
 ghost use Rattle.xr_building.specs.Written.{entries_held};
 
 use crate::bare::bare_axes;
 use crate::cells::all_fit;
 use crate::check::check_places;
-use crate::draft::Draft;
+use crate::draft::{Draft, with_puts};
 use crate::elements::Elements;
 use crate::entries::entries_given;
 use crate::header::header_of;
@@ -60,36 +60,8 @@ fn check_fit(
     check_numbers(entries)
 }
 
-// Entries are put over bare axes; last come the elements and the numbers that don't fit.
-#[tactic(auto, unfolding(crate::specs::Outlined::draft_put))]
-fn put_all<R: Threads + Sync, C: Compute>(
-    rt: &R,
-    alloc: Global,
-    cx: &mut Cx<C>,
-    draft: Draft,
-    kind: DType,
-    cells: &[Option<i128>],
-    entries: &[(TextBytes, Value)],
-) -> Result<Draft, CallFault>
-    requires sync { IsSync R.row }
-    requires kind { kind ≢ kinds.Char }
-    requires inside { All (IsEntryIn cx.old.plan) entries.now }
-    requires checked { all_of (of.check_entry draft.axes) (map (with_key cx.old.plan) entries.now) ≡ Ok tt }
-    requires placed { all_of (of.check_place draft.axes) (map (with_key cx.old.plan) entries.now) ≡ Ok tt }
-    requires frame { IsFrame draft.axes draft.coords }
-    ensures told { Follows frame_of result (draft_put (C.declines cx.old.compute cx.old.plan) cx.old.plan (frame_of draft) kind cells.now entries.now) }
-    ensures frame { IfOk result (λ d. IsFrame d.axes d.coords) }
-    ensures fit { IfOk result (λ d. list_all (of.fits_kind kind) cells.now ≡ true) }
-    ensures plan { cx.new.plan ≡ cx.old.plan }
-    ensures keeps { (nodes : List Node) (n : ℕ) → C.declines cx.new.compute nodes n ≡ C.declines cx.old.compute nodes n }
-{
-    let draft = put_entries(rt, alloc, cx, &[], draft, entries)?;
-    check_fit(kind, cells, entries)?;
-    Ok(draft)
-}
-
-// The same by the definitions. The axes are as long as before.
-#[tactic(auto, using(crate::proofs::Drafted::draft_same))]
+// Entries are put over bare axes; last come the elements and the numbers that don't fit. The axes are as long as before.
+#[tactic(auto, unfolding(crate::specs::Outlined::draft_in))]
 fn with_entries<R: Threads + Sync, C: Compute>(
     rt: &R,
     alloc: Global,
@@ -112,7 +84,10 @@ fn with_entries<R: Threads + Sync, C: Compute>(
     ensures plan { cx.new.plan ≡ cx.old.plan }
     ensures keeps { (nodes : List Node) (n : ℕ) → C.declines cx.new.compute nodes n ≡ C.declines cx.old.compute nodes n }
 {
-    put_all(rt, alloc, cx, draft, kind, cells, entries)
+    let puts = put_entries(rt, alloc, cx, &[], draft.axes.as_slice(), entries)?;
+    check_fit(kind, cells, entries)?;
+    let draft = with_puts(alloc, draft, puts.as_slice())?;
+    Ok(draft)
 }
 
 // The same over axes of these sizes.

@@ -1,41 +1,61 @@
-use Rattle.std.proofs.Common.{◌≡◌, List, Ok, Err, sym, ap, subst, ◌∙◌}
+use Rattle.std.proofs.Common.{◌≡◌, ◌++◌, List, Ok, Err, sym, ap, subst, ◌∙◌}
 use Rattle.std.proofs.lemmas.Result.{err_from_is_err_and}
 use Rattle.xr_types.specs.declared.axis.Axis.{Axis}
+use Rattle.xr_types.specs.Names.{are_distinct, axis_names}
+use Rattle.xr_defs.specs.WellFormed.{labelled, names_of}
 use Rattle.xr_values.specs.declared.dataset.Dataset.{Dataset}
 use Rattle.xr_values.specs.declared.variable.Variable.{Variable}
 use Rattle.xr_values.specs.Stands.{dataset_in, IsDatasetIn}
-use Rattle.xr_values.specs.Variables.{names_of}
+use Rattle.xr_values.specs.Variables as kept
 use Rattle.xr_building.specs.Entries.{frame_in, set_assigned, Follows}
-use Rattle.xr_building.specs.Walk.{frame_of}
-use Rattle.xr_building.proofs.Sets.{follow_few, follow_frame, reframed_set, set_told}
+use Rattle.xr_building.specs.Puts.{after, frame_of, over}
+use Rattle.xr_building.proofs.Sets.{follow_few, follow_frame, reframed_set, set_at}
 use Rattle.xr_building.proofs.assigned_sets.set_with.Goals as goal
 
 pub returns-clause-told : goal.returns-clause-told
 returns-clause-told g c =
     let nodes = c.args.cx.now.plan in
     let declines = g.C.Compute.declines c.args.cx.now.compute nodes in
+    let on = c.args.on.now in
+    let args = c.args.args.now in
+    let first = c.in_ok-draft.draft in
     let d = c.in_ok-draft-2.draft in
-    let told = subst (λ (vs : List Variable). frame_in declines nodes (names_of vs) (frame_of c.in_ok-draft.draft) c.args.args.now ≡ Ok (frame_of d)) c.as_slice.ensures.variables c.in_ok-draft-2.ensures.told in
-    subst (λ (b : Dataset). (set_assigned declines nodes c.args.on.now c.args.args.now ≡ Ok (dataset_in nodes (reframed_set b c.in_ok-axes.axes d.coords))) × IsDatasetIn nodes (reframed_set b c.in_ok-axes.axes d.coords)) (sym c.in_ok-set.ensures)
-    (subst (λ (xs : List Axis). (set_assigned declines nodes c.args.on.now c.args.args.now ≡ Ok (dataset_in nodes (reframed_set c.args.on.now xs d.coords))) × IsDatasetIn nodes (reframed_set c.args.on.now xs d.coords)) (sym c.in_ok-axes.ensures)
-    (set_told declines nodes c.args.on.now c.args.args.now c.in_ok-draft.draft.axes c.in_ok-draft.draft.coords (frame_of d) c.in_ok-draft.ensures.axes c.in_ok-draft.ensures.coords told c.requires.inside c.in_ok-draft-2.ensures.frame c.in_ok-check_few.ensures))
+    let puts = c.in_ok-puts.puts in
+    let same = c.in_ok-draft-2.ensures ∙ ap (after (frame_of first)) c.as_slice-3.ensures ∙ ap (λ xs. after (over xs first.coords) puts) c.in_ok-draft.ensures.axes ∙ ap (λ cs. after (over on.axes cs) puts) c.in_ok-draft.ensures.coords in
+    let told =
+    subst (λ (vs : List Variable). frame_in declines nodes (kept.names_of vs) (over on.axes on.coords) args ≡ Ok (after (over on.axes on.coords) puts)) c.as_slice.ensures.variables
+    (subst (λ xs. frame_in declines nodes (kept.names_of c.as_slice.result.now) (over xs on.coords) args ≡ Ok (after (over xs on.coords) puts)) c.as_slice-2.ensures (c.in_ok-puts.ensures.told on.coords))
+    in
+    let apart = ap are_distinct (sym (c.as_slice-6.ensures ∙ c.in_ok-all_names.ensures ∙ ap (λ (vs : List Variable). axis_names (labelled d.axes) ++ (names_of d.coords ++ kept.names_of vs)) c.as_slice-4.ensures.variables)) ∙ sym c.if-not-are_distinct.ensures in
+    subst (λ (b : Dataset). (set_assigned declines nodes on args ≡ Ok (dataset_in nodes (reframed_set b c.in_ok-axes.axes d.coords))) × IsDatasetIn nodes (reframed_set b c.in_ok-axes.axes d.coords)) (sym c.in_ok-set.ensures)
+    (subst (λ (xs : List Axis). (set_assigned declines nodes on args ≡ Ok (dataset_in nodes (reframed_set on xs d.coords))) × IsDatasetIn nodes (reframed_set on xs d.coords)) (sym c.in_ok-axes.ensures)
+    (set_at declines nodes on args puts d.axes d.coords same told c.requires.inside c.requires.given c.in_ok-puts.ensures.named apart c.in_ok-check_few.ensures))
 
-pub returns-in_err-draft-2-clause-told : goal.returns-in_err-draft-2-clause-told
-returns-in_err-draft-2-clause-told g c =
+pub returns-in_err-puts-clause-told : goal.returns-in_err-puts-clause-told
+returns-in_err-puts-clause-told g c =
     let nodes = c.args.cx.now.plan in
     let declines = g.C.Compute.declines c.args.cx.now.compute nodes in
-    let e = c.in_err-draft-2.field-0.0 in
-    let r = c.from_residual-in_err-draft-2.result in
-    let told = subst (λ (vs : List Variable). Follows frame_of (Err e) (frame_in declines nodes (names_of vs) (frame_of c.in_ok-draft.draft) c.args.args.now)) c.as_slice.ensures.variables c.in_err-draft-2.ensures.told in
-    follow_frame declines nodes c.args.on.now c.args.args.now c.in_ok-draft.draft.axes c.in_ok-draft.draft.coords (frame_of c.in_ok-draft.draft) c.in_ok-draft.ensures.axes c.in_ok-draft.ensures.coords
-    e r (let p = err_from_is_err_and r c.from_residual-in_err-draft-2.ensures.1 in p.1 ∙ ap Err p.2) told
+    let on = c.args.on.now in
+    let e = c.in_err-puts.field-0.0 in
+    let r = c.from_residual-in_err-puts.result in
+    follow_frame declines nodes on c.args.args.now (after (over on.axes on.coords)) e r (let p = err_from_is_err_and r c.from_residual-in_err-puts.ensures.1 in p.1 ∙ ap Err p.2)
+    (subst (λ (vs : List Variable). Follows (after (over on.axes on.coords)) (Err e) (frame_in declines nodes (kept.names_of vs) (over on.axes on.coords) c.args.args.now)) c.as_slice.ensures.variables
+    (subst (λ xs. Follows (after (over xs on.coords)) (Err e) (frame_in declines nodes (kept.names_of c.as_slice.result.now) (over xs on.coords) c.args.args.now)) c.as_slice-2.ensures (c.in_err-puts.ensures.told on.coords)))
 
 pub returns-in_err-check_few-clause-told : goal.returns-in_err-check_few-clause-told
 returns-in_err-check_few-clause-told g c =
     let nodes = c.args.cx.now.plan in
     let declines = g.C.Compute.declines c.args.cx.now.compute nodes in
+    let on = c.args.on.now in
+    let args = c.args.args.now in
+    let first = c.in_ok-draft.draft in
     let d = c.in_ok-draft-2.draft in
+    let puts = c.in_ok-puts.puts in
     let r = c.from_residual-in_err-check_few.result in
-    let told = subst (λ (vs : List Variable). frame_in declines nodes (names_of vs) (frame_of c.in_ok-draft.draft) c.args.args.now ≡ Ok (frame_of d)) c.as_slice.ensures.variables c.in_ok-draft-2.ensures.told in
-    follow_few declines nodes c.args.on.now c.args.args.now c.in_ok-draft.draft.axes c.in_ok-draft.draft.coords (frame_of d) c.in_ok-draft.ensures.axes c.in_ok-draft.ensures.coords
-    c.in_err-check_few.field-0.0 r (let p = err_from_is_err_and r c.from_residual-in_err-check_few.ensures.1 in p.1 ∙ ap Err p.2) told c.requires.inside c.in_ok-draft-2.ensures.frame c.in_err-check_few.ensures
+    let same = c.in_ok-draft-2.ensures ∙ ap (after (frame_of first)) c.as_slice-3.ensures ∙ ap (λ xs. after (over xs first.coords) puts) c.in_ok-draft.ensures.axes ∙ ap (λ cs. after (over on.axes cs) puts) c.in_ok-draft.ensures.coords in
+    let told =
+    subst (λ (vs : List Variable). frame_in declines nodes (kept.names_of vs) (over on.axes on.coords) args ≡ Ok (after (over on.axes on.coords) puts)) c.as_slice.ensures.variables
+    (subst (λ xs. frame_in declines nodes (kept.names_of c.as_slice.result.now) (over xs on.coords) args ≡ Ok (after (over xs on.coords) puts)) c.as_slice-2.ensures (c.in_ok-puts.ensures.told on.coords))
+    in
+    let apart = ap are_distinct (sym (c.as_slice-6.ensures ∙ c.in_ok-all_names.ensures ∙ ap (λ (vs : List Variable). axis_names (labelled d.axes) ++ (names_of d.coords ++ kept.names_of vs)) c.as_slice-4.ensures.variables)) ∙ sym c.if-not-are_distinct.ensures in
+    follow_few declines nodes on args puts d.axes d.coords same told c.requires.inside c.requires.given c.in_ok-puts.ensures.named apart c.in_err-check_few.field-0.0 r (let p = err_from_is_err_and r c.from_residual-in_err-check_few.ensures.1 in p.1 ∙ ap Err p.2) c.in_err-check_few.ensures

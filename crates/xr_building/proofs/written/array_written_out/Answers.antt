@@ -1,5 +1,4 @@
-use Rattle.xr_building.proofs.Undeclined.{answers_array}
-use Rattle.xr_building.proofs.Unrefused.{written_all}
+use Rattle.xr_building.proofs.Undeclined.{answers_array, written_all}
 use Rattle.xr_building.proofs.written.array_written_out.Goals as goal
 
 pub returns-clause-undeclined : goal.returns-clause-undeclined
