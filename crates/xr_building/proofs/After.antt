@@ -1,6 +1,7 @@
 -- Axes with what is put on them: they keep their names and sizes, and have the labels that are put last.
 use Rattle.std.proofs.Common.{◌≡◌, ℕ, Bool, true, false, List, [], ◌∷◌, ◌++◌, Option, Some, None, Result, refl, sym, ap, ◌∙◌}
 use Rattle.std.specs.Prelude.{◌==◌, if◌then◌else◌}
+use Rattle.std.specs.Option.{option_or}
 use Rattle.std.specs.Str.{bytes_eq}
 use Rattle.xr_types.specs.declared.axis.Axis.{Axis}
 use Rattle.xr_types.specs.declared.axis.Labels.{Labels}
@@ -66,24 +67,24 @@ pub after_end : (f : Frame) (ps : List Put) (p : Put) → after f (ps ++ p ∷ [
 after_end f [] p = refl
 after_end f (q ∷ ps) p = after_end (put_on f q) ps p
 
-pub after_labels : (f : Frame) (ps : List Put) (n : List ℕ) → is_dimension f.axes n ≡ true → (axis_called (after f ps).axes n).labels ≡ labels_or (last_labels n ps) (axis_called f.axes n).labels
-after_labels f [] n is = refl
-after_labels f (p ∷ ps) n is = after_labels (put_on f p) ps n (after_dimension f (p ∷ []) n ∙ is) ∙ by (last_labels n ps)
+-- with these labels to begin with
+after_labels_from : (f : Frame) (o : Option NewLabels) (own : Option Labels) (ps : List Put) (n : List ℕ) → is_dimension f.axes n ≡ true → (axis_called f.axes n).labels ≡ labels_or o own → (axis_called (after f ps).axes n).labels ≡ labels_or (last_labels n o ps) own
+after_labels_from f o own [] n is begun = begun
+after_labels_from f o own (p ∷ ps) n is begun = after_labels_from (put_on f p) (option_or (labels_at n p) o) own ps n (after_dimension f (p ∷ []) n ∙ is) (one p)
   where
-    one : (p : Put) → (axis_called (put_on f p).axes n).labels ≡ labels_or (labels_at n p) (axis_called f.axes n).labels
+    one : (p : Put) → (axis_called (put_on f p).axes n).labels ≡ labels_or (option_or (labels_at n p) o) own
     one (puts.Labels m l) =
         ap (λ (x : Axis). x.labels) (called_kept (relabelled m (labels_of l)) (label_name m (labels_of l)) (label_size m (labels_of l)) f.axes n is)
         ∙ ap (λ k. (if bytes_eq k m then record (axis_called f.axes n) { labels = Some (labels_of l) } else axis_called f.axes n).labels) (called_name f.axes n is) ∙ to (bytes_eq n m)
       where
-        to : (b : Bool) → (if b then record (axis_called f.axes n) { labels = Some (labels_of l) } else axis_called f.axes n).labels ≡ labels_or (if b then Some l else None) (axis_called f.axes n).labels
+        to : (b : Bool) → (if b then record (axis_called f.axes n) { labels = Some (labels_of l) } else axis_called f.axes n).labels ≡ labels_or (option_or (if b then Some l else None) o) own
         to true = refl
-        to false = refl
-    one (puts.Number m k) = refl
-    one (puts.Coord c) = refl
+        to false = begun
+    one (puts.Number m k) = begun
+    one (puts.Coord c) = begun
 
-    by : (o : Option NewLabels) → labels_or o (axis_called (put_on f p).axes n).labels ≡ labels_or (elim o as (λ o. Option NewLabels) [ Some l ↦ Some l | None ↦ labels_at n p ]) (axis_called f.axes n).labels
-    by (Some l) = refl
-    by None = one p
+pub after_labels : (f : Frame) (ps : List Put) (n : List ℕ) → is_dimension f.axes n ≡ true → (axis_called (after f ps).axes n).labels ≡ labels_or (last_labels n None ps) (axis_called f.axes n).labels
+after_labels f ps n is = after_labels_from f None (axis_called f.axes n).labels ps n is refl
 
 -- ---- an array's axis against the one of its name
 
@@ -99,11 +100,11 @@ module _ (axes : List Axis) (coords : List Coord) (ps : List Put) (x : Axis) whe
   abbrev then_called : Axis
   then_called = axis_called (after (over axes coords) ps).axes x.name
 
-  pub axis_there : (y : Axis) → is_dimension axes x.name ≡ true → axis_called axes x.name ≡ y → check_axis (after (over axes coords) ps).axes x ≡ checked_axis x y.size (labels_or (last_labels x.name ps) y.labels)
+  pub axis_there : (y : Axis) → is_dimension axes x.name ≡ true → axis_called axes x.name ≡ y → check_axis (after (over axes coords) ps).axes x ≡ checked_axis x y.size (labels_or (last_labels x.name None ps) y.labels)
   unfolding check_axis
   axis_there y there is =
       against x then_called ∙ ap (λ n. checked_axis x n then_called.labels) (after_size (over axes coords) ps x.name) ∙ ap (checked_axis x (axis_called axes x.name).size) (after_labels (over axes coords) ps x.name there)
-      ∙ ap (λ (z : Axis). checked_axis x z.size (labels_or (last_labels x.name ps) z.labels)) is
+      ∙ ap (λ (z : Axis). checked_axis x z.size (labels_or (last_labels x.name None ps) z.labels)) is
 
   pub axis_gone : is_dimension axes x.name ≡ false → check_axis (after (over axes coords) ps).axes x ≡ checked_axis x 0 None
   unfolding check_axis

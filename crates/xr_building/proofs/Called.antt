@@ -1,14 +1,14 @@
 -- Axes of which each is changed, but for its name and its size.
-use Rattle.std.proofs.Common.{◌≡◌, ◌<◌, ◌+◌, ◌||◌, ℕ, zero, suc, Bool, true, false, List, [], ◌∷◌, length, map, get_or, Option, Some, None, refl, sym, ap, ◌∙◌, arith}
+use Rattle.std.proofs.Common.{◌≡◌, ◌<◌, ◌+◌, ◌||◌, ℕ, zero, suc, Bool, true, false, List, [], ◌∷◌, length, map, get_or, drop, Option, Some, None, refl, sym, ap, ◌∙◌, arith}
 use Rattle.std.specs.Prelude.{option_map, if◌then◌else◌, is_some}
 use Rattle.std.specs.Str.{bytes_eq}
 use Rattle.xr_types.specs.declared.axis.Axis.{Axis}
-use Rattle.xr_types.specs.Names.{among}
-use Rattle.xr_types.specs.Names.{axis_names, shape_over}
+use Rattle.xr_types.specs.Names.{among, axis_names, shape_over}
 use Rattle.xr_defs.specs.Values.{axis_position, no_axis}
 use Rattle.xr_defs.specs.Selecting.{axis_called}
 use Rattle.xr_defs.specs.Building.{is_dimension}
 use Rattle.xr_values.proofs.Named.{bytes_eq_swap}
+use Rattle.xr_values.proofs.Places.{from_place}
 use Rattle.xr_building.proofs.Names.{same_text}
 
 pub called_cons : (x : Axis) (xs : List Axis) (name : List ℕ) → axis_called (x ∷ xs) name ≡ (if bytes_eq x.name name then x else axis_called xs name)
@@ -26,6 +26,13 @@ dimension_cons x xs name = by (bytes_eq x.name name) (axis_position name xs)
     by true o = refl
     by false None = refl
     by false (Some k) = refl
+
+-- where the axes before one have other names
+pub called_from : (axes : List Axis) (i : ℕ) (x : Axis) (name : List ℕ) → i < length axes → x ≡ get_or axes i x → axis_called (drop i axes) name ≡ (if bytes_eq x.name name then x else axis_called (drop (i + 1) axes) name)
+called_from axes i x name lt is = ap (λ xs. axis_called xs name) (from_place axes i x lt is) ∙ called_cons x (drop (i + 1) axes) name
+
+pub dimension_from : (axes : List Axis) (i : ℕ) (x : Axis) (name : List ℕ) → i < length axes → x ≡ get_or axes i x → is_dimension (drop i axes) name ≡ (bytes_eq x.name name || is_dimension (drop (i + 1) axes) name)
+dimension_from axes i x name lt is = ap (λ xs. is_dimension xs name) (from_place axes i x lt is) ∙ dimension_cons x (drop (i + 1) axes) name
 
 pub not_called : (axes : List Axis) (name : List ℕ) → is_dimension axes name ≡ false → axis_called axes name ≡ no_axis
 not_called axes name gone = by (axis_position name axes) gone
@@ -93,9 +100,6 @@ module _ (f : Axis → Axis) (keeps_name : (x : Axis) → (f x).name ≡ x.name)
   position_kept (x ∷ axes) n =
       ap (λ m. if bytes_eq m n then Some 0 else option_map (λ k. k + 1) (axis_position n (map f axes))) (keeps_name x)
       ∙ ap (λ o. if bytes_eq x.name n then Some 0 else option_map (λ k. k + 1) o) (position_kept axes n)
-
-  pub dimension_kept : (axes : List Axis) (n : List ℕ) → is_dimension (map f axes) n ≡ is_dimension axes n
-  dimension_kept axes n = ap is_some (position_kept axes n)
 
   pub called_kept : (axes : List Axis) (n : List ℕ) → is_dimension axes n ≡ true → axis_called (map f axes) n ≡ f (axis_called axes n)
   called_kept axes n is =

@@ -64,9 +64,3 @@ entries_sizes declines nodes variables f g (kv ∷ kvs) told =
     by (Ok h) (Ok u) is told rest = rest h told ∙ entry_sizes variables f h (with_key nodes kv) is
     by (Ok h) (Err e) is told rest = absurd cc
     by (Err e) c is told rest = absurd cc
-
-pub drafted_frame : (declines : ℕ → Bool) (nodes : List Node) (f g : Frame) (kind : DType) (cells : List (Option ℤ)) (kvs : List (TextBytes × Value)) → All (IsEntryIn nodes) kvs → list_all (λ (kv : TextBytes × Value). is_name kv.0) kvs ≡ true
-    → all_of (check_entry f.axes) (map (with_key nodes) kvs) ≡ Ok (tt {0}) → all_of (check_place f.axes) (map (with_key nodes) kvs) ≡ Ok (tt {0}) → check_fit kind cells (map (with_key nodes) kvs) ≡ Ok (tt {0}) → entries_in declines nodes [] f kvs ≡ Ok g → IsFrame f.axes f.coords → IsFrame g.axes g.coords
-unfolding check_fit
-drafted_frame declines nodes f g kind cells kvs inside named checked placed fits told frame =
-    entries_frame declines nodes [] f g kvs inside named checked placed (first_passes (unless (list_all (fits_kind kind) cells) DoesNotFit) _ tt fits).1 told frame

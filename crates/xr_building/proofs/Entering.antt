@@ -1,16 +1,20 @@
 -- Entries that are put in their places, as the definitions say.
-use Rattle.std.proofs.Common.{◌≡◌, ◌≤◌, ◌-◌, ℕ, Bool, true, false, not, List, [], ◌∷◌, length, take, drop, get_or, arith, Option, Some, None, Result, Ok, Err, refl, sym, ap, subst, ◌∙◌}
+use Rattle.std.proofs.Common.{◌≡◌, ◌&&◌, ℕ, Bool, true, false, not, List, [], ◌∷◌, ◌++◌, length, map, Option, Some, None, Result, Ok, Err, refl, sym, ap, subst, ◌∙◌}
 use Rattle.std.specs.Prelude.{◌==◌, if◌then◌else◌}
-use Rattle.std.proofs.lemmas.List.{take_all}
+use Rattle.std.proofs.Math.Bool.{and-true}
+use Rattle.std.proofs.lemmas.Bool.{and_parts, not-true}
+use Rattle.std.proofs.lemmas.List.Folds.{list_all-append}
+use Rattle.std.specs.List.{list_all}
+use Rattle.xr_types.specs.declared.axis.Axis.{Axis}
 use Rattle.std.specs.declared.rc.Rc.{Rc}
 use Rattle.std.specs.declared.alloc.Global.{Global}
 use Rattle.xr_types.specs.declared.text.TextBytes.{TextBytes}
 use Rattle.xr_types.specs.declared.axis.LabelList.TheVariants.{Numbers}
 use Rattle.xr_types.specs.declared.fault.Fault.{Fault}
-use Rattle.xr_types.specs.declared.fault.Fault.TheVariants.{DuplicateName, SizeConflict}
+use Rattle.xr_types.specs.declared.fault.Fault.TheVariants.{BadArgument, DoesNotFit, DuplicateName, SizeConflict, WrongKind}
 use Rattle.xr_types.specs.declared.fault.CallFault.{CallFault}
 use Rattle.xr_types.specs.declared.fault.CallFault.TheVariants.{Refused, Declined, NoMemory}
-use Rattle.xr_types.specs.Names.{among}
+use Rattle.xr_types.specs.Names.{among, axis_names}
 use Rattle.xr_types.specs.Results.{◌>>=◌, unless, all_of, Answers}
 use Rattle.xr_arrays.specs.declared.node.Node.{Node}
 use Rattle.xr_defs.specs.declared.value.Content.TheVariants as contents
@@ -19,56 +23,56 @@ use Rattle.xr_defs.specs.Meanings.{Array}
 use Rattle.xr_defs.specs.Selecting.{axis_called}
 use Rattle.xr_defs.specs.Values as of
 use Rattle.xr_defs.specs.Values.{array_of, present}
-use Rattle.xr_defs.specs.Building.{Frame, check_axis, coordinate_given, frame_labelled, is_dimension, label_total, with_coord, with_coordinate, with_entry, with_labels}
+use Rattle.xr_defs.specs.Building.{Frame, check_axis, check_coordinate, check_entry, check_labels, check_numbers, coordinate_given, frame_labelled, is_along, is_dimension, is_integer_kind, label_total, with_coord, with_coordinate, with_entry, with_labels}
 use Rattle.xr_values.specs.declared.data_array.DataArray.{DataArray}
 use Rattle.xr_values.specs.declared.value.Value.{Value}
 use Rattle.xr_values.specs.declared.value.Value.TheVariants as variants
 use Rattle.xr_values.specs.declared.value.Value.TheOpen as held
 use Rattle.xr_values.specs.declared.value.Value.TheOpen.{Value-F}
 use Rattle.xr_values.specs.declared.value.Value.TheViews.{out-Value, roll-Value, out-roll-Value, roll-out-Value}
-use Rattle.xr_values.specs.Meaning.{with_key}
+use Rattle.xr_values.specs.Meaning.{meaning, with_key}
 use Rattle.xr_values.specs.Stands.{array_in}
 use Rattle.xr_arguments.proofs.Variants.{is_array}
 use Rattle.xr_building.specs.declared.puts.Put.{Put}
-use Rattle.xr_building.specs.Entries.{computed, entries_in, entry_in, node_of, refused, Follows}
-use Rattle.xr_building.specs.Placing.{array_checks, array_put, array_told, is_free}
-use Rattle.xr_building.specs.Puts.{over_called, put_on}
+use Rattle.xr_building.specs.Entries.{computed, entries_in, entry_in, node_of, refused, Follows, IsPlain}
+use Rattle.xr_building.specs.Placing.{array_checks, array_put, array_told, is_free, IsAlone}
+use Rattle.xr_building.specs.Puts.{fits_whole, over_called, put_fits, put_on}
+use Rattle.xr_building.proofs.Fits.{numbers_checked}
+use Rattle.xr_building.proofs.Framed.{equal, first_passes, unless_holds}
 
 -- ---- what is computed
 
-module _ (declines : ℕ → Bool) (v : Value) where
-  abbrev node_computed : Option ℕ → Result (Unit {0}) CallFault
-  node_computed o = elim o as (λ o. Result (Unit {0}) CallFault) [ None ↦ Ok tt | Some n ↦ unless (not (declines n)) (Declined n) ]
+abbrev node_computed : (ℕ → Bool) → Option ℕ → Result (Unit {0}) CallFault
+node_computed declines o = elim o as (λ o. Result (Unit {0}) CallFault) [ None ↦ Ok tt | Some n ↦ unless (not (declines n)) (Declined n) ]
 
-  pub computed_array : (a : Rc DataArray Global) → v ≡ variants.Array a → computed declines v ≡ unless (not (declines a.value.node)) (Declined a.value.node)
-  unfolding computed roll-Value denote.Hole.Carrier.roll
-  computed_array a is = ap (λ y. node_computed (node_of y)) (ap (λ w. out-Value w) is ∙ out-roll-Value (held.Array a))
+computed_array : (declines : ℕ → Bool) (v : Value) (a : Rc DataArray Global) → v ≡ variants.Array a → computed declines v ≡ unless (not (declines a.value.node)) (Declined a.value.node)
+unfolding computed roll-Value denote.Hole.Carrier.roll
+computed_array declines v a is = ap (λ y. node_computed declines (node_of y)) (ap (λ w. out-Value w) is ∙ out-roll-Value (held.Array a))
 
-  other_layer : (x : Value-F Value) → ((a : Rc DataArray Global) → x ≡ held.Array a → ⊥) → node_computed (node_of x) ≡ Ok tt
-  other_layer (held.Array a) other = absurd (other a refl)
-  other_layer held.Absent other = refl
-  other_layer held.Missing other = refl
-  other_layer (held.Truth b) other = refl
-  other_layer (held.Number n) other = refl
-  other_layer (held.Text t) other = refl
-  other_layer (held.List vs) other = refl
-  other_layer (held.Table es) other = refl
-  other_layer (held.Slice start stop step) other = refl
-  other_layer (held.Set s) other = refl
-  other_layer (held.Times coding times) other = refl
-  other_layer (held.GroupedArray a by) other = refl
-  other_layer (held.GroupedSet s by) other = refl
+plain_layer : (x : Value-F Value) → ((a : Rc DataArray Global) → x ≡ held.Array a → ⊥) → node_of x ≡ None
+plain_layer (held.Array a) other = absurd (other a refl)
+plain_layer held.Absent other = refl
+plain_layer held.Missing other = refl
+plain_layer (held.Truth b) other = refl
+plain_layer (held.Number n) other = refl
+plain_layer (held.Text t) other = refl
+plain_layer (held.List vs) other = refl
+plain_layer (held.Table es) other = refl
+plain_layer (held.Slice start stop step) other = refl
+plain_layer (held.Set s) other = refl
+plain_layer (held.Times coding times) other = refl
+plain_layer (held.GroupedArray a by) other = refl
+plain_layer (held.GroupedSet s by) other = refl
 
-  pub computed_other : ((a : Rc DataArray Global) → v ≡ variants.Array a → ⊥) → computed declines v ≡ Ok tt
-  unfolding computed roll-Value denote.Hole.Carrier.roll
-  computed_other other = other_layer (out-Value v) (λ a e. other a (sym (roll-out-Value v) ∙ ap (λ y. roll-Value y) e))
+pub plain : (v : Value) → ((a : Rc DataArray Global) → v ≡ variants.Array a → ⊥) → IsPlain v
+unfolding roll-Value denote.Hole.Carrier.roll
+plain v other = plain_layer (out-Value v) (λ a e. other a (sym (roll-out-Value v) ∙ ap (λ y. roll-Value y) e))
 
 -- ---- an entry that is no array
 
-pub plain_told : (declines : ℕ → Bool) (nodes : List Node) (variables : List (List ℕ)) (f : Frame) (kv : TextBytes × Value) (r : Result Put CallFault) → ((a : Rc DataArray Global) → kv.1 ≡ variants.Array a → ⊥)
-    → Answers (put_on f) r (with_entry variables f (with_key nodes kv)) → Follows (put_on f) r (entry_in declines nodes variables f kv)
-unfolding entry_in
-plain_told declines nodes variables f kv r other is = by r (with_entry variables f (with_key nodes kv)) (computed declines kv.1) (computed_other declines kv.1 other) is
+pub plain_told : (declines : ℕ → Bool) (nodes : List Node) (variables : List (List ℕ)) (f : Frame) (kv : TextBytes × Value) (r : Result Put CallFault) → IsPlain kv.1 → Answers (put_on f) r (with_entry variables f (with_key nodes kv)) → Follows (put_on f) r (entry_in declines nodes variables f kv)
+unfolding entry_in computed
+plain_told declines nodes variables f kv r other is = by r (with_entry variables f (with_key nodes kv)) (computed declines kv.1) (ap (node_computed declines) other) is
   where
     by : (r : Result Put CallFault) (w : Result Frame Fault) (c : Result (Unit {0}) CallFault) → c ≡ Ok tt → Answers (put_on f) r w → Follows (put_on f) r (refused w >>= λ g. c >>= λ u. Ok g)
     by (Ok p) w c done told = rw (told, done) refl
@@ -112,22 +116,54 @@ array_is declines nodes variables f kv a x is same =
     by (Ok u) c g = refl
     by (Err e) c g = refl
 
--- ---- the entries behind one
+-- labels that are checked lie along their dimension alone
+pub alone : (nodes : List Node) (axes : List Axis) (kv : TextBytes × Value) (a : Rc DataArray Global) (x : DataArray) → kv.1 ≡ variants.Array a → x ≡ a.value → check_entry axes (with_key nodes kv) ≡ Ok (tt {0}) → is_dimension axes kv.0 ≡ true → IsAlone x
+unfolding check_entry check_labels
+alone nodes axes kv a x is same checked there =
+    let m : meaning nodes kv.1 ≡ Array (array_in nodes x) = is_array nodes kv.1 a is ∙ ap (λ (y : DataArray). Array (array_in nodes y)) (sym same) in
+    let along : check_labels kv.0 (Array (array_in nodes x)) ≡ Ok (tt {0}) = ap (check_labels kv.0) (sym m) ∙ sym (ap (λ b. if b then check_labels kv.0 (meaning nodes kv.1) else check_coordinate (meaning nodes kv.1)) there) ∙ checked in
+    let tests = unless_holds (not x.masked && is_along kv.0 (array_in nodes x)) BadArgument (first_passes (unless (is_integer_kind x.kind) WrongKind) _ tt along).1 in
+    let p = and_parts (not x.masked) (is_along kv.0 (array_in nodes x)) tests in
+    (not-true x.masked p.0, equal (length x.axes) 1 (and_parts (length x.axes == 1) (among (axis_names x.axes) kv.0) p.1).0)
 
-pub first_rest : {X : Type 0} (xs : List X) (x : X) → 1 ≤ length xs → x ≡ get_or xs 0 x → xs ≡ x ∷ take (length xs - 1) (drop 1 xs)
-first_rest [] x long is = absurd (omega arith)
-first_rest (y ∷ ys) x long is = ap (λ z. z ∷ ys) (sym is) ∙ ap (λ zs. x ∷ zs) (sym (take_all (length (y ∷ ys) - 1) ys (omega arith)))
+-- ---- one entry after the other
 
-pub more_told : (d e : ℕ → Bool) → ((n : ℕ) → e n ≡ d n) → (nodes new : List Node) → new ≡ nodes → (variables : List (List ℕ)) (f g : Frame) (kv : TextBytes × Value) (rest kvs : List (TextBytes × Value)) → kvs ≡ kv ∷ rest → entry_in d nodes variables f kv ≡ Ok g
-    → entries_in e new variables g rest ≡ entries_in d nodes variables f kvs
-unfolding entries_in
-more_told d e same nodes new plan variables f g kv rest kvs is told =
-    (λ i. entries_in (λ n. same n i) new variables g rest) ∙ ap (λ ns. entries_in d ns variables g rest) plan ∙ sym (ap (λ r. r >>= λ h. entries_in d nodes variables h rest) told) ∙ sym (ap (entries_in d nodes variables f) is)
+pub rest_checked : (nodes : List Node) (axes : List Axis) (kv : TextBytes × Value) (rest kvs : List (TextBytes × Value)) → kvs ≡ kv ∷ rest → all_of (check_entry axes) (map (with_key nodes) kvs) ≡ Ok (tt {0}) → all_of (check_entry axes) (map (with_key nodes) rest) ≡ Ok (tt {0})
+rest_checked nodes axes kv rest kvs is checked = (first_passes (check_entry axes (with_key nodes kv)) (all_of (check_entry axes) (map (with_key nodes) rest)) tt (ap (λ ks. all_of (check_entry axes) (map (with_key nodes) ks)) (sym is) ∙ checked)).1
 
-pub follows_err : {A B D : Type 0} (view : A → D) (other : B → D) (r : Result B CallFault) (e : CallFault) (told : Result D CallFault) → r ≡ Err e → Follows view (Err e) told → Follows other r told
-follows_err view other r e told is given = subst (λ s. Follows other s told) (sym is) (by e given)
-  where
-    by : (e : CallFault) → Follows view (Err e) told → Follows other (Err e) told
-    by (Refused x) t = t
-    by (Declined n) t = t
-    by NoMemory t = tt
+module _ (d : ℕ → Bool) (nodes : List Node) (variables : List (List ℕ)) (f : Frame) (kv : TextBytes × Value) where
+  pub entry_from : (e : ℕ → Bool) → ((n : ℕ) → e n ≡ d n) → (new : List Node) → new ≡ nodes → entry_in e new variables f kv ≡ entry_in d nodes variables f kv
+  entry_from e same new plan = (λ i. entry_in (λ n. same n i) new variables f kv) ∙ ap (λ ns. entry_in d ns variables f kv) plan
+
+  module _ (rest kvs : List (TextBytes × Value)) (is : kvs ≡ kv ∷ rest) (whole : Result Frame CallFault) (so_far : entries_in d nodes variables f kvs ≡ whole) where
+    begins : (entry_in d nodes variables f kv >>= λ h. entries_in d nodes variables h rest) ≡ whole
+    unfolding entries_in
+    begins = ap (entries_in d nodes variables f) (sym is) ∙ so_far
+
+    pub one_more : (g : Frame) → entry_in d nodes variables f kv ≡ Ok g → entries_in d nodes variables g rest ≡ whole
+    one_more g told = sym (ap (λ r. r >>= λ h. entries_in d nodes variables h rest) told) ∙ begins
+
+    pub none_more : {A B : Type 0} (view : A → Frame) (last : B → Frame) (r : Result B CallFault) (e : CallFault) → r ≡ Err e → Follows view (Err e) (entry_in d nodes variables f kv) → Follows last r whole
+    none_more view last r e here given = subst (λ s. Follows last s whole) (sym here) (by e given)
+      where
+        on : (x : CallFault) → entry_in d nodes variables f kv ≡ Err x → whole ≡ Err x
+        on x told = sym begins ∙ ap (λ r. r >>= λ h. entries_in d nodes variables h rest) told
+
+        by : (e : CallFault) → Follows view (Err e) (entry_in d nodes variables f kv) → Follows last (Err e) whole
+        by (Refused x) told = on (Refused x) told
+        by (Declined n) told = on (Declined n) told
+        by NoMemory told = tt
+
+  -- the numbers of the entries before it fit or not, and then those of this one
+  pub numbers_on : (p : Put) (ps new : List Put) (rest kvs : List (TextBytes × Value)) (whole : Result (Unit {0}) Fault) → kvs ≡ kv ∷ rest → new ≡ ps ++ p ∷ [] → put_fits p ≡ fits_whole (meaning nodes kv.1)
+      → whole ≡ (unless (list_all put_fits ps) DoesNotFit >>= λ u. all_of check_numbers (map (with_key nodes) kvs)) → whole ≡ (unless (list_all put_fits new) DoesNotFit >>= λ u. all_of check_numbers (map (with_key nodes) rest))
+  unfolding unless
+  numbers_on p ps new rest kvs whole is pushed fits so_far =
+      so_far ∙ ap (λ ks. unless (list_all put_fits ps) DoesNotFit >>= λ u. all_of check_numbers (map (with_key nodes) ks)) is
+      ∙ ap (λ r. unless (list_all put_fits ps) DoesNotFit >>= λ u. r >>= λ v. all_of check_numbers (map (with_key nodes) rest)) (numbers_checked (with_key nodes kv) ∙ ap (λ b. unless b DoesNotFit) (sym fits))
+      ∙ by (list_all put_fits ps) (put_fits p) (all_of check_numbers (map (with_key nodes) rest))
+      ∙ ap (λ b. unless b DoesNotFit >>= λ u. all_of check_numbers (map (with_key nodes) rest)) (sym (ap (list_all put_fits) pushed ∙ list_all-append put_fits ps (p ∷ []) ∙ ap (λ b. list_all put_fits ps && b) (and-true (put_fits p))))
+    where
+      by : (a b : Bool) (r : Result (Unit {0}) Fault) → (unless a DoesNotFit >>= λ u. unless b DoesNotFit >>= λ v. r) ≡ (unless (a && b) DoesNotFit >>= λ u. r)
+      by true b r = refl
+      by false b r = refl

@@ -20,7 +20,7 @@ use Rattle.xr_defs.specs.Values.{present}
 use Rattle.xr_defs.specs.Meanings.{Value, Absent, Missing, Truth, Number, Text, Sequence, Table, Slice, Array, Set, Times, GroupedArray, GroupedSet}
 use Rattle.xr_defs.specs.Building.{check_numbers, label_total}
 use Rattle.xr_defs.specs.WellFormed.{IsDataArray}
-use Rattle.xr_building.specs.Placing.{fits_whole}
+use Rattle.xr_building.specs.Puts.{fits_whole}
 
 -- ---- an array along its dimension
 

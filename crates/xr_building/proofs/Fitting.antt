@@ -1,14 +1,18 @@
 -- Numbers in the range of a kind.
-use Rattle.std.proofs.Common.{◌≡◌, ℤ, ◌≤ℤ◌, true, List, [], ◌∷◌, All, Option, Some, None, arith}
+use Rattle.std.proofs.Common.{◌≡◌, ◌<◌, ℕ, ℤ, ◌≤ℤ◌, true, false, List, [], ◌∷◌, length, get_or, All, Bool, Option, Some, None, refl, sym, ap, ◌∙◌, arith}
 use Rattle.std.proofs.lemmas.Bool.{and_parts}
 use Rattle.std.proofs.lemmas.List.Elements.{All-nil, All-cons, All-head, All-tail}
 use Rattle.std.proofs.lemmas.Int.{ints}
+use Rattle.std.proofs.lemmas.List.Folds.{list_all_at}
 use Rattle.std.specs.List.{list_all}
 use Rattle.std.specs.Prelude.{int_le}
 use Rattle.xr_types.specs.Kinds.{in_range, InRange, low, high}
 use Rattle.xr_types.specs.declared.kind.DType.{DType}
 use Rattle.xr_arrays.specs.Arrays.{IsCell}
+use Rattle.xr_types.specs.declared.kind.DType.TheVariants as kinds
 use Rattle.xr_defs.specs.Values.{present}
+use Rattle.xr_building.specs.declared.puts.Put.{Put}
+use Rattle.xr_building.specs.Puts.{put_fits}
 
 pub present_in : (k : DType) (cells : List (Option ℤ)) → All (IsCell k) cells → All (InRange k) (present cells)
 present_in k [] all = All-nil (InRange k)
@@ -24,3 +28,13 @@ fits_in_range k n is = let p = and_parts (int_le (low k) n) (int_le n (high k)) 
 pub fit_in_range : (k : DType) (ns : List ℤ) → list_all (in_range k) ns ≡ true → All (InRange k) ns
 fit_in_range k [] all = All-nil (InRange k)
 fit_in_range k (n ∷ ns) all = let p = and_parts (in_range k n) (list_all (in_range k) ns) all in All-cons (InRange k) n ns (fits_in_range k n p.0) (fit_in_range k ns p.1)
+
+pub one_in_range : (n : ℤ) → in_range kinds.Int64 n ≡ true → All (IsCell kinds.Int64) (Some n ∷ [])
+one_in_range n is = All-cons (IsCell kinds.Int64) (Some n) [] (fits_in_range kinds.Int64 n is) (All-nil (IsCell kinds.Int64))
+
+pub each_fits : (ps : List Put) (i : ℕ) (p : Put) → list_all put_fits ps ≡ true → i < length ps → p ≡ get_or ps i p → put_fits p ≡ true
+each_fits ps i p all lt is = by (put_fits p) refl
+  where
+    by : (b : Bool) → put_fits p ≡ b → b ≡ true
+    by true here = refl
+    by false here = let none = list_all_at put_fits ps i p lt (ap put_fits (sym is) ∙ here) in absurd cc

@@ -1,8 +1,8 @@
 -- Axes and coordinates stay as they have to be while entries are put in.
-use Rattle.std.proofs.Common.{◌≡◌, ◌==◌, ◌||◌, ℕ, ℤ, Bool, true, false, not, List, [], ◌∷◌, ◌++◌, length, map, All, Some, Result, Ok, Err, refl, sym, ap, subst, ◌∙◌, arith, append_assoc}
+use Rattle.std.proofs.Common.{◌≡◌, ◌==◌, ◌||◌, ℕ, ℤ, Bool, true, false, not, cond, List, [], ◌∷◌, ◌++◌, length, map, All, Some, Result, Ok, Err, refl, sym, ap, subst, ◌∙◌, arith, append_assoc}
 use Rattle.std.proofs.lemmas.Bool.{or_parts, not-true, and_parts}
 use Rattle.std.proofs.lemmas.Bool.Decides.{nat_tests}
-use Rattle.std.proofs.lemmas.List.{length-map}
+use Rattle.std.proofs.lemmas.List.{append-nil, length-map}
 use Rattle.std.proofs.lemmas.List.Elements.{All-nil, All-cons, All-head, All-tail}
 use Rattle.std.specs.Prelude.{if◌then◌else◌, ⊤, is_some}
 use Rattle.std.specs.Str.{bytes_eq}
@@ -16,7 +16,7 @@ use Rattle.xr_types.specs.declared.axis.LabelList.TheVariants.{Numbers, Times, T
 use Rattle.xr_types.specs.declared.kind.DType.TheVariants as kinds
 use Rattle.xr_types.specs.declared.text.TextBytes.{TextBytes}
 use Rattle.xr_types.specs.declared.fault.Fault.{Fault}
-use Rattle.xr_types.specs.declared.fault.Fault.TheVariants.{WrongKind, NoDimension, SizeConflict, DoesNotFit}
+use Rattle.xr_types.specs.declared.fault.Fault.TheVariants.{WrongKind, NoDimension, SizeConflict, DoesNotFit, DuplicateName}
 use Rattle.xr_types.specs.declared.fault.CallFault.{CallFault}
 use Rattle.xr_types.specs.Results.{◌>>=◌, unless, all_of}
 use Rattle.xr_types.specs.Names.{among, are_distinct, axis_names, shape_over}
@@ -33,7 +33,7 @@ use Rattle.xr_defs.specs.Meanings.{Value, Absent, Missing, Truth, Number, Text, 
 use Rattle.xr_defs.specs.Meanings as meanings
 use Rattle.xr_defs.specs.Building.{Frame, all_values, as_labels, check_axis, check_entry, check_labels, check_coordinate, check_numbers, check_place, coord_relabelled, coordinate_given, frame_labelled, is_dimension, is_integer_kind, is_number, is_text, label_total, labels_given, numbers_in, relabelled, with_coord, with_coordinate, with_entry, with_labels}
 use Rattle.xr_defs.specs.Parts.{texts_in}
-use Rattle.xr_defs.specs.WellFormed.{AreAttributes, AreCells, AreLabels, IsContent, IsCoordinate, IsDataArray, IsIndex, names_of}
+use Rattle.xr_defs.specs.WellFormed.{AreAttributes, AreCells, AreLabels, IsContent, IsCoordinate, IsDataArray, IsIndex, labelled, names_of}
 use Rattle.xr_values.specs.declared.value.Value.{Value as Held}
 use Rattle.xr_values.specs.declared.value.Value.TheOpen as held
 use Rattle.xr_values.specs.declared.value.Value.TheOpen.{Value-F}
@@ -46,7 +46,8 @@ use Rattle.xr_building.specs.Frames.{IsOpenAxis, IsFrame}
 use Rattle.xr_building.specs.Places.{is_there}
 use Rattle.xr_building.specs.Puts.{number_coord, over, over_called}
 use Rattle.xr_building.proofs.After.{label_name, label_size}
-use Rattle.xr_building.proofs.Names.{absent_both, distinct_end, same_text}
+use Rattle.xr_building.proofs.Idle.{kept_absent}
+use Rattle.xr_building.proofs.Names.{absent_behind, absent_both, absent_parts, distinct_cons, distinct_parts, distinct_with, same_text}
 use Rattle.xr_building.proofs.Called.{called_cons, called_kept, called_name, dimension_named, names_kept, sizes_kept}
 use Rattle.xr_building.proofs.Fitting.{fits_in_range, fit_in_range, present_in}
 
@@ -143,20 +144,68 @@ module _ (d : Coord) where
       by false swap other rest =
           ap (λ ns. c.name ∷ ns) rest ∙ more (among (names_of coords) d.name) ∙ sym (ap (λ b. named_with (b || among (names_of coords) d.name) (c.name ∷ names_of coords)) (swap ∙ other))
 
+  -- with names that differ before and behind
+  named_apart : (xs ys : List (List ℕ)) (coords : List Coord) → among xs d.name ≡ false → among ys d.name ≡ false → are_distinct (xs ++ (names_of coords ++ ys)) ≡ true → are_distinct (xs ++ (names_of (with_coord coords d) ++ ys)) ≡ true
+  named_apart xs ys coords before behind all = ap (λ ns. are_distinct (xs ++ (ns ++ ys))) (names_with coords) ∙ by (among (names_of coords) d.name) refl
+    where
+      by : (b : Bool) → among (names_of coords) d.name ≡ b → are_distinct (xs ++ (named_with b (names_of coords) ++ ys)) ≡ true
+      by true there = all
+      by false absent =
+          ap (λ ns. are_distinct (xs ++ ns)) (append_assoc (names_of coords) (d.name ∷ []) ys) ∙ ap are_distinct (sym (append_assoc xs (names_of coords) (d.name ∷ ys)))
+          ∙ distinct_with (xs ++ names_of coords) ys d.name (ap are_distinct (append_assoc xs (names_of coords) ys) ∙ all) (absent_both (xs ++ names_of coords) ys d.name (absent_both xs (names_of coords) d.name before absent) behind)
+
   pub coord_frame : (axes : List Axis) (coords : List Coord) → is_dimension axes d.name ≡ false → IsCoordinate axes d → IsFrame axes coords → IsFrame axes (with_coord coords d)
   coord_frame axes coords other one is =
       record {
         each = is.each;
         axes_distinct = is.axes_distinct;
         over = all_with (IsCoordinate axes) coords one is.over;
-        distinct = ap (λ ns. are_distinct (axis_names axes ++ ns)) (names_with coords) ∙ by (among (names_of coords) d.name) refl;
+        distinct =
+            ap (λ ns. are_distinct (axis_names axes ++ ns)) (sym (append-nil (names_of (with_coord coords d))))
+            ∙ named_apart (axis_names axes) [] coords (sym (dimension_named axes d.name) ∙ other) refl (ap (λ ns. are_distinct (axis_names axes ++ ns)) (append-nil (names_of coords)) ∙ is.distinct);
       }
+
+-- ---- the names of indexes, coordinates and variables
+
+-- none stands twice
+abbrev pub Apart : List (List ℕ) → Frame → Type 0
+Apart variables f = are_distinct (axis_names (labelled f.axes) ++ (names_of f.coords ++ variables)) ≡ true
+
+abbrev pub Holds : List (List ℕ) → Frame → Frame → Type 0
+Holds variables f g = IsFrame g.axes g.coords × (Apart variables f → Apart variables g)
+
+abbrev has_labels : Axis → Bool
+has_labels x = is_some x.labels
+
+module _ (name : List ℕ) (l : Labels) (ns : List (List ℕ)) (absent : among ns name ≡ false) where
+  labelled_apart : (axes : List Axis) → are_distinct (axis_names axes) ≡ true → are_distinct (axis_names (labelled axes) ++ ns) ≡ true → are_distinct (axis_names (labelled (map (relabelled name l) axes)) ++ ns) ≡ true
+  labelled_apart [] distinct all = all
+  labelled_apart (x ∷ xs) distinct all = by (bytes_eq x.name name) refl (labelled_apart xs parts.1 (first (is_some x.labels) all).1)
     where
-      by : (b : Bool) → among (names_of coords) d.name ≡ b → are_distinct (axis_names axes ++ named_with b (names_of coords)) ≡ true
-      by true there = is.distinct
-      by false absent =
-          ap are_distinct (sym (append_assoc (axis_names axes) (names_of coords) (d.name ∷ [])))
-          ∙ distinct_end (axis_names axes ++ names_of coords) d.name is.distinct (absent_both (axis_names axes) (names_of coords) d.name (sym (dimension_named axes d.name) ∙ other) absent)
+      parts : (among (axis_names xs) x.name ≡ false) × (are_distinct (axis_names xs) ≡ true)
+      parts = distinct_parts x.name (axis_names xs) distinct
+
+      first : (b : Bool) → are_distinct (axis_names (cond b (x ∷ labelled xs) (labelled xs)) ++ ns) ≡ true → (b ≡ true → among ns x.name ≡ false) × (are_distinct (axis_names (labelled xs) ++ ns) ≡ true)
+      first true all = let p = distinct_parts x.name (axis_names (labelled xs) ++ ns) all in (λ e. (absent_parts (axis_names (labelled xs)) ns x.name p.0).1, p.1)
+      first false all = (λ e. absurd cc, all)
+
+      behind : (ys : List Axis) → axis_names ys ≡ axis_names xs → among ns x.name ≡ false → are_distinct (axis_names (labelled ys) ++ ns) ≡ true → are_distinct (x.name ∷ axis_names (labelled ys) ++ ns) ≡ true
+      behind ys same none rest =
+          distinct_cons x.name (axis_names (labelled ys) ++ ns) (kept_absent has_labels ys ns x.name (absent_both (axis_names ys) ns x.name (ap (λ ms. among ms x.name) same ∙ parts.0) none)) rest
+
+      others : List Axis
+      others = map (relabelled name l) xs
+
+      by : (b : Bool) → bytes_eq x.name name ≡ b → are_distinct (axis_names (labelled others) ++ ns) ≡ true → are_distinct (axis_names (labelled ((if b then record x { labels = Some l } else x) ∷ others)) ++ ns) ≡ true
+      by true same rest =
+          let text = same_text x.name name same in
+          subst (λ (ys : List Axis). are_distinct (x.name ∷ axis_names (labelled ys) ++ ns) ≡ true) (sym (other_axes name l xs (ap (among (axis_names xs)) (sym text) ∙ parts.0)))
+          (behind xs refl (ap (among ns) text ∙ absent) (first (is_some x.labels) all).1)
+      by false other rest = on (is_some x.labels) (λ there. (first (is_some x.labels) all).0 there)
+        where
+          on : (b : Bool) → (b ≡ true → among ns x.name ≡ false) → are_distinct (axis_names (cond b (x ∷ labelled others) (labelled others)) ++ ns) ≡ true
+          on true none = behind others (names_kept (relabelled name l) (label_name name l) (label_size name l) xs) (none refl) rest
+          on false none = rest
 
 -- ---- an array and times that are given are as they have to be
 
@@ -194,7 +243,7 @@ pub first_passes : {A : Type 0} (r : Result (Unit {0}) Fault) (s : Result A Faul
 first_passes (Ok u) s a is = (refl, is)
 first_passes (Err e) s a is = absurd cc
 
-equal : (m n : ℕ) → (m == n) ≡ true → m ≡ n
+pub equal : (m n : ℕ) → (m == n) ≡ true → m ≡ n
 equal m n is = grind (arith, nat_tests)
 
 no_attrs : AreAttributes []
@@ -321,41 +370,49 @@ given_coordinate axes name (GroupedSet s by) c whole named place fit given = abs
 
 -- ---- an entry
 
-pub record Stays (f g : Frame) : Type 0 where
+pub record Stays (variables : List (List ℕ)) (f g : Frame) : Type 0 where
   pub frame : IsFrame g.axes g.coords
   pub names : axis_names g.axes ≡ axis_names f.axes
+  pub apart : Apart variables f → Apart variables g
 
-entry_frame : (variables : List (List ℕ)) (f g : Frame) (kv : List ℕ × Value) → IsWhole kv.1 → is_name kv.0 ≡ true → check_entry f.axes kv ≡ Ok tt → check_place f.axes kv ≡ Ok tt → check_numbers kv ≡ Ok tt → with_entry variables f kv ≡ Ok g → IsFrame f.axes f.coords → Stays f g
+entry_frame : (variables : List (List ℕ)) (f g : Frame) (kv : List ℕ × Value) → IsWhole kv.1 → is_name kv.0 ≡ true → check_entry f.axes kv ≡ Ok tt → check_place f.axes kv ≡ Ok tt → check_numbers kv ≡ Ok tt → with_entry variables f kv ≡ Ok g → IsFrame f.axes f.coords → Stays variables f g
 unfolding check_entry with_entry with_labels with_coordinate
-entry_frame variables f g kv whole named is place fit told frame = by (is_dimension f.axes kv.0) refl is (free _ _ told)
+entry_frame variables f g kv whole named is place fit told frame = by (is_dimension f.axes kv.0) refl is (free _ _ told).0
   where
-    free : (r : Result Frame Fault) (t : Result (Unit {0}) Fault) → (r >>= λ h. t >>= λ u. Ok h) ≡ Ok g → r ≡ Ok g
-    free (Ok h) (Ok u) e = e
+    free : (r : Result Frame Fault) (t : Result (Unit {0}) Fault) → (r >>= λ h. t >>= λ u. Ok h) ≡ Ok g → (r ≡ Ok g) × (t ≡ Ok tt)
+    free (Ok h) (Ok u) e = (e, refl)
     free (Ok h) (Err x) e = absurd cc
     free (Err x) t e = absurd cc
 
-    along : (r : Result Labels Fault) → labels_given kv.1 ≡ r → check_labels kv.0 kv.1 ≡ Ok tt → (r >>= λ l. unless (label_total l.list == (axis_called f.axes kv.0).size) SizeConflict >>= λ u. Ok (frame_labelled f kv.0 l)) ≡ Ok g → Stays f g
-    along (Err e) given checked told = absurd cc
-    along (Ok l) given checked told =
+    untaken : among variables kv.0 ≡ false
+    untaken = not-true (among variables kv.0) (unless_holds (not (among variables kv.0)) DuplicateName (free _ _ told).1)
+
+    along : (r : Result Labels Fault) → labels_given kv.1 ≡ r → is_dimension f.axes kv.0 ≡ true → check_labels kv.0 kv.1 ≡ Ok tt → (r >>= λ l. unless (label_total l.list == (axis_called f.axes kv.0).size) SizeConflict >>= λ u. Ok (frame_labelled f kv.0 l)) ≡ Ok g → Stays variables f g
+    along (Err e) given there checked told = absurd cc
+    along (Ok l) given there checked told =
         let p = first_passes (unless (label_total l.list == (axis_called f.axes kv.0).size) SizeConflict) _ g told in
         let ready = given_index kv.0 kv.1 l whole checked fit given in
         let long = equal (label_total l.list) (axis_called f.axes kv.0).size (unless_holds _ SizeConflict p.0) in
         let same : frame_labelled f kv.0 l ≡ g = let q = p.1 in cc in
-        subst (Stays f) same
+        let absent = absent_both (names_of f.coords) variables kv.0 (absent_behind (axis_names f.axes) (names_of f.coords) kv.0 frame.distinct (sym (dimension_named f.axes kv.0) ∙ there)) untaken in
+        subst (Stays variables f) same
         (record {
           frame = index_frame kv.0 l f.axes f.coords (record { whole = sym (count_is l.list) ∙ long; range = ready.0; attrs = ready.1 }) frame;
           names = names_kept (relabelled kv.0 l) (label_name kv.0 l) (label_size kv.0 l) f.axes;
+          apart = λ all. ap (λ ns. are_distinct (axis_names (labelled (map (relabelled kv.0 l) f.axes)) ++ (ns ++ variables))) (names_on kv.0 l f.coords) ∙ labelled_apart kv.0 l (names_of f.coords ++ variables) absent f.axes frame.axes_distinct all;
         })
 
-    beside : (r : Result Coord Fault) → coordinate_given f.axes kv.0 kv.1 ≡ r → is_dimension f.axes kv.0 ≡ false → (r >>= λ c. Ok (record f { coords = with_coord f.coords c })) ≡ Ok g → Stays f g
+    beside : (r : Result Coord Fault) → coordinate_given f.axes kv.0 kv.1 ≡ r → is_dimension f.axes kv.0 ≡ false → (r >>= λ c. Ok (record f { coords = with_coord f.coords c })) ≡ Ok g → Stays variables f g
     beside (Err e) given other told = absurd cc
     beside (Ok c) given other told =
         let one = given_coordinate f.axes kv.0 kv.1 c whole named place fit given in
         let same : over f.axes (with_coord f.coords c) ≡ g = cc in
-        subst (Stays f) same (record { frame = coord_frame c f.axes f.coords (ap (is_dimension f.axes) one.1 ∙ other) one.0 frame; names = refl })
+        let unlike = ap (is_dimension f.axes) one.1 ∙ other in
+        let before : among (axis_names (labelled f.axes)) c.name ≡ false = (absent_parts (axis_names (labelled f.axes)) [] c.name (kept_absent has_labels f.axes [] c.name (absent_both (axis_names f.axes) [] c.name (sym (dimension_named f.axes c.name) ∙ unlike) refl))).0 in
+        subst (Stays variables f) same (record { frame = coord_frame c f.axes f.coords unlike one.0 frame; names = refl; apart = named_apart c (axis_names (labelled f.axes)) variables f.coords before (ap (among variables) one.1 ∙ untaken) })
 
-    by : (b : Bool) → is_dimension f.axes kv.0 ≡ b → (if b then check_labels kv.0 kv.1 else check_coordinate kv.1) ≡ Ok tt → (if b then with_labels f kv.0 kv.1 else with_coordinate f kv.0 kv.1) ≡ Ok g → Stays f g
-    by true there checked told = along (labels_given kv.1) refl checked told
+    by : (b : Bool) → is_dimension f.axes kv.0 ≡ b → (if b then check_labels kv.0 kv.1 else check_coordinate kv.1) ≡ Ok tt → (if b then with_labels f kv.0 kv.1 else with_coordinate f kv.0 kv.1) ≡ Ok g → Stays variables f g
+    by true there checked told = along (labels_given kv.1) refl there checked told
     by false other checked told = beside (coordinate_given f.axes kv.0 kv.1) refl other told
 
 -- ---- the entries behind it
@@ -396,11 +453,11 @@ module _ (axes xs : List Axis) (named : axis_names axes ≡ axis_names xs) where
 
 module _ (declines : ℕ → Bool) (nodes : List Node) (variables : List (List ℕ)) where
   pub entries_frame : (f g : Frame) (kvs : List (TextBytes × Held)) → All (IsEntryIn nodes) kvs → list_all (λ (kv : TextBytes × Held). is_name kv.0) kvs ≡ true → all_of (check_entry f.axes) (map (with_key nodes) kvs) ≡ Ok tt → all_of (check_place f.axes) (map (with_key nodes) kvs) ≡ Ok tt
-      → all_of check_numbers (map (with_key nodes) kvs) ≡ Ok tt → entries_in declines nodes variables f kvs ≡ Ok g → IsFrame f.axes f.coords → IsFrame g.axes g.coords
+      → all_of check_numbers (map (with_key nodes) kvs) ≡ Ok tt → entries_in declines nodes variables f kvs ≡ Ok g → IsFrame f.axes f.coords → Holds variables f g
   unfolding entries_in entry_in
   entries_frame f g [] inside named checked placed fits told frame =
       let same : f ≡ g = cc in
-      subst (λ (h : Frame). IsFrame h.axes h.coords) same frame
+      subst (Holds variables f) same (frame, λ all. all)
   entries_frame f g (kv ∷ kvs) inside named checked placed fits told frame =
       let p = first_passes (check_entry f.axes (with_key nodes kv)) _ tt checked in
       let q = first_passes (check_place f.axes (with_key nodes kv)) _ tt placed in
@@ -408,10 +465,12 @@ module _ (declines : ℕ → Bool) (nodes : List Node) (variables : List (List �
       let t = and_parts (is_name kv.0) (list_all (λ (kv : TextBytes × Held). is_name kv.0) kvs) named in
       let whole = whole_in nodes kv.1 (All-head (IsEntryIn nodes) kv kvs inside) in
       by (with_entry variables f (with_key nodes kv)) (computed declines kv.1) refl told (λ h is. entry_frame variables f h (with_key nodes kv) whole t.0 p.0 q.0 n.0 is frame)
-      (λ h s on. entries_frame h g kvs (All-tail (IsEntryIn nodes) kv kvs inside) t.1 (entries_still h.axes f.axes s.names (map (with_key nodes) kvs) ∙ p.1) (places_still h.axes f.axes s.names (map (with_key nodes) kvs) ∙ q.1) n.1 on s.frame)
+      (λ h s on.
+      let r = entries_frame h g kvs (All-tail (IsEntryIn nodes) kv kvs inside) t.1 (entries_still h.axes f.axes s.names (map (with_key nodes) kvs) ∙ p.1) (places_still h.axes f.axes s.names (map (with_key nodes) kvs) ∙ q.1) n.1 on s.frame in
+      (r.0, λ all. r.1 (s.apart all)))
     where
       by : (r : Result Frame Fault) (c : Result (Unit {0}) CallFault) → with_entry variables f (with_key nodes kv) ≡ r → ((refused r >>= λ h. c >>= λ u. Ok h) >>= λ h. entries_in declines nodes variables h kvs) ≡ Ok g
-          → ((h : Frame) → with_entry variables f (with_key nodes kv) ≡ Ok h → Stays f h) → ((h : Frame) → Stays f h → entries_in declines nodes variables h kvs ≡ Ok g → IsFrame g.axes g.coords) → IsFrame g.axes g.coords
+          → ((h : Frame) → with_entry variables f (with_key nodes kv) ≡ Ok h → Stays variables f h) → ((h : Frame) → Stays variables f h → entries_in declines nodes variables h kvs ≡ Ok g → Holds variables f g) → Holds variables f g
       by (Ok h) (Ok u) is told here rest = rest h (here h is) told
       by (Ok h) (Err e) is told here rest = absurd cc
       by (Err e) c is told here rest = absurd cc

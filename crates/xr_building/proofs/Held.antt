@@ -24,12 +24,12 @@ use Rattle.xr_building.specs.Entries.{array_assigned, entries_in, frame_in, refu
 use Rattle.xr_building.specs.Frames.{IsFrame, IsOpenAxis}
 use Rattle.xr_building.specs.Puts.{after, over}
 use Rattle.xr_building.proofs.After.{after_sizes}
-use Rattle.xr_building.proofs.Framed.{entries_frame}
+use Rattle.xr_building.proofs.Framed.{entries_frame, Holds}
 
 -- ---- what a call leaves
 
 pub frame_frame : (declines : ℕ → Bool) (nodes : List Node) (variables : List (List ℕ)) (f g : Frame) (args : Args) → frame_in declines nodes variables f args ≡ Ok g → AreArgsIn nodes args → list_all (λ (kv : TextBytes × Held). is_name kv.0) args.keyed.items ≡ true
-    → IsFrame f.axes f.coords → IsFrame g.axes g.coords
+    → IsFrame f.axes f.coords → Holds variables f g
 unfolding frame_in
 frame_frame declines nodes variables f g args told inside named frame =
     by (unless (length args.plain.items == 0) BadArgument) (all_of (check_entry f.axes) kvs) (all_of (check_place f.axes) kvs) (entries_in declines nodes variables f args.keyed.items) (all_of check_numbers kvs) refl refl refl refl told
@@ -38,10 +38,10 @@ frame_frame declines nodes variables f g args told inside named frame =
     kvs = map (with_key nodes) args.keyed.items
 
     by : (p c q : Result (Unit {0}) Fault) (w : Result Frame CallFault) (n : Result (Unit {0}) Fault) → all_of (check_entry f.axes) kvs ≡ c → all_of (check_place f.axes) kvs ≡ q → entries_in declines nodes variables f args.keyed.items ≡ w → all_of check_numbers kvs ≡ n
-        → (refused p >>= λ a. refused c >>= λ b. refused q >>= λ c. w >>= λ h. refused n >>= λ d. Ok h) ≡ Ok g → IsFrame g.axes g.coords
+        → (refused p >>= λ a. refused c >>= λ b. refused q >>= λ c. w >>= λ h. refused n >>= λ d. Ok h) ≡ Ok g → Holds variables f g
     by (Ok u) (Ok v) (Ok x) (Ok h) (Ok y) checked placed is fits told =
         let same : h ≡ g = cc in
-        subst (λ (h : Frame). IsFrame h.axes h.coords) same (entries_frame declines nodes variables f h args.keyed.items inside.keyed named checked placed fits is frame)
+        subst (Holds variables f) same (entries_frame declines nodes variables f h args.keyed.items inside.keyed named checked placed fits is frame)
     by (Err e) c q w n checked placed is fits told = absurd cc
     by (Ok u) (Err e) q w n checked placed is fits told = absurd cc
     by (Ok u) (Ok v) (Err e) w n checked placed is fits told = absurd cc
@@ -91,7 +91,7 @@ module _ (declines : ℕ → Bool) (nodes : List Node) (a : DataArray) (args : A
   unfolding array_assigned
   array_told ps axes coords same told is inside named =
       let frame = frame_frame declines nodes [] start (after start ps) args told inside named (record { each = open_axes a.axes is.formed.axes.each; axes_distinct = is.formed.axes.distinct; over = is.formed.coords; distinct = is.formed.distinct }) in
-      subst ends (sym same) (ap (λ r. r >>= λ f. Ok (record (array_in nodes a) { axes = f.axes; coords = f.coords })) told, array_stands nodes a (after start ps).axes (after start ps).coords is frame (after_sizes start ps))
+      subst ends (sym same) (ap (λ r. r >>= λ f. Ok (record (array_in nodes a) { axes = f.axes; coords = f.coords })) told, array_stands nodes a (after start ps).axes (after start ps).coords is frame.0 (after_sizes start ps))
 
   pub array_fails : (e : CallFault) → frame_in declines nodes [] start args ≡ Err e → array_assigned declines nodes a args ≡ Err e
   unfolding array_assigned

@@ -86,9 +86,6 @@ all_seen (c ∷ cs) all =
 pub seen_are : (masked : Bool) (cells : List (Option ℤ)) → AreSeen masked cells → masked ≡ false → hidden (map number_or_zero cells) None ≡ cells
 seen_are masked cells seen bare = all_seen cells (seen bare)
 
-pub mask-length : (cells : List (Option ℤ)) → length (map mask_byte cells) ≡ length cells
-mask-length cells = length-map cells mask_byte
-
 -- ---- elements of a kind
 
 fits_in : (k : DType) (c : Option ℤ) → fits_kind k c ≡ true → IsCell k c

@@ -12,12 +12,10 @@ use Rattle.xr_types.specs.declared.fault.CallFault.{CallFault}
 use Rattle.xr_types.specs.declared.fault.CallFault.TheVariants.{Refused, Declined, NoMemory}
 use Rattle.xr_arrays.specs.declared.node.Node.{Node}
 use Rattle.xr_defs.specs.declared.value.Coord.{Coord}
-use Rattle.xr_types.specs.Names.{among}
-use Rattle.xr_types.specs.Names.{are_distinct}
+use Rattle.xr_types.specs.Names.{among, are_distinct, axis_names, shape_over}
 use Rattle.xr_defs.specs.Limits.{most_variables}
 use Rattle.xr_types.specs.Results.{◌>>=◌, unless, Answers}
 use Rattle.xr_defs.specs.Values as of
-use Rattle.xr_types.specs.Names.{axis_names, shape_over}
 use Rattle.xr_defs.specs.Selecting.{axis_called, check_set}
 use Rattle.xr_defs.specs.Building.{Frame, with_frame}
 use Rattle.xr_defs.specs.Parts.{without_idle}
@@ -38,7 +36,7 @@ use Rattle.xr_building.specs.Entries.{refused, frame_in, set_assigned, Follows, 
 use Rattle.xr_building.specs.Puts.{after, over}
 use Rattle.xr_building.proofs.After.{after_names, after_sizes}
 use Rattle.xr_building.proofs.Called.{sizes_alike}
-use Rattle.xr_building.proofs.Framed.{unless_holds}
+use Rattle.xr_building.proofs.Framed.{unless_holds, Holds}
 use Rattle.xr_building.proofs.Held.{dimensions, frame_frame, open_axes}
 use Rattle.xr_building.proofs.Idle.{axes_in, dims_have, idle_axes, idle_coords, idle_formed, idle_vars, nodes_left, IsLoose}
 use Rattle.xr_building.proofs.Within.{set_within}
@@ -105,15 +103,17 @@ module _ (declines : ℕ → Bool) (nodes : List Node) (s : Dataset) (args : Arg
   pub set_fails : (e : CallFault) → reached ≡ Err e → set_assigned declines nodes s args ≡ Err e
   set_fails e told = assigned_is ∙ ap ends told
 
-  module _ (ps : List Put) (told : reached ≡ Ok (after start ps)) (is : IsDatasetIn nodes s) (inside : AreArgsIn nodes args) (named : list_all (λ (kv : TextBytes × Held). is_name kv.0) args.keyed.items ≡ true)
-      (apart : are_distinct (axis_names (labelled (after start ps).axes) ++ (names_of (after start ps).coords ++ kept.names_of s.vars)) ≡ true) where
+  module _ (ps : List Put) (told : reached ≡ Ok (after start ps)) (is : IsDatasetIn nodes s) (inside : AreArgsIn nodes args) (named : list_all (λ (kv : TextBytes × Held). is_name kv.0) args.keyed.items ≡ true) where
     abbrev d : Frame
     d = after start ps
 
-    frame : IsFrame d.axes d.coords
-    frame =
+    stays : Holds (kept.names_of s.vars) start d
+    stays =
         frame_frame declines nodes (kept.names_of s.vars) start d args told inside named
         (record { each = open_axes s.axes is.formed.axes.each; axes_distinct = is.formed.axes.distinct; over = is.formed.coords; distinct = is.formed.coords_distinct })
+
+    frame : IsFrame d.axes d.coords
+    frame = stays.0
 
     vars_on : AllByRecursion (IsVariable d.axes) (map (variable_in nodes) s.vars)
     vars_on = vars_alike d.axes s.axes (after_names start ps) (after_sizes start ps) (map (variable_in nodes) s.vars) is.formed.vars
@@ -135,7 +135,9 @@ module _ (declines : ℕ → Bool) (nodes : List Node) (s : Dataset) (args : Arg
           coords = frame.over;
           vars = vars_on;
           coords_distinct = frame.distinct;
-          vars_distinct = ap (λ ns. are_distinct (axis_names (labelled d.axes) ++ (names_of d.coords ++ ns))) (names_in nodes s.vars) ∙ apart;
+          vars_distinct =
+              ap (λ ns. are_distinct (axis_names (labelled d.axes) ++ (names_of d.coords ++ ns))) (names_in nodes s.vars)
+              ∙ stays.1 (ap (λ ns. are_distinct (axis_names (labelled s.axes) ++ (names_of s.coords ++ ns))) (sym (names_in nodes s.vars)) ∙ is.formed.vars_distinct);
           attrs = is.formed.attrs;
         }
 
@@ -177,24 +179,20 @@ module _ (declines : ℕ → Bool) (nodes : List Node) (s : Dataset) (args : Arg
       by (Declined n) is = set_fails (Declined n) is
       by NoMemory is = tt
 
-  module _ (ps : List Put) (axes : List Axis) (coords : List Coord) (same : over axes coords ≡ after start ps) (told : reached ≡ Ok (after start ps)) (is : IsDatasetIn nodes s) (inside : AreArgsIn nodes args) (named : list_all (λ (kv : TextBytes × Held). is_name kv.0) args.keyed.items ≡ true)
-      (apart : are_distinct (axis_names (labelled axes) ++ (names_of coords ++ kept.names_of s.vars)) ≡ true) where
+  module _ (ps : List Put) (axes : List Axis) (coords : List Coord) (same : over axes coords ≡ after start ps) (told : reached ≡ Ok (after start ps)) (is : IsDatasetIn nodes s) (inside : AreArgsIn nodes args) (named : list_all (λ (kv : TextBytes × Held). is_name kv.0) args.keyed.items ≡ true) where
     abbrev few_at : Frame → Result (Unit {0}) Fault
     few_at h = unless (nat_le (length h.coords + length s.vars) most_variables) TooLarge
-
-    apart_then : are_distinct (axis_names (labelled (after start ps).axes) ++ (names_of (after start ps).coords ++ kept.names_of s.vars)) ≡ true
-    apart_then = subst (λ (h : Frame). are_distinct (axis_names (labelled h.axes) ++ (names_of h.coords ++ kept.names_of s.vars)) ≡ true) same apart
 
     abbrev Ended : Frame → Type 0
     Ended h = (set_assigned declines nodes s args ≡ Ok (dataset_in nodes (reframed_set s (filter (is_held h.coords s.vars) h.axes) h.coords))) × IsDatasetIn nodes (reframed_set s (filter (is_held h.coords s.vars) h.axes) h.coords)
 
     pub set_at : few_at (over axes coords) ≡ Ok (tt {0}) → Ended (over axes coords)
-    set_at few = subst Ended (sym same) (set_told ps told is inside named apart_then (ap few_at (sym same) ∙ few))
+    set_at few = subst Ended (sym same) (set_told ps told is inside named (ap few_at (sym same) ∙ few))
 
     pub follow_few : (e : CallFault) (r : Result Dataset CallFault) → r ≡ Err e → Answers (λ (u : Unit {0}). u) (Err e) (few_at (over axes coords)) → FollowsSet nodes r (set_assigned declines nodes s args)
     follow_few e r here many = subst (λ q. FollowsSet nodes q (set_assigned declines nodes s args)) (sym here) (by e many)
       where
         by : (e : CallFault) → Answers (λ (u : Unit {0}). u) (Err e) (few_at (over axes coords)) → FollowsSet nodes (Err e) (set_assigned declines nodes s args)
-        by (Refused f) beyond = set_beyond ps told is inside named apart_then f (ap few_at (sym same) ∙ beyond)
+        by (Refused f) beyond = set_beyond ps told is inside named f (ap few_at (sym same) ∙ beyond)
         by (Declined n) beyond = absurd beyond
         by NoMemory beyond = tt

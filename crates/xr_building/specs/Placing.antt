@@ -1,18 +1,14 @@
--- Arrays in their places, and numbers that 64 bits hold.
-use Rattle.std.specs.Prelude.{◌==◌, ℕ, Bool, true, not, List, Result, Ok, if◌then◌else◌}
-use Rattle.std.specs.List.{list_all}
+-- Arrays in their places.
+use Rattle.std.specs.Prelude.{◌≡◌, ◌==◌, ℕ, Bool, false, not, List, length, Result, Ok, if◌then◌else◌}
 use Rattle.xr_types.specs.declared.axis.LabelList.TheVariants.{Numbers}
 use Rattle.xr_types.specs.declared.fault.Fault.{Fault}
 use Rattle.xr_types.specs.declared.fault.Fault.TheVariants.{SizeConflict, DuplicateName}
-use Rattle.xr_types.specs.declared.kind.DType.TheVariants as kinds
-use Rattle.xr_types.specs.Kinds.{in_range}
 use Rattle.xr_types.specs.Names.{among}
 use Rattle.xr_types.specs.Results.{◌>>=◌, unless, all_of}
 use Rattle.xr_defs.specs.declared.value.Content.TheVariants as contents
-use Rattle.xr_defs.specs.Meanings.{Value, Number, Sequence}
 use Rattle.xr_defs.specs.Selecting.{axis_called}
 use Rattle.xr_defs.specs.Values.{DataArray, array_of, present}
-use Rattle.xr_defs.specs.Building.{Frame, check_axis, frame_labelled, is_dimension, label_total, numbers_in, with_coord}
+use Rattle.xr_defs.specs.Building.{Frame, check_axis, frame_labelled, is_dimension, label_total, with_coord}
 use Rattle.xr_types.specs.declared.fault.CallFault.{CallFault}
 use Rattle.xr_types.specs.declared.fault.CallFault.TheVariants.{Declined}
 use Rattle.xr_arrays.specs.declared.node.Node.{Node}
@@ -40,11 +36,6 @@ abbrev pub array_told : (ℕ → Bool) → List Node → List (List ℕ) → Fra
 array_told declines nodes variables f name a =
     refused (is_free variables name (array_checks f name (array_in nodes a))) >>= λ u. unless (not (declines a.node)) (Declined a.node) >>= λ w. Ok (array_put f name (array_in nodes a))
 
-abbrev pub number_fits : Value → Bool
-number_fits (Number n) = in_range kinds.Int64 n
-number_fits v = true
-
-abbrev pub fits_whole : Value → Bool
-fits_whole (Number n) = in_range kinds.Int64 n
-fits_whole (Sequence vs) = list_all (in_range kinds.Int64) (numbers_in vs)
-fits_whole v = true
+-- labels aren't masked, and lie along one dimension
+abbrev pub IsAlone : Held → Type 0
+IsAlone a = (a.masked ≡ false) × (length a.axes ≡ 1)

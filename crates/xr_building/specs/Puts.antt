@@ -1,7 +1,8 @@
 -- What entries come to, and frames with it: labels of an axis, or a coordinate in the place of the one of its name, or behind.
-use Rattle.std.specs.Prelude.{ℕ, ℤ, List, [], ◌∷◌, map, false, Option, Some, None, Result, Ok, if◌then◌else◌}
+use Rattle.std.specs.Prelude.{ℕ, ℤ, Bool, true, false, List, [], ◌∷◌, map, Option, Some, None, Result, Ok, if◌then◌else◌}
+use Rattle.std.specs.Option.{option_or}
 use Rattle.std.specs.Str.{bytes_eq}
-use Rattle.std.specs.List.{position}
+use Rattle.std.specs.List.{list_all, position}
 use Rattle.xr_types.specs.declared.axis.Axis.{Axis}
 use Rattle.xr_types.specs.declared.axis.Labels.{Labels}
 use Rattle.xr_types.specs.declared.axis.LabelList.TheVariants as lists
@@ -9,9 +10,11 @@ use Rattle.xr_types.specs.declared.kind.DType.TheVariants as kinds
 use Rattle.xr_defs.specs.declared.value.Content.TheVariants as contents
 use Rattle.xr_defs.specs.declared.value.Coord.{Coord}
 use Rattle.xr_types.specs.declared.fault.Fault.{Fault}
+use Rattle.xr_types.specs.Kinds.{in_range}
 use Rattle.xr_types.specs.Results.{◌>>=◌}
+use Rattle.xr_defs.specs.Meanings.{Value, Number, Sequence}
 use Rattle.xr_defs.specs.Selecting.{axis_called}
-use Rattle.xr_defs.specs.Building.{Frame, frame_labelled, with_coord}
+use Rattle.xr_defs.specs.Building.{Frame, frame_labelled, numbers_in, with_coord}
 use Rattle.xr_building.specs.declared.draft.Draft.{Draft}
 use Rattle.xr_building.specs.declared.puts.NewLabels.{NewLabels}
 use Rattle.xr_building.specs.declared.puts.NewLabels.TheVariants as new
@@ -58,10 +61,27 @@ labels_at name (puts.Labels own l) = if bytes_eq name own then Some l else None
 labels_at name (puts.Number own n) = None
 labels_at name (puts.Coord c) = None
 
-abbrev pub last_labels : List ℕ → List Put → Option NewLabels
-last_labels name [] = None
-last_labels name (p ∷ ps) = elim (last_labels name ps) [ Some l ↦ Some l | None ↦ labels_at name p ]
+-- those of the last put on this axis, or these
+abbrev pub last_labels : List ℕ → Option NewLabels → List Put → Option NewLabels
+last_labels name o [] = o
+last_labels name o (p ∷ ps) = last_labels name (option_or (labels_at name p) o) ps
 
 abbrev pub labels_or : Option NewLabels → Option Labels → Option Labels
 labels_or None own = own
 labels_or (Some l) own = Some (labels_of l)
+
+-- ---- numbers that 64 bits hold
+
+abbrev pub labels_fit : NewLabels → Bool
+labels_fit (new.Numbers ns) = list_all (in_range kinds.Int64) ns
+labels_fit (new.Labels l) = true
+
+abbrev pub put_fits : Put → Bool
+put_fits (puts.Labels name l) = labels_fit l
+put_fits (puts.Number name n) = in_range kinds.Int64 n
+put_fits (puts.Coord c) = true
+
+abbrev pub fits_whole : Value → Bool
+fits_whole (Number n) = in_range kinds.Int64 n
+fits_whole (Sequence vs) = list_all (in_range kinds.Int64) (numbers_in vs)
+fits_whole v = true

@@ -1,5 +1,5 @@
 //! Whether an array's axis has the size and the labels of the one that it stands for.
-ghost use Rattle.std.specs.Prelude.{◌≡◌, ◌<◌, ◌&&◌, ◌==◌, length, pos, map, get_or, option_map};
+ghost use Rattle.std.specs.Prelude.{◌≡◌, ◌<◌, ◌&&◌, ◌==◌, length, pos, map, get_or, None};
 ghost use Rattle.xr_types.specs.declared.axis.Label.TheVariants as label;
 ghost use Rattle.xr_arrays.specs.Labels.{labels_of, same};
 ghost use Rattle.xr_types.specs.Results.{Answers};
@@ -7,9 +7,9 @@ ghost use Rattle.xr_defs.specs.Building as of;
 ghost use Rattle.xr_types.specs.declared.axis.LabelList.TheVariants as lists;
 ghost use Rattle.xr_types.specs.declared.kind.DType.TheVariants as kinds;
 ghost use Rattle.xr_building.specs.Aligned.{are_aligned, checked_axis};
-ghost use Rattle.xr_building.specs.Puts.{labels_of as labels_put, labels_or};
+ghost use Rattle.xr_building.specs.Puts.{labels_of as labels_put, labels_or, last_labels};
 
-use crate::puts::NewLabels;
+use crate::puts::{NewLabels, Put, last_labels};
 use xr_types::{Axis, CallFault, Fault, Integers, LabelList, Labels, TextBytes};
 use xr_values::same_calendar;
 
@@ -174,12 +174,12 @@ fn is_as_put(given: &LabelList, put: &NewLabels) -> bool
 }
 
 // An axis without labels is aligned with any.
-fn are_aligned(given: &Option<Labels>, put: Option<&NewLabels>, own: &Option<Labels>) -> bool
-    ensures { result ≡ are_aligned given.now (labels_or (option_map (λ l. l.now) put.entry) own.now) }
+fn are_aligned(given: &Option<Labels>, puts: &[Put], name: &TextBytes, own: &Option<Labels>) -> bool
+    ensures { result ≡ are_aligned given.now (labels_or (last_labels name.now None puts.now) own.now) }
 {
     match given {
         None => true,
-        Some(given) => match put {
+        Some(given) => match last_labels(puts, name) {
             Some(put) => is_as_put(&given.list, put),
             None => match own {
                 Some(own) => equal_labels(&given.list, &own.list),
@@ -189,7 +189,7 @@ fn are_aligned(given: &Option<Labels>, put: Option<&NewLabels>, own: &Option<Lab
     }
 }
 
-/// Refuses an axis that can't stand for one of this size, which has the labels that are put on it, or its own.
+/// Refuses an axis that can't stand for one of this size, which has the labels that are put last on the axis of the name, or its own.
 ///
 /// # Errors
 /// `SizeConflict` for another size, then `NotAligned` for other labels.
@@ -197,15 +197,15 @@ fn are_aligned(given: &Option<Labels>, put: Option<&NewLabels>, own: &Option<Lab
 pub fn check_aligned(
     given: &Axis,
     size: u64,
-    put: Option<&NewLabels>,
+    puts: &[Put],
     own: &Option<Labels>,
 ) -> Result<(), CallFault>
-    ensures { Answers (λ u. u) result (checked_axis given.now size (labels_or (option_map (λ l. l.now) put.entry) own.now)) }
+    ensures { Answers (λ u. u) result (checked_axis given.now size (labels_or (last_labels given.now.name None puts.now) own.now)) }
 {
     if given.size != size {
         return Err(CallFault::Refused(Fault::SizeConflict));
     }
-    if are_aligned(&given.labels, put, own) {
+    if are_aligned(&given.labels, puts, &given.name, own) {
         Ok(())
     } else {
         Err(CallFault::Refused(Fault::NotAligned))

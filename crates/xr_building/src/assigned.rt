@@ -13,18 +13,17 @@ ghost use Rattle.xr_values.specs.Meaning.{given, AreArgsIn};
 ghost use Rattle.xr_values.specs.Stands.{array_in, IsArrayIn};
 ghost use Rattle.xr_values.specs.Variables.{names_of};
 ghost use Rattle.xr_building.specs.Entries.{array_assigned, frame_in, Follows, FollowsArray};
-ghost use Rattle.xr_building.specs.Puts.{after, over};
+ghost use Rattle.xr_building.specs.Puts.{after, over, put_fits};
 
 use crate::check::{check_entries, check_places};
-use crate::draft::{Draft, with_puts};
-use crate::placing::check_numbers;
+use crate::draft::{draft_of, with_puts};
 use crate::put::put_entries;
-use crate::puts::Put;
+use crate::puts::{Put, check_numbers};
 use plan_core::Compute;
-use std::alloc::{AllocError, Global};
+use std::alloc::Global;
 use std::thread::Threads;
 use xr_types::{Axis, CallFault, DeepCopy, Fault, Items};
-use xr_values::{Args, Cx, DataArray, Variable, copy_coords};
+use xr_values::{Args, Cx, DataArray, Variable};
 
 /// What the entries of a call come to over these axes, none of which has the name of one of these variables. Numbers past 64 bits come
 /// last.
@@ -44,6 +43,7 @@ pub(crate) fn assigned<R: Threads + Sync, C: Compute>(
     requires given { AreArgsIn cx.old.plan args.now }
     ensures told { (coords : List Other) → Follows (after (over axes.now coords)) result (frame_in (C.declines cx.old.compute cx.old.plan) cx.old.plan (names_of variables.now) (over axes.now coords) args.now) }
     ensures named { IfOk result (λ ps. list_all (λ (kv : Text × Held). is_name kv.0) args.now.keyed.items ≡ true) }
+    ensures fits { IfOk result (λ ps. list_all put_fits ps ≡ true) }
     ensures plan { cx.new.plan ≡ cx.old.plan }
     ensures keeps { (nodes : List Node) (n : ℕ) → C.declines cx.new.compute nodes n ≡ C.declines cx.old.compute nodes n }
 {
@@ -54,18 +54,8 @@ pub(crate) fn assigned<R: Threads + Sync, C: Compute>(
     check_entries(axes, entries)?;
     check_places(alloc, axes, entries)?;
     let puts = put_entries(rt, alloc, cx, variables, axes, entries)?;
-    check_numbers(entries)?;
+    check_numbers(puts.as_slice())?;
     Ok(puts)
-}
-
-fn draft_of(alloc: Global, array: &DataArray) -> Result<Draft, AllocError>
-    ensures axes { IfOk result (λ d. d.axes ≡ array.now.axes) }
-    ensures coords { IfOk result (λ d. d.coords ≡ array.now.coords) }
-{
-    Ok(Draft {
-        axes: array.axes.deep_copy(alloc)?,
-        coords: copy_coords(alloc, array.coords.as_slice())?,
-    })
 }
 
 #[tactic(auto, unfolding(crate::specs::Entries::array_assigned))]
@@ -83,7 +73,7 @@ fn array_with<R: Threads + Sync, C: Compute>(
     ensures plan { cx.new.plan ≡ cx.old.plan }
     ensures keeps { (nodes : List Node) (n : ℕ) → C.declines cx.new.compute nodes n ≡ C.declines cx.old.compute nodes n }
 {
-    let draft = draft_of(alloc, on)?;
+    let draft = draft_of(alloc, &on.axes, &on.coords)?;
     let puts = assigned(rt, alloc, cx, &[], on.axes.as_slice(), args)?;
     let draft = with_puts(alloc, draft, puts.as_slice())?;
     let mut array = on.deep_copy(alloc)?;

@@ -11,26 +11,14 @@ ghost use Rattle.xr_values.specs.Meaning.{given, AreArgsIn};
 ghost use Rattle.xr_values.specs.Stands.{dataset_in, IsDatasetIn};
 ghost use Rattle.xr_building.specs.Entries.{set_assigned, FollowsSet};
 
-use crate::apart::all_names;
 use crate::assigned::assigned;
 use crate::busy::busy_axes;
-use crate::draft::{Draft, with_puts};
-use crate::given::are_distinct;
+use crate::draft::{Draft, draft_of, with_puts};
 use plan_core::Compute;
-use std::alloc::{AllocError, Global};
+use std::alloc::Global;
 use std::thread::Threads;
 use xr_types::{CallFault, DeepCopy, Fault, MOST_VARIABLES};
-use xr_values::{Args, Cx, Dataset, copy_coords};
-
-fn draft_of(alloc: Global, set: &Dataset) -> Result<Draft, AllocError>
-    ensures axes { IfOk result (λ d. d.axes ≡ set.now.axes) }
-    ensures coords { IfOk result (λ d. d.coords ≡ set.now.coords) }
-{
-    Ok(Draft {
-        axes: set.axes.deep_copy(alloc)?,
-        coords: copy_coords(alloc, set.coords.as_slice())?,
-    })
-}
+use xr_values::{Args, Cx, Dataset};
 
 // Refuses more coordinates and variables together than a dataset may have.
 #[tactic(auto, unfolding(xr_types::specs::Results::unless))]
@@ -59,13 +47,9 @@ fn set_with<R: Threads + Sync, C: Compute>(
     ensures plan { cx.new.plan ≡ cx.old.plan }
     ensures keeps { (nodes : List Node) (n : ℕ) → C.declines cx.new.compute nodes n ≡ C.declines cx.old.compute nodes n }
 {
-    let draft = draft_of(alloc, on)?;
+    let draft = draft_of(alloc, &on.axes, &on.coords)?;
     let puts = assigned(rt, alloc, cx, on.vars.as_slice(), on.axes.as_slice(), args)?;
     let draft = with_puts(alloc, draft, puts.as_slice())?;
-    if !are_distinct(all_names(alloc, &draft, on.vars.as_slice())?.as_slice()) {
-        // The checks of entries let no name through that is taken.
-        return Err(CallFault::NoMemory);
-    }
     check_few(&draft, on)?;
     let axes = busy_axes(alloc, &draft, on)?;
     let mut set = on.deep_copy(alloc)?;

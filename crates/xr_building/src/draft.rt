@@ -1,23 +1,40 @@
 //! Axes and coordinates with what entries come to.
-ghost use Rattle.std.specs.Prelude.{◌≡◌, ◌<◌, length, map, IfOk, IfSome, OnOk};
+ghost use Rattle.std.specs.Prelude.{◌≡◌, ◌<◌, true, length, map, All, IfOk, IfSome, OnOk};
+ghost use Rattle.std.specs.List.{list_all};
+ghost use Rattle.xr_types.specs.Kinds.{in_range, InRange};
+ghost use Rattle.xr_types.specs.declared.kind.DType.TheVariants as kinds;
 ghost use Rattle.xr_types.specs.declared.axis.Axis.{Axis as Dimension};
 ghost use Rattle.xr_defs.specs.Building as of;
 ghost use Rattle.xr_defs.specs.Selecting.{axis_called};
-ghost use Rattle.xr_building.specs.Puts.{after, coord_place, frame_of, labels_of, number_coord, over_called, put_on};
+ghost use Rattle.xr_building.specs.Puts.{after, coord_place, frame_of, labels_fit, labels_of, number_coord, over, over_called, put_fits, put_on};
 
-use crate::axes::called;
+use crate::axes::axis_called;
 use crate::cells::array_value;
 use crate::puts::{NewLabels, Put};
 use std::alloc::{AllocError, Global};
 use xr_defs::{Content, Coord};
-use xr_types::{Axis, DType, DeepCopy, Integers, Items, LabelList, Labels, NoMemory, TextBytes};
-use xr_values::{copy_content, copy_coord};
+use xr_types::{Axis, DType, DeepCopy, Integers, Items, LabelList, Labels, TextBytes};
+use xr_values::{copy_content, copy_coord, copy_coords};
 
 /// Axes with the coordinates over them.
 #[derive(Drop)]
 pub struct Draft {
     pub axes: Items<Axis>,
     pub coords: Items<Coord>,
+}
+
+/// A copy of axes and of the coordinates over them.
+pub fn draft_of(
+    alloc: Global,
+    axes: &Items<Axis>,
+    coords: &Items<Coord>,
+) -> Result<Draft, AllocError>
+    ensures { IfOk result (λ d. frame_of d ≡ over axes.now coords.now) }
+{
+    Ok(Draft {
+        axes: axes.deep_copy(alloc)?,
+        coords: copy_coords(alloc, coords.as_slice())?,
+    })
 }
 
 // ---- labels
@@ -102,22 +119,20 @@ fn labelled(
     })
 }
 
-// Numbers of 64 bits.
-fn integers(alloc: Global, numbers: &[i128]) -> Result<Integers, NoMemory>
+fn integers(alloc: Global, numbers: &[i128]) -> Result<Integers, AllocError>
+    requires { All (InRange kinds.Int64) numbers.now }
     ensures { IfOk result (λ ns. ns ≡ numbers.now) }
 {
     let mut out = Items::new(alloc);
     for number in numbers {
-        let n = *number;
-        if n < -9_223_372_036_854_775_808 || n > 9_223_372_036_854_775_807 {
-            return Err(NoMemory);
-        }
-        out.push(n as i64)?;
+        out.push(*number as i64)?;
     }
-    Ok(Integers::signed(alloc, out)?)
+    Integers::signed(alloc, out)
 }
 
-fn labels_of(alloc: Global, labels: &NewLabels) -> Result<Labels, NoMemory>
+#[tactic(auto, using(crate::proofs::Fitting::fit_in_range))]
+fn labels_of(alloc: Global, labels: &NewLabels) -> Result<Labels, AllocError>
+    requires { labels_fit labels.now ≡ true }
     ensures { IfOk result (λ l. l ≡ labels_of labels.now) }
 {
     match labels {
@@ -125,7 +140,7 @@ fn labels_of(alloc: Global, labels: &NewLabels) -> Result<Labels, NoMemory>
             list: LabelList::Numbers(DType::Int64, integers(alloc, numbers.as_slice())?),
             attrs: Items::new(alloc),
         }),
-        NewLabels::Labels(labels) => Ok(labels.deep_copy(alloc)?),
+        NewLabels::Labels(labels) => labels.deep_copy(alloc),
     }
 }
 
@@ -134,11 +149,12 @@ fn with_labels(
     draft: &Draft,
     name: &TextBytes,
     labels: &NewLabels,
-) -> Result<Draft, NoMemory>
+) -> Result<Draft, AllocError>
+    requires { labels_fit labels.now ≡ true }
     ensures { IfOk result (λ d. frame_of d ≡ of.frame_labelled (frame_of draft.now) name.now (labels_of labels.now)) }
 {
     let labels = labels_of(alloc, labels)?;
-    Ok(labelled(alloc, draft, name, &labels)?)
+    labelled(alloc, draft, name, &labels)
 }
 
 // ---- coordinates
@@ -165,13 +181,12 @@ fn put_coord(coords: &mut Items<Coord>, coord: Coord) -> Result<(), AllocError>
     }
 }
 
-// A coordinate of one number of 64 bits.
-fn number_coord(alloc: Global, name: &TextBytes, n: i128) -> Result<Coord, NoMemory>
+// A coordinate of one number.
+#[tactic(auto, using(crate::proofs::Fitting::one_in_range))]
+fn number_coord(alloc: Global, name: &TextBytes, n: i128) -> Result<Coord, AllocError>
+    requires { in_range kinds.Int64 n ≡ true }
     ensures { IfOk result (λ c. c ≡ number_coord name.now n) }
 {
-    if n < -9_223_372_036_854_775_808 || n > 9_223_372_036_854_775_807 {
-        return Err(NoMemory);
-    }
     let cells = array_value(
         alloc,
         DType::Int64,
@@ -187,21 +202,17 @@ fn number_coord(alloc: Global, name: &TextBytes, n: i128) -> Result<Coord, NoMem
     })
 }
 
-// The checks of entries let no array through that has a dimension more.
-fn axes_called(alloc: Global, axes: &[Axis], own: &[Axis]) -> Result<Items<Axis>, NoMemory>
+fn axes_called(alloc: Global, axes: &[Axis], own: &[Axis]) -> Result<Items<Axis>, AllocError>
     ensures { IfOk result (λ xs. xs ≡ map (λ (x : Dimension). axis_called axes.now x.name) own.now) }
 {
     let mut out = Items::new(alloc);
     for axis in own {
-        match called(axes, &axis.name) {
-            Some(axis) => out.push(axis.deep_copy(alloc)?)?,
-            None => return Err(NoMemory),
-        }
+        out.push(axis_called(alloc, axes, &axis.name)?)?;
     }
     Ok(out)
 }
 
-fn over_called(alloc: Global, axes: &[Axis], coord: &Coord) -> Result<Coord, NoMemory>
+fn over_called(alloc: Global, axes: &[Axis], coord: &Coord) -> Result<Coord, AllocError>
     ensures { IfOk result (λ c. c ≡ over_called axes.now coord.now) }
 {
     let own = axes_called(alloc, axes, coord.axes.as_slice())?;
@@ -220,31 +231,32 @@ fn with_coord(draft: Draft, coord: Coord) -> Result<Draft, AllocError>
 
 // ---- both
 
-fn with_put(alloc: Global, draft: Draft, put: &Put) -> Result<Draft, NoMemory>
+fn with_put(alloc: Global, draft: Draft, put: &Put) -> Result<Draft, AllocError>
+    requires { put_fits put.now ≡ true }
     ensures { IfOk result (λ d. frame_of d ≡ put_on (frame_of draft) put.now) }
 {
     match put {
         Put::Labels(name, labels) => with_labels(alloc, &draft, name, labels),
         Put::Number(name, n) => {
             let coord = number_coord(alloc, name, *n)?;
-            Ok(with_coord(draft, coord)?)
+            with_coord(draft, coord)
         }
         Put::Coord(coord) => {
             let coord = over_called(alloc, draft.axes.as_slice(), coord)?;
-            Ok(with_coord(draft, coord)?)
+            with_coord(draft, coord)
         }
     }
 }
 
-/// Axes and coordinates with these puts, whose numbers 64 bits hold.
-pub fn with_puts(alloc: Global, draft: Draft, puts: &[Put]) -> Result<Draft, NoMemory>
+/// Axes and coordinates with these puts.
+#[tactic(auto, using(crate::proofs::Fitting::each_fits))]
+pub fn with_puts(alloc: Global, draft: Draft, puts: &[Put]) -> Result<Draft, AllocError>
+    requires { list_all put_fits puts.now ≡ true }
     ensures { IfOk result (λ d. frame_of d ≡ after (frame_of draft) puts.now) }
 {
-    match puts {
-        [] => Ok(draft),
-        [put, rest @ ..] => {
-            let draft = with_put(alloc, draft, put)?;
-            with_puts(alloc, draft, rest)
-        }
+    let mut draft = draft;
+    for put in puts {
+        draft = with_put(alloc, draft, put)?;
     }
+    Ok(draft)
 }

@@ -1,14 +1,16 @@
 //! Labels that are given: lists of numbers or of texts, times, and the cells of arrays.
-ghost use Rattle.std.specs.Prelude.{◌≡◌, [], false, List, Ok, IfOk};
+ghost use Rattle.std.specs.Prelude.{◌≡◌, [], true, false, List, Ok, map, IfOk, MatchOption};
+ghost use Rattle.std.specs.List.{list_all};
 ghost use Rattle.xr_arrays.specs.declared.node.Node.{Node};
 ghost use Rattle.xr_arrays.specs.Nodes.{value as value_of};
 ghost use Rattle.xr_types.specs.Results.{Answers};
-ghost use Rattle.xr_defs.specs.Meanings.{Array, Sequence};
+ghost use Rattle.xr_defs.specs.Meanings.{Array, Number, Sequence};
 ghost use Rattle.xr_defs.specs.Building as of;
 ghost use Rattle.xr_defs.specs.Parts as parts;
 ghost use Rattle.xr_values.specs.Meaning.{meaning, all_values};
 ghost use Rattle.xr_values.specs.Stands.{array_in, IsArrayIn};
-ghost use Rattle.xr_building.specs.Puts.{labels_of, texts_put};
+ghost use Rattle.xr_building.specs.Entries.{IsPlain};
+ghost use Rattle.xr_building.specs.Puts.{fits_whole, labels_fit, labels_of, texts_put};
 
 use crate::check::{are_numbers, are_texts};
 use crate::puts::NewLabels;
@@ -16,18 +18,27 @@ use std::alloc::{AllocError, Global};
 use stored_cells::as_typed;
 use xr_arguments::texts_in;
 use xr_arrays::ArrayValue;
-use xr_types::{CallFault, DeepCopy, Fault, Items, LabelList, Labels, NoMemory, Shared};
+use xr_types::{CallFault, DeepCopy, Fault, Items, LabelList, Labels, Shared};
 use xr_values::{DataArray, Value, integers_of};
 
-// The numbers of a list of numbers alone.
-fn numbers_in(alloc: Global, list: &[Value]) -> Result<Items<i128>, NoMemory>
+#[tactic(auto, using(xr_arguments::proofs::Variants::is_number, xr_values::proofs::Meaning::meaning_out))]
+fn number_in(value: &Value) -> Option<i128>
+    ensures { (nodes : List Node) → MatchOption result (of.is_number (meaning nodes value.now) ≡ false) (λ n. meaning nodes value.now ≡ Number n) }
+{
+    match value {
+        Value::Number(n) => Some(*n),
+        _ => None,
+    }
+}
+
+fn numbers_in(alloc: Global, list: &[Value]) -> Result<Items<i128>, AllocError>
+    requires { (nodes : List Node) → list_all of.is_number (map (meaning nodes) list.now) ≡ true }
     ensures { (nodes : List Node) → IfOk result (λ ns. ns ≡ of.numbers_in (all_values nodes list.now)) }
 {
     let mut numbers = Items::new(alloc);
     for value in list {
-        match value {
-            Value::Number(n) => numbers.push(*n)?,
-            _ => return Err(NoMemory),
+        if let Some(n) = number_in(value) {
+            numbers.push(n)?;
         }
     }
     Ok(numbers)
@@ -44,7 +55,8 @@ fn plain(alloc: Global, list: LabelList) -> Labels
 }
 
 fn text_labels(alloc: Global, list: &[Value]) -> Result<NewLabels, CallFault>
-    ensures { (nodes : List Node) → Answers labels_of result (texts_put (parts.texts_in (all_values nodes list.now))) }
+    ensures answers { (nodes : List Node) → Answers labels_of result (texts_put (parts.texts_in (all_values nodes list.now))) }
+    ensures fits { IfOk result (λ l. labels_fit l ≡ true) }
 {
     let texts = texts_in(alloc, list)?;
     let texts = Shared::of(alloc, texts)?;
@@ -52,7 +64,8 @@ fn text_labels(alloc: Global, list: &[Value]) -> Result<NewLabels, CallFault>
 }
 
 fn list_labels(alloc: Global, list: &[Value]) -> Result<NewLabels, CallFault>
-    ensures { (nodes : List Node) → Answers labels_of result (of.labels_given (Sequence (all_values nodes list.now))) }
+    ensures answers { (nodes : List Node) → Answers labels_of result (of.labels_given (Sequence (all_values nodes list.now))) }
+    ensures fits { (nodes : List Node) → IfOk result (λ l. labels_fit l ≡ fits_whole (Sequence (all_values nodes list.now))) }
 {
     if are_numbers(list) {
         let numbers = numbers_in(alloc, list)?;
@@ -65,13 +78,15 @@ fn list_labels(alloc: Global, list: &[Value]) -> Result<NewLabels, CallFault>
     }
 }
 
-/// The labels that a value gives, unless it is an array.
+/// The labels that a value gives.
 ///
 /// # Errors
 /// `WrongKind` for what can't be labels.
 #[tactic(auto, using(xr_arguments::proofs::Variants::is_list, xr_arguments::proofs::Variants::is_times, xr_arguments::proofs::Variants::is_array, xr_values::proofs::Meaning::meaning_out))]
 pub fn labels_given(alloc: Global, value: &Value) -> Result<NewLabels, CallFault>
-    ensures { (nodes : List Node) → Answers labels_of result (of.labels_given (meaning nodes value.now)) }
+    requires { IsPlain value.now }
+    ensures answers { (nodes : List Node) → Answers labels_of result (of.labels_given (meaning nodes value.now)) }
+    ensures fits { (nodes : List Node) → IfOk result (λ l. labels_fit l ≡ fits_whole (meaning nodes value.now)) }
 {
     match value {
         Value::List(items) => list_labels(alloc, items.as_slice()),
@@ -79,8 +94,6 @@ pub fn labels_given(alloc: Global, value: &Value) -> Result<NewLabels, CallFault
             let times = LabelList::Times(coding.deep_copy(alloc)?, times.deep_copy(alloc)?);
             Ok(NewLabels::Labels(plain(alloc, times)))
         }
-        // The cells of an array are computed first.
-        Value::Array(_) => Err(CallFault::NoMemory),
         _ => Err(CallFault::Refused(Fault::WrongKind)),
     }
 }

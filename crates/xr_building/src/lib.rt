@@ -2,7 +2,6 @@
 #![tactic(auto)]
 
 mod aligned;
-mod apart;
 mod assigned;
 mod assigned_sets;
 mod axes;

@@ -16,5 +16,5 @@ returns-clause-told g c =
     let puts = c.in_ok-puts.puts in
     subst (λ (b : DataArray). (array_assigned declines nodes on c.args.args.now ≡ Ok (array_in nodes (reframed b d.axes d.coords))) × IsArrayIn nodes (reframed b d.axes d.coords)) (sym c.in_ok-array.ensures)
     (array_told declines nodes on c.args.args.now puts d.axes d.coords
-    (c.in_ok-draft-2.ensures ∙ ap (after (frame_of first)) c.as_slice-2.ensures ∙ ap (λ xs. after (over xs first.coords) puts) c.in_ok-draft.ensures.axes ∙ ap (λ cs. after (over on.axes cs) puts) c.in_ok-draft.ensures.coords)
+    (c.in_ok-draft-2.ensures ∙ ap (after (frame_of first)) c.as_slice-2.ensures ∙ ap (λ h. after h puts) c.in_ok-draft.ensures)
     (subst (λ xs. frame_in declines nodes [] (over xs on.coords) c.args.args.now ≡ Ok (after (over xs on.coords) puts)) c.as_slice.ensures (c.in_ok-puts.ensures.told on.coords)) c.requires.inside c.requires.given c.in_ok-puts.ensures.named)

@@ -1,8 +1,6 @@
-use Rattle.std.proofs.Common.{◌≡◌, ◌++◌, List, Ok, Err, sym, ap, subst, ◌∙◌}
+use Rattle.std.proofs.Common.{◌≡◌, List, Ok, Err, sym, ap, subst, ◌∙◌}
 use Rattle.std.proofs.lemmas.Result.{err_from_is_err_and}
 use Rattle.xr_types.specs.declared.axis.Axis.{Axis}
-use Rattle.xr_types.specs.Names.{are_distinct, axis_names}
-use Rattle.xr_defs.specs.WellFormed.{labelled, names_of}
 use Rattle.xr_values.specs.declared.dataset.Dataset.{Dataset}
 use Rattle.xr_values.specs.declared.variable.Variable.{Variable}
 use Rattle.xr_values.specs.Stands.{dataset_in, IsDatasetIn}
@@ -21,15 +19,14 @@ returns-clause-told g c =
     let first = c.in_ok-draft.draft in
     let d = c.in_ok-draft-2.draft in
     let puts = c.in_ok-puts.puts in
-    let same = c.in_ok-draft-2.ensures ∙ ap (after (frame_of first)) c.as_slice-3.ensures ∙ ap (λ xs. after (over xs first.coords) puts) c.in_ok-draft.ensures.axes ∙ ap (λ cs. after (over on.axes cs) puts) c.in_ok-draft.ensures.coords in
+    let same = c.in_ok-draft-2.ensures ∙ ap (after (frame_of first)) c.as_slice-3.ensures ∙ ap (λ h. after h puts) c.in_ok-draft.ensures in
     let told =
     subst (λ (vs : List Variable). frame_in declines nodes (kept.names_of vs) (over on.axes on.coords) args ≡ Ok (after (over on.axes on.coords) puts)) c.as_slice.ensures.variables
     (subst (λ xs. frame_in declines nodes (kept.names_of c.as_slice.result.now) (over xs on.coords) args ≡ Ok (after (over xs on.coords) puts)) c.as_slice-2.ensures (c.in_ok-puts.ensures.told on.coords))
     in
-    let apart = ap are_distinct (sym (c.as_slice-6.ensures ∙ c.in_ok-all_names.ensures ∙ ap (λ (vs : List Variable). axis_names (labelled d.axes) ++ (names_of d.coords ++ kept.names_of vs)) c.as_slice-4.ensures.variables)) ∙ sym c.if-not-are_distinct.ensures in
     subst (λ (b : Dataset). (set_assigned declines nodes on args ≡ Ok (dataset_in nodes (reframed_set b c.in_ok-axes.axes d.coords))) × IsDatasetIn nodes (reframed_set b c.in_ok-axes.axes d.coords)) (sym c.in_ok-set.ensures)
     (subst (λ (xs : List Axis). (set_assigned declines nodes on args ≡ Ok (dataset_in nodes (reframed_set on xs d.coords))) × IsDatasetIn nodes (reframed_set on xs d.coords)) (sym c.in_ok-axes.ensures)
-    (set_at declines nodes on args puts d.axes d.coords same told c.requires.inside c.requires.given c.in_ok-puts.ensures.named apart c.in_ok-check_few.ensures))
+    (set_at declines nodes on args puts d.axes d.coords same told c.requires.inside c.requires.given c.in_ok-puts.ensures.named c.in_ok-check_few.ensures))
 
 pub returns-in_err-puts-clause-told : goal.returns-in_err-puts-clause-told
 returns-in_err-puts-clause-told g c =
@@ -52,10 +49,9 @@ returns-in_err-check_few-clause-told g c =
     let d = c.in_ok-draft-2.draft in
     let puts = c.in_ok-puts.puts in
     let r = c.from_residual-in_err-check_few.result in
-    let same = c.in_ok-draft-2.ensures ∙ ap (after (frame_of first)) c.as_slice-3.ensures ∙ ap (λ xs. after (over xs first.coords) puts) c.in_ok-draft.ensures.axes ∙ ap (λ cs. after (over on.axes cs) puts) c.in_ok-draft.ensures.coords in
+    let same = c.in_ok-draft-2.ensures ∙ ap (after (frame_of first)) c.as_slice-3.ensures ∙ ap (λ h. after h puts) c.in_ok-draft.ensures in
     let told =
     subst (λ (vs : List Variable). frame_in declines nodes (kept.names_of vs) (over on.axes on.coords) args ≡ Ok (after (over on.axes on.coords) puts)) c.as_slice.ensures.variables
     (subst (λ xs. frame_in declines nodes (kept.names_of c.as_slice.result.now) (over xs on.coords) args ≡ Ok (after (over xs on.coords) puts)) c.as_slice-2.ensures (c.in_ok-puts.ensures.told on.coords))
     in
-    let apart = ap are_distinct (sym (c.as_slice-6.ensures ∙ c.in_ok-all_names.ensures ∙ ap (λ (vs : List Variable). axis_names (labelled d.axes) ++ (names_of d.coords ++ kept.names_of vs)) c.as_slice-4.ensures.variables)) ∙ sym c.if-not-are_distinct.ensures in
-    follow_few declines nodes on args puts d.axes d.coords same told c.requires.inside c.requires.given c.in_ok-puts.ensures.named apart c.in_err-check_few.field-0.0 r (let p = err_from_is_err_and r c.from_residual-in_err-check_few.ensures.1 in p.1 ∙ ap Err p.2) c.in_err-check_few.ensures
+    follow_few declines nodes on args puts d.axes d.coords same told c.requires.inside c.requires.given c.in_ok-puts.ensures.named c.in_err-check_few.field-0.0 r (let p = err_from_is_err_and r c.from_residual-in_err-check_few.ensures.1 in p.1 ∙ ap Err p.2) c.in_err-check_few.ensures

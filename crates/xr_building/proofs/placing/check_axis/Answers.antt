@@ -1,15 +1,11 @@
 use Rattle.std.proofs.Common.{sym, subst}
 use Rattle.xr_types.specs.Results.{Answers}
-use Rattle.xr_building.specs.Aligned.{checked_axis}
-use Rattle.xr_building.specs.Puts.{labels_or}
 use Rattle.xr_building.proofs.After.{axis_there, axis_gone}
 use Rattle.xr_building.proofs.placing.check_axis.Goals as goal
 
 pub returns-in-Some : goal.returns-in-Some
 returns-in-Some c = λ coords.
-    let x = c.in-Some.axis.now in
-    subst (λ told. Answers (λ u. u) c.check_aligned.result told)
-    (sym (axis_there c.args.axes.now coords c.args.puts.now c.args.own.now x c.in-Some.ensures.there c.in-Some.ensures.axis)) (subst (λ o. Answers (λ u. u) c.check_aligned.result (checked_axis c.args.own.now x.size (labels_or o x.labels))) c.last_labels.ensures c.check_aligned.ensures)
+    subst (λ told. Answers (λ u. u) c.check_aligned.result told) (sym (axis_there c.args.axes.now coords c.args.puts.now c.args.own.now c.in-Some.axis.now c.in-Some.ensures.there c.in-Some.ensures.axis)) c.check_aligned.ensures
 
 pub returns-in-None : goal.returns-in-None
 returns-in-None c = λ coords.
