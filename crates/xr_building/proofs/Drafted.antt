@@ -1,29 +1,24 @@
 -- Entries over bare axes leave them as they have to be, and as long.
-use Rattle.std.proofs.Common.{◌≡◌, ◌==◌, ℕ, ℤ, Bool, true, false, List, [], ◌∷◌, map, All, Option, Result, Ok, Err, refl, sym, ap, ◌∙◌}
+use Rattle.std.proofs.Common.{◌≡◌, ◌==◌, ℕ, Bool, true, false, List, [], ◌∷◌, Result, Ok, Err, refl, sym, ap, ◌∙◌}
 use Rattle.std.specs.Prelude.{if◌then◌else◌}
-use Rattle.std.specs.List.{list_all}
 use Rattle.xr_types.specs.declared.axis.Labels.{Labels}
 use Rattle.xr_types.specs.declared.text.TextBytes.{TextBytes}
-use Rattle.xr_types.specs.declared.kind.DType.{DType}
 use Rattle.xr_types.specs.declared.fault.Fault.{Fault}
-use Rattle.xr_types.specs.declared.fault.Fault.TheVariants.{DoesNotFit, SizeConflict}
+use Rattle.xr_types.specs.declared.fault.Fault.TheVariants.{SizeConflict}
 use Rattle.xr_types.specs.declared.fault.CallFault.{CallFault}
 use Rattle.xr_types.specs.Names.{shape_over}
-use Rattle.xr_types.specs.Results.{◌>>=◌, unless, all_of}
-use Rattle.xr_files.specs.Classic.{is_name}
+use Rattle.xr_types.specs.Results.{◌>>=◌, unless}
 use Rattle.xr_arrays.specs.declared.node.Node.{Node}
 use Rattle.xr_defs.specs.declared.value.Coord.{Coord}
 use Rattle.xr_defs.specs.Meanings.{Value as Meant}
 use Rattle.xr_defs.specs.Selecting.{axis_called}
-use Rattle.xr_defs.specs.Building.{Frame, check_entry, check_place, coordinate_given, fits_kind, frame_labelled, is_dimension, label_total, labels_given, relabelled, with_coord, with_coordinate, with_entry, with_labels}
+use Rattle.xr_defs.specs.Building.{Frame, coordinate_given, frame_labelled, is_dimension, label_total, labels_given, relabelled, with_coord, with_coordinate, with_entry, with_labels}
 use Rattle.xr_values.specs.declared.value.Value.{Value}
-use Rattle.xr_values.specs.Meaning.{with_key, IsEntryIn}
+use Rattle.xr_values.specs.Meaning.{with_key}
 use Rattle.xr_building.specs.Entries.{computed, entries_in, entry_in, refused}
-use Rattle.xr_building.specs.Frames.{IsFrame}
-use Rattle.xr_building.specs.Outlined.{check_fit}
 use Rattle.xr_building.proofs.After.{label_name, label_size}
 use Rattle.xr_building.proofs.Called.{sizes_kept}
-use Rattle.xr_building.proofs.Framed.{entries_frame, first_passes}
+use Rattle.xr_building.proofs.Framed.{first_passes}
 
 entry_sizes : (variables : List (List ℕ)) (f g : Frame) (kv : List ℕ × Meant) → with_entry variables f kv ≡ Ok g → shape_over g.axes ≡ shape_over f.axes
 unfolding with_entry with_labels with_coordinate

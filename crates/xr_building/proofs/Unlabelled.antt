@@ -1,10 +1,8 @@
 -- Axes without labels.
-use Rattle.std.proofs.Common.{◌≡◌, ◌<◌, ◌+◌, ℕ, suc, true, List, [], ◌∷◌, ◌++◌, length, drop, get_or, None, refl, sym, ap, ◌∙◌, arith, append_assoc}
-use Rattle.std.proofs.Math.Seq.{drop-cons}
+use Rattle.std.proofs.Common.{◌≡◌, ℕ, true, List, [], ◌∷◌, length, refl, ap, ◌∙◌, arith}
 use Rattle.std.proofs.lemmas.Bool.{and_parts}
 use Rattle.std.proofs.lemmas.List.{append-nil}
 use Rattle.std.specs.List.{AllByRecursion, list_all}
-use Rattle.xr_types.specs.declared.axis.Axis.{Axis}
 use Rattle.xr_files.specs.Classic.{is_name}
 use Rattle.xr_types.specs.Names.{are_distinct, axis_names, shape_over}
 use Rattle.xr_defs.specs.Building.{bare_axes}

@@ -2,7 +2,6 @@
 use Rattle.std.specs.Prelude.{◌||◌, ℕ, ℤ, Bool, List, [], length, map, Option, Some, Result, Ok}
 use Rattle.std.specs.List.{list_all}
 use Rattle.xr_types.specs.declared.text.TextBytes.{TextBytes}
-use Rattle.xr_types.specs.declared.axis.Axis.{Axis}
 use Rattle.xr_types.specs.declared.fault.Fault.{Fault}
 use Rattle.xr_types.specs.declared.fault.Fault.TheVariants.{WrongKind, BadArgument, SizeConflict, DoesNotFit}
 use Rattle.xr_types.specs.declared.fault.CallFault.{CallFault}
