@@ -92,7 +92,3 @@ module _ (declines : ℕ → Bool) (nodes : List Node) (a : DataArray) (args : A
   array_told ps axes coords same told is inside named =
       let frame = frame_frame declines nodes [] start (after start ps) args told inside named (record { each = open_axes a.axes is.formed.axes.each; axes_distinct = is.formed.axes.distinct; over = is.formed.coords; distinct = is.formed.distinct }) in
       subst ends (sym same) (ap (λ r. r >>= λ f. Ok (record (array_in nodes a) { axes = f.axes; coords = f.coords })) told, array_stands nodes a (after start ps).axes (after start ps).coords is frame.0 (after_sizes start ps))
-
-  pub array_fails : (e : CallFault) → frame_in declines nodes [] start args ≡ Err e → array_assigned declines nodes a args ≡ Err e
-  unfolding array_assigned
-  array_fails e told = ap (λ r. r >>= λ f. Ok (record (array_in nodes a) { axes = f.axes; coords = f.coords })) told
