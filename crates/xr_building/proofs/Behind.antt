@@ -4,7 +4,7 @@ use Rattle.std.specs.Prelude.{if◌then◌else◌}
 use Rattle.std.specs.Str.{bytes_eq}
 use Rattle.xr_defs.specs.declared.value.Coord.{Coord}
 use Rattle.xr_defs.specs.Building.{with_coord}
-use Rattle.xr_building.specs.Found.{coord_place}
+use Rattle.xr_building.specs.Puts.{coord_place}
 use Rattle.xr_values.proofs.Places as places
 use Rattle.xr_values.proofs.Places.{put_over}
 

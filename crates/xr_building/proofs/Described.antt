@@ -1,5 +1,6 @@
 -- An array that is written out has what its node and its limits ask.
 use Rattle.std.proofs.Common.{◌≡◌, ◌≢◌, ℕ, ℤ, zero, suc, Bool, true, false, ◌||◌, List, [], ◌∷◌, map, length, All, Option, refl, sym, ap, subst, ◌∙◌}
+use Rattle.std.proofs.Math.Bool.{or_comm}
 use Rattle.std.proofs.lemmas.Bool.{and_parts, or_parts}
 use Rattle.std.proofs.lemmas.List.{length-map}
 use Rattle.std.proofs.lemmas.List.Elements.{All-nil, All-cons}
@@ -11,9 +12,8 @@ use Rattle.xr_types.specs.declared.kind.DType.TheVariants as kinds
 use Rattle.xr_defs.specs.declared.value.Coord.{Coord}
 use Rattle.xr_arrays.specs.Arrays.{IsCell}
 use Rattle.xr_files.specs.Classic.{is_name}
-use Rattle.xr_types.specs.Names.{are_distinct}
+use Rattle.xr_types.specs.Names.{are_distinct, shape_over}
 use Rattle.xr_types.specs.Points.{size}
-use Rattle.xr_types.specs.Names.{shape_over}
 use Rattle.xr_defs.specs.Meanings as of
 use Rattle.xr_defs.specs.Meanings.{Value}
 use Rattle.xr_defs.specs.Building.{bare_axes, elements, element_cell, fits_kind, first_item, is_missing, is_nested, is_regular, is_truth_cell, is_whole_cell, nested_shape, suits}
@@ -51,35 +51,20 @@ suits_same kinds.UInt64 vs = refl
 pub range_from : (k : DType) (e : Elements) (vs : List Value) (cells : List (Option ℤ)) → e ≡ gathered vs → cells ≡ e.cells → k ≢ kinds.Char → suits_all k e ≡ true → list_all (fits_kind k) cells ≡ true → All (IsCell k) cells
 range_from k e vs cells all look number suit fit = all_in k cells fit
 
-seen_whole : (v : Value) → is_whole_cell v ≡ true → is_missing v ≡ false → is_some (element_cell v) ≡ true
-seen_whole (of.Number n) is there = refl
-seen_whole of.Missing is there = absurd cc
-seen_whole of.Absent is there = absurd cc
-seen_whole (of.Truth b) is there = absurd cc
-seen_whole (of.Text t) is there = absurd cc
-seen_whole (of.Sequence vs) is there = absurd cc
-seen_whole (of.Table es) is there = absurd cc
-seen_whole (of.Slice a b c) is there = absurd cc
-seen_whole (of.Array a) is there = absurd cc
-seen_whole (of.Set s) is there = absurd cc
-seen_whole (of.Times coding times) is there = absurd cc
-seen_whole (of.GroupedArray a by) is there = absurd cc
-seen_whole (of.GroupedSet s by) is there = absurd cc
-
-seen_truth : (v : Value) → is_truth_cell v ≡ true → is_missing v ≡ false → is_some (element_cell v) ≡ true
-seen_truth (of.Truth b) is there = refl
-seen_truth of.Missing is there = absurd cc
-seen_truth of.Absent is there = absurd cc
-seen_truth (of.Number n) is there = absurd cc
-seen_truth (of.Text t) is there = absurd cc
-seen_truth (of.Sequence vs) is there = absurd cc
-seen_truth (of.Table es) is there = absurd cc
-seen_truth (of.Slice a b c) is there = absurd cc
-seen_truth (of.Array a) is there = absurd cc
-seen_truth (of.Set s) is there = absurd cc
-seen_truth (of.Times coding times) is there = absurd cc
-seen_truth (of.GroupedArray a by) is there = absurd cc
-seen_truth (of.GroupedSet s by) is there = absurd cc
+seen_cell : (v : Value) → (is_whole_cell v || is_truth_cell v) ≡ true → is_missing v ≡ false → is_some (element_cell v) ≡ true
+seen_cell (of.Number n) is there = refl
+seen_cell (of.Truth b) is there = refl
+seen_cell of.Missing is there = absurd cc
+seen_cell of.Absent is there = absurd cc
+seen_cell (of.Text t) is there = absurd cc
+seen_cell (of.Sequence vs) is there = absurd cc
+seen_cell (of.Table es) is there = absurd cc
+seen_cell (of.Slice a b c) is there = absurd cc
+seen_cell (of.Array a) is there = absurd cc
+seen_cell (of.Set s) is there = absurd cc
+seen_cell (of.Times coding times) is there = absurd cc
+seen_cell (of.GroupedArray a by) is there = absurd cc
+seen_cell (of.GroupedSet s by) is there = absurd cc
 
 all_seen : (test : Value → Bool) → ((v : Value) → test v ≡ true → is_missing v ≡ false → is_some (element_cell v) ≡ true) → (vs : List Value) → list_all test vs ≡ true → list_any is_missing vs ≡ false → All (λ c. is_some c ≡ true) (map element_cell vs)
 all_seen test each [] all none = All-nil (λ c. is_some c ≡ true)
@@ -89,8 +74,8 @@ all_seen test each (v ∷ vs) all none =
     All-cons (λ c. is_some c ≡ true) (element_cell v) (map element_cell vs) (each v p.0 q.0) (all_seen test each vs p.1 q.1)
 
 seen_gathered : (vs : List Value) (whole truths : Bool) → list_all is_whole_cell vs ≡ whole → list_all is_truth_cell vs ≡ truths → (whole || truths) ≡ true → AreSeen (list_any is_missing vs) (map element_cell vs)
-seen_gathered vs true truths w t either none = all_seen is_whole_cell seen_whole vs w none
-seen_gathered vs false true w t either none = all_seen is_truth_cell seen_truth vs t none
+seen_gathered vs true truths w t either none = all_seen is_whole_cell (λ v is. seen_cell v (ap (λ b. b || is_truth_cell v) is)) vs w none
+seen_gathered vs false true w t either none = all_seen is_truth_cell (λ v is. seen_cell v (ap (λ b. is_whole_cell v || b) is ∙ or_comm (is_whole_cell v) true)) vs t none
 seen_gathered vs false false w t either none = absurd cc
 
 pub seen_from : (e : Elements) (vs : List Value) (cells : List (Option ℤ)) → e ≡ gathered vs → cells ≡ e.cells → (e.whole || e.truths) ≡ true → AreSeen e.missing cells

@@ -1,48 +1,61 @@
--- Entries over bare axes, and the checks after them.
-use Rattle.std.proofs.Common.{◌≡◌, ℕ, ℤ, Bool, List, [], map, All, Option, Result, Ok, Err, sym, ◌∙◌}
-use Rattle.std.specs.Prelude.{IfOk}
-use Rattle.std.specs.List.{list_all}
+-- Entries over bare axes leave them as they have to be, and as long.
+use Rattle.std.proofs.Common.{◌≡◌, ◌==◌, ℕ, Bool, true, false, List, [], ◌∷◌, Result, Ok, Err, refl, sym, ap, ◌∙◌}
+use Rattle.std.specs.Prelude.{if◌then◌else◌}
+use Rattle.xr_types.specs.declared.axis.Labels.{Labels}
 use Rattle.xr_types.specs.declared.text.TextBytes.{TextBytes}
-use Rattle.xr_types.specs.declared.kind.DType.{DType}
 use Rattle.xr_types.specs.declared.fault.Fault.{Fault}
-use Rattle.xr_types.specs.declared.fault.Fault.TheVariants.{DoesNotFit}
+use Rattle.xr_types.specs.declared.fault.Fault.TheVariants.{SizeConflict}
 use Rattle.xr_types.specs.declared.fault.CallFault.{CallFault}
-use Rattle.xr_arrays.specs.declared.node.Node.{Node}
-use Rattle.xr_types.specs.Results.{◌>>=◌, unless, all_of}
 use Rattle.xr_types.specs.Names.{shape_over}
-use Rattle.xr_defs.specs.Building.{Frame, check_entry, check_numbers, fits_kind}
+use Rattle.xr_types.specs.Results.{◌>>=◌, unless}
+use Rattle.xr_arrays.specs.declared.node.Node.{Node}
+use Rattle.xr_defs.specs.declared.value.Coord.{Coord}
+use Rattle.xr_defs.specs.Meanings.{Value as Meant}
+use Rattle.xr_defs.specs.Selecting.{axis_called}
+use Rattle.xr_defs.specs.Building.{Frame, coordinate_given, frame_labelled, is_dimension, label_total, labels_given, relabelled, with_coord, with_coordinate, with_entry, with_labels}
 use Rattle.xr_values.specs.declared.value.Value.{Value}
-use Rattle.xr_values.specs.Meaning.{with_key, IsEntryIn}
-use Rattle.xr_building.specs.declared.draft.Draft.{Draft}
-use Rattle.xr_building.specs.Entries.{refused, entries_in, Follows}
-use Rattle.xr_building.specs.Frames.{IsFrame}
-use Rattle.xr_building.specs.Outlined.{check_fit, draft_in, draft_put}
-use Rattle.xr_building.specs.Walk.{frame_of}
-use Rattle.xr_building.proofs.Held.{entries_span}
-use Rattle.xr_building.proofs.Walked.{both_pass, walk_ends}
+use Rattle.xr_values.specs.Meaning.{with_key}
+use Rattle.xr_building.specs.Entries.{computed, entries_in, entry_in, refused}
+use Rattle.xr_building.proofs.After.{label_name, label_size}
+use Rattle.xr_building.proofs.Called.{sizes_kept}
+use Rattle.xr_building.proofs.Framed.{first_passes}
 
-module _ (declines : ℕ → Bool) (nodes : List Node) (f : Frame) (kind : DType) (cells : List (Option ℤ)) (kvs : List (TextBytes × Value)) where
-  numbers_fit : check_fit kind cells (map (with_key nodes) kvs) ≡ Ok (tt {0}) → all_of check_numbers (map (with_key nodes) kvs) ≡ Ok (tt {0})
-  unfolding check_fit
-  numbers_fit is = (both_pass (unless (list_all (fits_kind kind) cells) DoesNotFit) (all_of check_numbers (map (with_key nodes) kvs)) is).1
+entry_sizes : (variables : List (List ℕ)) (f g : Frame) (kv : List ℕ × Meant) → with_entry variables f kv ≡ Ok g → shape_over g.axes ≡ shape_over f.axes
+unfolding with_entry with_labels with_coordinate
+entry_sizes variables f g kv told = by (is_dimension f.axes kv.0) (free _ _ told)
+  where
+    free : (r : Result Frame Fault) (t : Result (Unit {0}) Fault) → (r >>= λ h. t >>= λ u. Ok h) ≡ Ok g → r ≡ Ok g
+    free (Ok h) (Ok u) e = e
+    free (Ok h) (Err x) e = absurd cc
+    free (Err x) t e = absurd cc
 
-  pub draft_same : IsFrame f.axes f.coords → All (IsEntryIn nodes) kvs → all_of (check_entry f.axes) (map (with_key nodes) kvs) ≡ Ok (tt {0}) → draft_put declines nodes f kind cells kvs ≡ draft_in declines nodes f kind cells kvs
-  unfolding draft_put draft_in
-  draft_same frame inside checked = walk_ends declines nodes [] f kvs (check_fit kind cells (map (with_key nodes) kvs)) numbers_fit frame inside checked
+    along : (r : Result Labels Fault) → (r >>= λ l. unless (label_total l.list == (axis_called f.axes kv.0).size) SizeConflict >>= λ u. Ok (frame_labelled f kv.0 l)) ≡ Ok g → shape_over g.axes ≡ shape_over f.axes
+    along (Err e) told = absurd cc
+    along (Ok l) told =
+        let p = first_passes (unless (label_total l.list == (axis_called f.axes kv.0).size) SizeConflict) _ g told in
+        let same : frame_labelled f kv.0 l ≡ g = let q = p.1 in cc in
+        ap (λ (h : Frame). shape_over h.axes) (sym same) ∙ sizes_kept (relabelled kv.0 l) (label_name kv.0 l) (label_size kv.0 l) f.axes
 
-  -- what is drafted comes from the entries
-  pub drafted_from : (g : Frame) → draft_in declines nodes f kind cells kvs ≡ Ok g → entries_in declines nodes [] f kvs ≡ Ok g
-  unfolding draft_in
-  drafted_from g is = by (entries_in declines nodes [] f kvs) (check_fit kind cells (map (with_key nodes) kvs)) is
-    where
-      by : (w : Result Frame CallFault) (c : Result (Unit {0}) Fault) → (w >>= λ h. refused c >>= λ u. Ok h) ≡ Ok g → w ≡ Ok g
-      by (Ok h) (Ok u) is = is
-      by (Ok h) (Err e) is = absurd cc
-      by (Err e) c is = absurd cc
+    beside : (r : Result Coord Fault) → (r >>= λ c. Ok (record f { coords = with_coord f.coords c })) ≡ Ok g → shape_over g.axes ≡ shape_over f.axes
+    beside (Err e) told = absurd cc
+    beside (Ok c) told =
+        let same : record f { coords = with_coord f.coords c } ≡ g = cc in
+        ap (λ (h : Frame). shape_over h.axes) (sym same)
 
-  sizes_stay : (g : Frame) → draft_in declines nodes f kind cells kvs ≡ Ok g → shape_over g.axes ≡ shape_over f.axes
-  sizes_stay g is = (entries_span declines nodes [] f g kvs (drafted_from g is)).sizes
+    by : (b : Bool) → (if b then with_labels f kv.0 kv.1 else with_coordinate f kv.0 kv.1) ≡ Ok g → shape_over g.axes ≡ shape_over f.axes
+    by true told = along (labels_given kv.1) told
+    by false told = beside (coordinate_given f.axes kv.0 kv.1) told
 
-  pub drafted_sizes : (r : Result Draft CallFault) → Follows frame_of r (draft_put declines nodes f kind cells kvs) → IsFrame f.axes f.coords → All (IsEntryIn nodes) kvs → all_of (check_entry f.axes) (map (with_key nodes) kvs) ≡ Ok (tt {0}) → IfOk r (λ d. shape_over d.axes ≡ shape_over f.axes)
-  drafted_sizes (Ok d) told frame inside checked = sizes_stay (frame_of d) (sym (draft_same frame inside checked) ∙ told)
-  drafted_sizes (Err e) told frame inside checked = tt
+pub entries_sizes : (declines : ℕ → Bool) (nodes : List Node) (variables : List (List ℕ)) (f g : Frame) (kvs : List (TextBytes × Value)) → entries_in declines nodes variables f kvs ≡ Ok g → shape_over g.axes ≡ shape_over f.axes
+unfolding entries_in entry_in
+entries_sizes declines nodes variables f g [] told =
+    let same : f ≡ g = cc in
+    ap (λ (h : Frame). shape_over h.axes) (sym same)
+entries_sizes declines nodes variables f g (kv ∷ kvs) told =
+    by (with_entry variables f (with_key nodes kv)) (computed declines kv.1) refl told (λ h on. entries_sizes declines nodes variables h g kvs on)
+  where
+    by : (r : Result Frame Fault) (c : Result (Unit {0}) CallFault) → with_entry variables f (with_key nodes kv) ≡ r → ((refused r >>= λ h. c >>= λ u. Ok h) >>= λ h. entries_in declines nodes variables h kvs) ≡ Ok g
+        → ((h : Frame) → entries_in declines nodes variables h kvs ≡ Ok g → shape_over g.axes ≡ shape_over h.axes) → shape_over g.axes ≡ shape_over f.axes
+    by (Ok h) (Ok u) is told rest = rest h told ∙ entry_sizes variables f h (with_key nodes kv) is
+    by (Ok h) (Err e) is told rest = absurd cc
+    by (Err e) c is told rest = absurd cc

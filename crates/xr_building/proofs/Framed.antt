@@ -1,12 +1,12 @@
 -- Axes and coordinates stay as they have to be while entries are put in.
-use Rattle.std.proofs.Common.{◌≡◌, ◌==◌, ◌≤◌, ◌||◌, ◌+◌, ℕ, ℤ, suc, Bool, true, false, not, List, [], ◌∷◌, ◌++◌, length, map, get_or, Option, Some, None, Result, Ok, Err, refl, sym, ap, subst, ◌∙◌, arith, append_assoc}
+use Rattle.std.proofs.Common.{◌≡◌, ◌==◌, ◌||◌, ℕ, ℤ, Bool, true, false, not, cond, List, [], ◌∷◌, ◌++◌, length, map, All, Some, Result, Ok, Err, refl, sym, ap, subst, ◌∙◌, arith, append_assoc}
 use Rattle.std.proofs.lemmas.Bool.{or_parts, not-true, and_parts}
 use Rattle.std.proofs.lemmas.Bool.Decides.{nat_tests}
-use Rattle.std.proofs.lemmas.List.{length-map}
-use Rattle.std.proofs.lemmas.List.Elements.{All-nil, All-cons}
-use Rattle.std.specs.Prelude.{if◌then◌else◌, MatchOption, ⊤, is_some, option_map}
+use Rattle.std.proofs.lemmas.List.{append-nil, length-map}
+use Rattle.std.proofs.lemmas.List.Elements.{All-nil, All-cons, All-head, All-tail}
+use Rattle.std.specs.Prelude.{if◌then◌else◌, ⊤, is_some}
 use Rattle.std.specs.Str.{bytes_eq}
-use Rattle.std.specs.List.{AllByRecursion}
+use Rattle.std.specs.List.{AllByRecursion, list_all}
 use Rattle.xr_types.specs.Kinds.{in_range}
 use Rattle.xr_types.specs.declared.attr.Attr.{Attr}
 use Rattle.xr_types.specs.declared.axis.Axis.{Axis}
@@ -14,118 +14,106 @@ use Rattle.xr_types.specs.declared.axis.Labels.{Labels}
 use Rattle.xr_types.specs.declared.axis.LabelList.{LabelList}
 use Rattle.xr_types.specs.declared.axis.LabelList.TheVariants.{Numbers, Times, Texts}
 use Rattle.xr_types.specs.declared.kind.DType.TheVariants as kinds
+use Rattle.xr_types.specs.declared.text.TextBytes.{TextBytes}
 use Rattle.xr_types.specs.declared.fault.Fault.{Fault}
-use Rattle.xr_types.specs.declared.fault.Fault.TheVariants.{WrongKind, NoDimension, SizeConflict}
-use Rattle.xr_defs.specs.declared.value.Coord.{Coord}
+use Rattle.xr_types.specs.declared.fault.Fault.TheVariants.{WrongKind, NoDimension, SizeConflict, DoesNotFit, DuplicateName}
+use Rattle.xr_types.specs.declared.fault.CallFault.{CallFault}
 use Rattle.xr_types.specs.Results.{◌>>=◌, unless, all_of}
-use Rattle.xr_arrays.specs.Arrays.{IsCell}
-use Rattle.xr_types.specs.Names.{among}
+use Rattle.xr_types.specs.Names.{among, are_distinct, axis_names, shape_over}
 use Rattle.xr_files.specs.Classic.{is_name}
-use Rattle.xr_types.specs.Names.{are_distinct}
+use Rattle.xr_arrays.specs.declared.node.Node.{Node}
+use Rattle.xr_arrays.specs.Arrays.{IsCell}
 use Rattle.xr_arrays.specs.Labels.{labels_of}
+use Rattle.xr_defs.specs.declared.value.Content.TheVariants as contents
+use Rattle.xr_defs.specs.declared.value.Coord.{Coord}
 use Rattle.xr_defs.specs.Values as of
-use Rattle.xr_types.specs.Names.{axis_names, shape_over}
-use Rattle.xr_defs.specs.Values.{axis_position, label_count, no_axis, present}
+use Rattle.xr_defs.specs.Values.{label_count, present}
 use Rattle.xr_defs.specs.Selecting.{axis_called}
 use Rattle.xr_defs.specs.Meanings.{Value, Absent, Missing, Truth, Number, Text, Sequence, Table, Slice, Array, Set, GroupedArray, GroupedSet}
 use Rattle.xr_defs.specs.Meanings as meanings
-use Rattle.xr_defs.specs.Building.{Frame, all_values, as_labels, check_axis, check_entry, check_labels, check_coordinate, check_place, is_dimension, is_integer_kind, is_number, is_text, label_total, labels_given, numbers_in, with_coord}
+use Rattle.xr_defs.specs.Building.{Frame, all_values, as_labels, check_axis, check_entry, check_labels, check_coordinate, check_numbers, check_place, coord_relabelled, coordinate_given, frame_labelled, is_dimension, is_integer_kind, is_number, is_text, label_total, labels_given, numbers_in, relabelled, with_coord, with_coordinate, with_entry, with_labels}
 use Rattle.xr_defs.specs.Parts.{texts_in}
-use Rattle.xr_defs.specs.WellFormed.{AreAttributes, AreCells, AreLabels, IsContent, IsCoordinate, IsIndex, names_of}
+use Rattle.xr_defs.specs.WellFormed.{AreAttributes, AreCells, AreLabels, IsContent, IsCoordinate, IsDataArray, IsIndex, labelled, names_of}
+use Rattle.xr_values.specs.declared.value.Value.{Value as Held}
+use Rattle.xr_values.specs.declared.value.Value.TheOpen as held
+use Rattle.xr_values.specs.declared.value.Value.TheOpen.{Value-F}
+use Rattle.xr_values.specs.declared.value.Value.TheViews.{out-Value}
+use Rattle.xr_values.specs.Meaning.{meaning, layer, with_key, IsEntryIn, IsLayerIn, IsValueIn}
+use Rattle.xr_values.proofs.Meaning.{meaning_out, value_out}
 use Rattle.xr_values.proofs.Named.{bytes_eq_swap}
-use Rattle.xr_building.specs.Frames.{with_index, coord_with_index, IsOpenAxis, IsFrame}
+use Rattle.xr_building.specs.Entries.{computed, entries_in, entry_in, refused}
+use Rattle.xr_building.specs.Frames.{IsOpenAxis, IsFrame}
 use Rattle.xr_building.specs.Places.{is_there}
-use Rattle.xr_building.specs.Walk.{aligned, check_put, coord_given, coord_in, fit_list, fitting, held_labels, held_list, indexed, labels_in, put_fitting, sized, with_another, IsWhole}
-use Rattle.xr_building.proofs.Names.{absent_both, distinct_end, same_text}
-use Rattle.xr_building.proofs.Called.{called_kept, called_name, dimension_named, names_kept, sizes_kept}
-use Rattle.xr_building.proofs.Lists.{label_result}
-use Rattle.xr_building.proofs.Fitting.{fits_in_range, held_range, labels_kept, present_in}
+use Rattle.xr_building.specs.Puts.{number_coord, over, over_called}
+use Rattle.xr_building.proofs.After.{label_name, label_size}
+use Rattle.xr_building.proofs.Idle.{kept_absent}
+use Rattle.xr_building.proofs.Names.{absent_behind, absent_both, absent_parts, distinct_cons, distinct_parts, distinct_with, same_text}
+use Rattle.xr_building.proofs.Called.{called_cons, called_kept, called_name, dimension_named, names_kept, sizes_kept}
+use Rattle.xr_building.proofs.Fitting.{fits_in_range, fit_in_range, present_in}
 
 -- ---- labels of one axis
 
-pub called_cons : (x : Axis) (xs : List Axis) (name : List ℕ) → axis_called (x ∷ xs) name ≡ (if bytes_eq x.name name then x else axis_called xs name)
-called_cons x xs name = by (bytes_eq x.name name) (axis_position name xs)
-  where
-    by : (b : Bool) (o : Option ℕ) → elim (if b then Some 0 else option_map (λ n. n + 1) o) as (λ o. Axis) [ None ↦ no_axis | Some k ↦ get_or (x ∷ xs) k no_axis ] ≡ (if b then x else elim o as (λ o. Axis) [ None ↦ no_axis | Some k ↦ get_or xs k no_axis ])
-    by true o = refl
-    by false None = refl
-    by false (Some k) = let next : k + 1 ≡ suc k = omega arith in ap (λ n. get_or (x ∷ xs) n no_axis) next
-
-module _ (name : List ℕ) (labels : Option Labels) where
-  pub index_name : (x : Axis) → (with_index name labels x).name ≡ x.name
-  index_name x = by (bytes_eq x.name name)
-    where
-      by : (b : Bool) → (if b then record x { labels = labels } else x).name ≡ x.name
-      by true = refl
-      by false = refl
-
-  pub index_size : (x : Axis) → (with_index name labels x).size ≡ x.size
-  index_size x = by (bytes_eq x.name name)
-    where
-      by : (b : Bool) → (if b then record x { labels = labels } else x).size ≡ x.size
-      by true = refl
-      by false = refl
-
-  other_axes : (axes : List Axis) → among (axis_names axes) name ≡ false → map (with_index name labels) axes ≡ axes
+module _ (name : List ℕ) (l : Labels) where
+  other_axes : (axes : List Axis) → among (axis_names axes) name ≡ false → map (relabelled name l) axes ≡ axes
   other_axes [] absent = refl
   other_axes (x ∷ axes) absent =
       let p = or_parts (bytes_eq name x.name) (among (axis_names axes) name) absent in
-      ap (λ b. (if b then record x { labels = labels } else x) ∷ map (with_index name labels) axes) (bytes_eq_swap x.name name ∙ p.0) ∙ ap (λ xs. x ∷ xs) (other_axes axes p.1)
+      ap (λ b. (if b then record x { labels = Some l } else x) ∷ map (relabelled name l) axes) (bytes_eq_swap x.name name ∙ p.0) ∙ ap (λ xs. x ∷ xs) (other_axes axes p.1)
 
-  stay_axes : (axes : List Axis) → are_distinct (axis_names axes) ≡ true → MatchOption labels ⊤ (IsIndex (axis_called axes name).size) → AllByRecursion IsOpenAxis axes → AllByRecursion IsOpenAxis (map (with_index name labels) axes)
+  stay_axes : (axes : List Axis) → are_distinct (axis_names axes) ≡ true → IsIndex (axis_called axes name).size l → AllByRecursion IsOpenAxis axes → AllByRecursion IsOpenAxis (map (relabelled name l) axes)
   stay_axes [] distinct index all = tt
   stay_axes (x ∷ axes) distinct index all =
       let p = and_parts (not (among (axis_names axes) x.name)) (are_distinct (axis_names axes)) distinct in
       by (bytes_eq x.name name) refl (not-true (among (axis_names axes) x.name) p.0) (λ i. stay_axes axes p.1 i all.1)
     where
-      by : (b : Bool) → bytes_eq x.name name ≡ b → among (axis_names axes) x.name ≡ false → (MatchOption labels ⊤ (IsIndex (axis_called axes name).size) → AllByRecursion IsOpenAxis (map (with_index name labels) axes))
-          → AllByRecursion IsOpenAxis ((if b then record x { labels = labels } else x) ∷ map (with_index name labels) axes)
+      by : (b : Bool) → bytes_eq x.name name ≡ b → among (axis_names axes) x.name ≡ false → (IsIndex (axis_called axes name).size l → AllByRecursion IsOpenAxis (map (relabelled name l) axes))
+          → AllByRecursion IsOpenAxis ((if b then record x { labels = Some l } else x) ∷ map (relabelled name l) axes)
       by true same absent rest =
           let here : axis_called (x ∷ axes) name ≡ x = called_cons x axes name ∙ ap (λ b. if b then x else axis_called axes name) same in
           let apart : among (axis_names axes) name ≡ false = ap (among (axis_names axes)) (sym (same_text x.name name same)) ∙ absent in
-          (record { name = all.0.name; index = subst (λ (y : Axis). MatchOption labels ⊤ (IsIndex y.size)) here index }, subst (AllByRecursion IsOpenAxis) (sym (other_axes axes apart)) all.1)
+          (record { name = all.0.name; index = subst (λ (y : Axis). IsIndex y.size l) here index }, subst (AllByRecursion IsOpenAxis) (sym (other_axes axes apart)) all.1)
       by false other absent rest =
           let later : axis_called (x ∷ axes) name ≡ axis_called axes name = called_cons x axes name ∙ ap (λ b. if b then x else axis_called axes name) other in
-          (all.0, rest (subst (λ (y : Axis). MatchOption labels ⊤ (IsIndex y.size)) later index))
+          (all.0, rest (subst (λ (y : Axis). IsIndex y.size l) later index))
 
   over_on : (axes xs : List Axis) → AllByRecursion (λ (x : Axis). (among (axis_names axes) x.name ≡ true) × (axis_called axes x.name ≡ x)) xs
-      → AllByRecursion (λ (x : Axis). (among (axis_names (map (with_index name labels) axes)) x.name ≡ true) × (axis_called (map (with_index name labels) axes) x.name ≡ x)) (map (with_index name labels) xs)
+      → AllByRecursion (λ (x : Axis). (among (axis_names (map (relabelled name l) axes)) x.name ≡ true) × (axis_called (map (relabelled name l) axes) x.name ≡ x)) (map (relabelled name l) xs)
   over_on axes [] all = tt
   over_on axes (x ∷ xs) all =
       let there = dimension_named axes x.name ∙ all.0.0 in (
         (
-          ap (λ n. among (axis_names (map (with_index name labels) axes)) n) (index_name x) ∙ ap (λ ns. among ns x.name) (names_kept (with_index name labels) index_name index_size axes) ∙ all.0.0,
-          ap (axis_called (map (with_index name labels) axes)) (index_name x) ∙ called_kept (with_index name labels) index_name index_size axes x.name there ∙ ap (with_index name labels) all.0.1,
+          ap (λ n. among (axis_names (map (relabelled name l) axes)) n) (label_name name l x) ∙ ap (λ ns. among ns x.name) (names_kept (relabelled name l) (label_name name l) (label_size name l) axes) ∙ all.0.0,
+          ap (axis_called (map (relabelled name l) axes)) (label_name name l x) ∙ called_kept (relabelled name l) (label_name name l) (label_size name l) axes x.name there ∙ ap (relabelled name l) all.0.1,
         ),
         over_on axes xs all.1,
       )
 
-  coord_on : (axes : List Axis) (c : Coord) → IsCoordinate axes c → IsCoordinate (map (with_index name labels) axes) (coord_with_index name labels c)
+  coord_on : (axes : List Axis) (c : Coord) → IsCoordinate axes c → IsCoordinate (map (relabelled name l) axes) (coord_relabelled name l c)
   coord_on axes c is =
       record {
         name = is.name;
         over = over_on axes c.axes is.over;
-        distinct = ap are_distinct (names_kept (with_index name labels) index_name index_size c.axes) ∙ is.distinct;
+        distinct = ap are_distinct (names_kept (relabelled name l) (label_name name l) (label_size name l) c.axes) ∙ is.distinct;
         attrs = is.attrs;
-        content = subst (λ s. IsContent s c.content) (sym (sizes_kept (with_index name labels) index_name index_size c.axes)) is.content;
+        content = subst (λ s. IsContent s c.content) (sym (sizes_kept (relabelled name l) (label_name name l) (label_size name l) c.axes)) is.content;
       }
 
-  coords_on : (axes : List Axis) (coords : List Coord) → AllByRecursion (IsCoordinate axes) coords → AllByRecursion (IsCoordinate (map (with_index name labels) axes)) (map (coord_with_index name labels) coords)
+  coords_on : (axes : List Axis) (coords : List Coord) → AllByRecursion (IsCoordinate axes) coords → AllByRecursion (IsCoordinate (map (relabelled name l) axes)) (map (coord_relabelled name l) coords)
   coords_on axes [] all = tt
   coords_on axes (c ∷ coords) all = (coord_on axes c all.0, coords_on axes coords all.1)
 
-  pub names_on : (coords : List Coord) → names_of (map (coord_with_index name labels) coords) ≡ names_of coords
+  pub names_on : (coords : List Coord) → names_of (map (coord_relabelled name l) coords) ≡ names_of coords
   names_on [] = refl
   names_on (c ∷ coords) = ap (λ ns. c.name ∷ ns) (names_on coords)
 
-  pub index_frame : (axes : List Axis) (coords : List Coord) → MatchOption labels ⊤ (IsIndex (axis_called axes name).size) → IsFrame axes coords → IsFrame (map (with_index name labels) axes) (map (coord_with_index name labels) coords)
+  pub index_frame : (axes : List Axis) (coords : List Coord) → IsIndex (axis_called axes name).size l → IsFrame axes coords → IsFrame (map (relabelled name l) axes) (map (coord_relabelled name l) coords)
   index_frame axes coords index is =
-      let same = names_kept (with_index name labels) index_name index_size axes in
+      let same = names_kept (relabelled name l) (label_name name l) (label_size name l) axes in
       record {
         each = stay_axes axes is.axes_distinct index is.each;
         axes_distinct = ap are_distinct same ∙ is.axes_distinct;
         over = coords_on axes coords is.over;
-        distinct = ap (λ ns. are_distinct (ns ++ names_of (map (coord_with_index name labels) coords))) same ∙ ap (λ ns. are_distinct (axis_names axes ++ ns)) (names_on coords) ∙ is.distinct;
+        distinct = ap (λ ns. are_distinct (ns ++ names_of (map (coord_relabelled name l) coords))) same ∙ ap (λ ns. are_distinct (axis_names axes ++ ns)) (names_on coords) ∙ is.distinct;
       }
 
 -- ---- a coordinate in the place of one of its name, or at the end
@@ -156,20 +144,93 @@ module _ (d : Coord) where
       by false swap other rest =
           ap (λ ns. c.name ∷ ns) rest ∙ more (among (names_of coords) d.name) ∙ sym (ap (λ b. named_with (b || among (names_of coords) d.name) (c.name ∷ names_of coords)) (swap ∙ other))
 
+  -- with names that differ before and behind
+  named_apart : (xs ys : List (List ℕ)) (coords : List Coord) → among xs d.name ≡ false → among ys d.name ≡ false → are_distinct (xs ++ (names_of coords ++ ys)) ≡ true → are_distinct (xs ++ (names_of (with_coord coords d) ++ ys)) ≡ true
+  named_apart xs ys coords before behind all = ap (λ ns. are_distinct (xs ++ (ns ++ ys))) (names_with coords) ∙ by (among (names_of coords) d.name) refl
+    where
+      by : (b : Bool) → among (names_of coords) d.name ≡ b → are_distinct (xs ++ (named_with b (names_of coords) ++ ys)) ≡ true
+      by true there = all
+      by false absent =
+          ap (λ ns. are_distinct (xs ++ ns)) (append_assoc (names_of coords) (d.name ∷ []) ys) ∙ ap are_distinct (sym (append_assoc xs (names_of coords) (d.name ∷ ys)))
+          ∙ distinct_with (xs ++ names_of coords) ys d.name (ap are_distinct (append_assoc xs (names_of coords) ys) ∙ all) (absent_both (xs ++ names_of coords) ys d.name (absent_both xs (names_of coords) d.name before absent) behind)
+
   pub coord_frame : (axes : List Axis) (coords : List Coord) → is_dimension axes d.name ≡ false → IsCoordinate axes d → IsFrame axes coords → IsFrame axes (with_coord coords d)
   coord_frame axes coords other one is =
       record {
         each = is.each;
         axes_distinct = is.axes_distinct;
         over = all_with (IsCoordinate axes) coords one is.over;
-        distinct = ap (λ ns. are_distinct (axis_names axes ++ ns)) (names_with coords) ∙ by (among (names_of coords) d.name) refl;
+        distinct =
+            ap (λ ns. are_distinct (axis_names axes ++ ns)) (sym (append-nil (names_of (with_coord coords d))))
+            ∙ named_apart (axis_names axes) [] coords (sym (dimension_named axes d.name) ∙ other) refl (ap (λ ns. are_distinct (axis_names axes ++ ns)) (append-nil (names_of coords)) ∙ is.distinct);
       }
+
+-- ---- the names of indexes, coordinates and variables
+
+-- none stands twice
+abbrev pub Apart : List (List ℕ) → Frame → Type 0
+Apart variables f = are_distinct (axis_names (labelled f.axes) ++ (names_of f.coords ++ variables)) ≡ true
+
+abbrev pub Holds : List (List ℕ) → Frame → Frame → Type 0
+Holds variables f g = IsFrame g.axes g.coords × (Apart variables f → Apart variables g)
+
+abbrev has_labels : Axis → Bool
+has_labels x = is_some x.labels
+
+module _ (name : List ℕ) (l : Labels) (ns : List (List ℕ)) (absent : among ns name ≡ false) where
+  labelled_apart : (axes : List Axis) → are_distinct (axis_names axes) ≡ true → are_distinct (axis_names (labelled axes) ++ ns) ≡ true → are_distinct (axis_names (labelled (map (relabelled name l) axes)) ++ ns) ≡ true
+  labelled_apart [] distinct all = all
+  labelled_apart (x ∷ xs) distinct all = by (bytes_eq x.name name) refl (labelled_apart xs parts.1 (first (is_some x.labels) all).1)
     where
-      by : (b : Bool) → among (names_of coords) d.name ≡ b → are_distinct (axis_names axes ++ named_with b (names_of coords)) ≡ true
-      by true there = is.distinct
-      by false absent =
-          ap are_distinct (sym (append_assoc (axis_names axes) (names_of coords) (d.name ∷ [])))
-          ∙ distinct_end (axis_names axes ++ names_of coords) d.name is.distinct (absent_both (axis_names axes) (names_of coords) d.name (sym (dimension_named axes d.name) ∙ other) absent)
+      parts : (among (axis_names xs) x.name ≡ false) × (are_distinct (axis_names xs) ≡ true)
+      parts = distinct_parts x.name (axis_names xs) distinct
+
+      first : (b : Bool) → are_distinct (axis_names (cond b (x ∷ labelled xs) (labelled xs)) ++ ns) ≡ true → (b ≡ true → among ns x.name ≡ false) × (are_distinct (axis_names (labelled xs) ++ ns) ≡ true)
+      first true all = let p = distinct_parts x.name (axis_names (labelled xs) ++ ns) all in (λ e. (absent_parts (axis_names (labelled xs)) ns x.name p.0).1, p.1)
+      first false all = (λ e. absurd cc, all)
+
+      behind : (ys : List Axis) → axis_names ys ≡ axis_names xs → among ns x.name ≡ false → are_distinct (axis_names (labelled ys) ++ ns) ≡ true → are_distinct (x.name ∷ axis_names (labelled ys) ++ ns) ≡ true
+      behind ys same none rest =
+          distinct_cons x.name (axis_names (labelled ys) ++ ns) (kept_absent has_labels ys ns x.name (absent_both (axis_names ys) ns x.name (ap (λ ms. among ms x.name) same ∙ parts.0) none)) rest
+
+      others : List Axis
+      others = map (relabelled name l) xs
+
+      by : (b : Bool) → bytes_eq x.name name ≡ b → are_distinct (axis_names (labelled others) ++ ns) ≡ true → are_distinct (axis_names (labelled ((if b then record x { labels = Some l } else x) ∷ others)) ++ ns) ≡ true
+      by true same rest =
+          let text = same_text x.name name same in
+          subst (λ (ys : List Axis). are_distinct (x.name ∷ axis_names (labelled ys) ++ ns) ≡ true) (sym (other_axes name l xs (ap (among (axis_names xs)) (sym text) ∙ parts.0)))
+          (behind xs refl (ap (among ns) text ∙ absent) (first (is_some x.labels) all).1)
+      by false other rest = on (is_some x.labels) (λ there. (first (is_some x.labels) all).0 there)
+        where
+          on : (b : Bool) → (b ≡ true → among ns x.name ≡ false) → are_distinct (axis_names (cond b (x ∷ labelled others) (labelled others)) ++ ns) ≡ true
+          on true none = behind others (names_kept (relabelled name l) (label_name name l) (label_size name l) xs) (none refl) rest
+          on false none = rest
+
+-- ---- an array and times that are given are as they have to be
+
+abbrev pub IsWhole : Value → Type 0
+IsWhole (Array a) = IsDataArray a
+IsWhole (meanings.Times coding ts) = AreLabels (Times coding ts)
+IsWhole v = ⊤
+
+whole_layer : (nodes : List Node) (x : Value-F Held) → IsLayerIn nodes x → IsWhole (layer nodes x)
+whole_layer nodes (held.Array a) is = is.formed
+whole_layer nodes (held.Times coding times) is = is
+whole_layer nodes held.Absent is = tt
+whole_layer nodes held.Missing is = tt
+whole_layer nodes (held.Truth b) is = tt
+whole_layer nodes (held.Number n) is = tt
+whole_layer nodes (held.Text t) is = tt
+whole_layer nodes (held.List vs) is = tt
+whole_layer nodes (held.Table es) is = tt
+whole_layer nodes (held.Slice start stop step) is = tt
+whole_layer nodes (held.Set s) is = tt
+whole_layer nodes (held.GroupedArray a by) is = tt
+whole_layer nodes (held.GroupedSet s by) is = tt
+
+whole_in : (nodes : List Node) (v : Held) → IsValueIn nodes v → IsWhole (meaning nodes v)
+whole_in nodes v is = subst IsWhole (sym (meaning_out nodes v)) (whole_layer nodes (out-Value v) (value_out nodes v is))
 
 -- ---- what an entry gives
 
@@ -178,11 +239,11 @@ unfolding unless
 unless_holds true f is = refl
 unless_holds false f is = absurd cc
 
-pub first_passes : (r s : Result (Unit {0}) Fault) → (r >>= λ u. s) ≡ Ok (tt {0}) → (r ≡ Ok tt) × (s ≡ Ok tt)
-first_passes (Ok u) s is = (refl, is)
-first_passes (Err e) s is = absurd cc
+pub first_passes : {A : Type 0} (r : Result (Unit {0}) Fault) (s : Result A Fault) (a : A) → (r >>= λ u. s) ≡ Ok a → (r ≡ Ok tt) × (s ≡ Ok a)
+first_passes (Ok u) s a is = (refl, is)
+first_passes (Err e) s a is = absurd cc
 
-equal : (m n : ℕ) → (m == n) ≡ true → m ≡ n
+pub equal : (m n : ℕ) → (m == n) ≡ true → m ≡ n
 equal m n is = grind (arith, nat_tests)
 
 no_attrs : AreAttributes []
@@ -193,69 +254,38 @@ count_is (Numbers k ns) = length-map ns _
 count_is (Times coding ts) = length-map ts _
 count_is (Texts ts) = length-map ts _
 
-integer_kind : (name : List ℕ) (a : of.DataArray) → check_labels name (Array a) ≡ Ok tt → is_integer_kind a.kind ≡ true
-unfolding check_labels
-integer_kind name a is = unless_holds (is_integer_kind a.kind) WrongKind (first_passes (unless (is_integer_kind a.kind) WrongKind) _ is).0
-
-abbrev Indexes : ℕ → Option Labels → Type 0
-Indexes n o = MatchOption o ⊤ (IsIndex n)
-
-held_count : (l : LabelList) → label_count (held_list l) ≡ label_count l
-held_count (Numbers k ns) = refl
-held_count (Times coding ts) = refl
-held_count (Texts ts) = refl
-
-fit_index : (n : ℕ) (l : Labels) → label_count l.list ≡ n → AreAttributes l.attrs → (fit_list l.list ≡ true → AreLabels (held_list l.list)) → Indexes n (fitting (Some l))
-fit_index n l whole attrs range = by (fit_list l.list) refl
-  where
-    by : (b : Bool) → fit_list l.list ≡ b → Indexes n (if b then Some (held_labels l) else None)
-    by true fit = record { whole = held_count l.list ∙ whole; range = range fit; attrs = attrs }
-    by false unfit = tt
-
 abbrev labels_as : LabelList → List Attr → Labels
 labels_as list attrs = record { list = list; attrs = attrs }
 
-given_index : (n : ℕ) (name : List ℕ) (v : Value) (l : Labels) → IsWhole v → check_labels name v ≡ Ok tt → labels_given v ≡ Ok l → AreAttributes l.attrs × (fit_list l.list ≡ true → AreLabels (held_list l.list))
-unfolding as_labels
-given_index n name (Array a) l whole is given =
+abbrev Ready : Labels → Type 0
+Ready l = AreLabels l.list × AreAttributes l.attrs
+
+given_index : (name : List ℕ) (v : Value) (l : Labels) → IsWhole v → check_labels name v ≡ Ok tt → check_numbers (name, v) ≡ Ok tt → labels_given v ≡ Ok l → Ready l
+unfolding as_labels check_labels check_numbers
+given_index name (Array a) l whole is fit given =
+    let kind = unless_holds (is_integer_kind a.kind) WrongKind (first_passes (unless (is_integer_kind a.kind) WrongKind) _ tt is).0 in
     let same : labels_as (Numbers a.kind (present a.cells)) a.attrs ≡ l = cc in
-    subst (λ (m : Labels). AreAttributes m.attrs × (fit_list m.list ≡ true → AreLabels (held_list m.list))) same (whole.attrs, λ fit. let are : AreLabels (Numbers a.kind (present a.cells)) = (integer_kind name a is, present_in a.kind a.cells whole.cells.range) in subst AreLabels (sym (labels_kept (Numbers a.kind (present a.cells)) are)) are)
-given_index n name (Sequence vs) l whole is given = by (all_values is_number vs) (all_values is_text vs) (texts_in vs) given
+    subst Ready same ((kind, present_in a.kind a.cells whole.cells.range), whole.attrs)
+given_index name (Sequence vs) l whole is fit given = by (all_values is_number vs) (all_values is_text vs) (texts_in vs) given
   where
-    by : (p t : Bool) (r : Result (List (List ℕ)) Fault)
-        → label_result p t (numbers_in vs) r ≡ Ok l → AreAttributes l.attrs × (fit_list l.list ≡ true → AreLabels (held_list l.list))
+    by : (p t : Bool) (r : Result (List (List ℕ)) Fault) → ((if p then Ok (Numbers kinds.Int64 (numbers_in vs)) else if t then (r >>= λ ts. Ok (Texts ts)) else Err WrongKind) >>= λ l. Ok (labels_as l [])) ≡ Ok l → Ready l
     by true t r e =
         let same : labels_as (Numbers kinds.Int64 (numbers_in vs)) [] ≡ l = cc in
-        subst (λ (m : Labels). AreAttributes m.attrs × (fit_list m.list ≡ true → AreLabels (held_list m.list))) same (no_attrs, λ fit. held_range kinds.Int64 (numbers_in vs) refl fit)
-    by false true (Ok ts) e =
-        let same : labels_as (Texts ts) [] ≡ l = cc in
-        subst (λ (m : Labels). AreAttributes m.attrs × (fit_list m.list ≡ true → AreLabels (held_list m.list))) same (no_attrs, λ fit. tt)
+        subst Ready same ((refl, fit_in_range kinds.Int64 (numbers_in vs) (unless_holds _ DoesNotFit fit)), no_attrs)
+    by false true (Ok ts) e = let same : labels_as (Texts ts) [] ≡ l = cc in subst Ready same (tt, no_attrs)
     by false true (Err x) e = absurd cc
     by false false r e = absurd cc
-given_index n name (Number k) l whole is given = absurd cc
-given_index n name (Text t) l whole is given = absurd cc
-given_index n name Absent l whole is given = absurd cc
-given_index n name Missing l whole is given = absurd cc
-given_index n name (Truth b) l whole is given = absurd cc
-given_index n name (Table es) l whole is given = absurd cc
-given_index n name (Slice a b c) l whole is given = absurd cc
-given_index n name (Set s) l whole is given = absurd cc
-given_index n name (meanings.Times coding times) l whole is given =
-    let same : labels_as (Times coding times) [] ≡ l = cc in
-    subst (λ (m : Labels). AreAttributes m.attrs × (fit_list m.list ≡ true → AreLabels (held_list m.list))) same (no_attrs, λ fit. whole)
-given_index n name (GroupedArray a by) l whole is given = absurd cc
-given_index n name (GroupedSet s by) l whole is given = absurd cc
-
-labels_index : (axes : List Axis) (name : List ℕ) (v : Value) → IsWhole v → check_labels name v ≡ Ok tt → sized axes name v ≡ Ok tt → Indexes (axis_called axes name).size (fitting (labels_in v))
-unfolding sized
-labels_index axes name v whole is fits = by (labels_given v) refl fits
-  where
-    by : (r : Result Labels Fault) → labels_given v ≡ r → (r >>= λ l. unless (label_total l.list == (axis_called axes name).size) SizeConflict) ≡ Ok tt
-        → Indexes (axis_called axes name).size (fitting (elim r as (λ r. Option Labels) [ Err e ↦ None | Ok l ↦ Some l ]))
-    by (Err e) given long = tt
-    by (Ok l) given long =
-        let p = given_index (axis_called axes name).size name v l whole is given in
-        fit_index (axis_called axes name).size l (sym (count_is l.list) ∙ equal (label_total l.list) (axis_called axes name).size (unless_holds _ SizeConflict long)) p.0 p.1
+given_index name (meanings.Times coding times) l whole is fit given = let same : labels_as (Times coding times) [] ≡ l = cc in subst Ready same (whole, no_attrs)
+given_index name (Number k) l whole is fit given = absurd cc
+given_index name (Text t) l whole is fit given = absurd cc
+given_index name Absent l whole is fit given = absurd cc
+given_index name Missing l whole is fit given = absurd cc
+given_index name (Truth b) l whole is fit given = absurd cc
+given_index name (Table es) l whole is fit given = absurd cc
+given_index name (Slice a b c) l whole is fit given = absurd cc
+given_index name (Set s) l whole is fit given = absurd cc
+given_index name (GroupedArray a by) l whole is fit given = absurd cc
+given_index name (GroupedSet s by) l whole is fit given = absurd cc
 
 -- ---- a coordinate
 
@@ -263,8 +293,8 @@ called_shape : (axes xs : List Axis) → all_of (check_axis axes) xs ≡ Ok tt �
 unfolding check_axis
 called_shape axes [] all = refl
 called_shape axes (x ∷ xs) all =
-    let p = first_passes (check_axis axes x) (all_of (check_axis axes) xs) all in
-    let q = first_passes (unless (x.size == (axis_called axes x.name).size) SizeConflict) _ p.0 in
+    let p = first_passes (check_axis axes x) (all_of (check_axis axes) xs) tt all in
+    let q = first_passes (unless (x.size == (axis_called axes x.name).size) SizeConflict) _ tt p.0 in
     ap (λ n. n ∷ shape_over (map (λ (x : Axis). axis_called axes x.name) xs)) (sym (equal x.size (axis_called axes x.name).size (unless_holds _ SizeConflict q.0)))
     ∙ ap (λ ns. x.size ∷ ns) (called_shape axes xs p.1)
 
@@ -274,22 +304,16 @@ there axes x is = unless_holds (is_dimension axes x.name) (NoDimension x.name) i
 called_names : (axes xs : List Axis) → all_of (is_there axes) xs ≡ Ok tt → axis_names (map (λ (x : Axis). axis_called axes x.name) xs) ≡ axis_names xs
 called_names axes [] all = refl
 called_names axes (x ∷ xs) all =
-    let p = first_passes (is_there axes x) (all_of (is_there axes) xs) all in
+    let p = first_passes (is_there axes x) (all_of (is_there axes) xs) tt all in
     ap (λ n. n ∷ axis_names (map (λ (x : Axis). axis_called axes x.name) xs)) (called_name axes x.name (there axes x p.0)) ∙ ap (λ ns. x.name ∷ ns) (called_names axes xs p.1)
 
 called_over : (axes xs : List Axis) → all_of (is_there axes) xs ≡ Ok tt
     → AllByRecursion (λ (x : Axis). (among (axis_names axes) x.name ≡ true) × (axis_called axes x.name ≡ x)) (map (λ (x : Axis). axis_called axes x.name) xs)
 called_over axes [] all = tt
 called_over axes (x ∷ xs) all =
-    let p = first_passes (is_there axes x) (all_of (is_there axes) xs) all in
+    let p = first_passes (is_there axes x) (all_of (is_there axes) xs) tt all in
     let name = called_name axes x.name (there axes x p.0) in
     ((ap (among (axis_names axes)) name ∙ sym (dimension_named axes x.name) ∙ there axes x p.0, ap (axis_called axes) name), called_over axes xs p.1)
-
-one_size : 1 ≤ 33554432
-one_size = omega arith
-
-abbrev Coordinates : List Axis → List ℕ → Option Coord → Type 0
-Coordinates axes name o = MatchOption o ⊤ (λ (c : Coord). IsCoordinate axes c × (c.name ≡ name))
 
 number_cells : (n : ℤ) → in_range kinds.Int64 n ≡ true → AreCells [] kinds.Int64 false (Some n ∷ [])
 number_cells n fit =
@@ -301,16 +325,29 @@ number_cells n fit =
       few = omega arith;
     }
 
-given_coordinate : (axes : List Axis) (name : List ℕ) (v : Value) → IsWhole v → is_name name ≡ true → check_place axes (name, v) ≡ Ok tt → aligned axes v ≡ Ok tt → Coordinates axes name (coord_in axes name v)
-unfolding check_place aligned
-given_coordinate axes name (Number n) whole named place fits = by (in_range kinds.Int64 n) refl
-  where
-    by : (b : Bool) → in_range kinds.Int64 n ≡ b → Coordinates axes name (if b then coord_given axes name (Number n) else None)
-    by true fit = (record { name = named; over = tt; distinct = refl; attrs = no_attrs; content = (refl, number_cells n fit) }, refl)
-    by false unfit = tt
-given_coordinate axes name (Text t) whole named place fits = (record { name = named; over = tt; distinct = refl; attrs = no_attrs; content = refl }, refl)
-given_coordinate axes name (Array a) whole named place fits =
-    let shape = called_shape axes a.axes fits in (
+abbrev Named : List Axis → List ℕ → Coord → Type 0
+Named axes name c = IsCoordinate axes c × (c.name ≡ name)
+
+abbrev text_coord : List ℕ → List ℕ → Coord
+text_coord name t = record { name = name; axes = []; attrs = []; content = contents.Text t }
+
+abbrev array_coord : List ℕ → of.DataArray → Coord
+array_coord name a = record { name = name; axes = a.axes; attrs = a.attrs; content = contents.Cells (of.array_of a) a.masked }
+
+given_coordinate : (axes : List Axis) (name : List ℕ) (v : Value) (c : Coord) → IsWhole v → is_name name ≡ true → check_place axes (name, v) ≡ Ok tt → check_numbers (name, v) ≡ Ok tt → coordinate_given axes name v ≡ Ok c → Named axes name c
+unfolding check_place check_numbers coordinate_given
+given_coordinate axes name (Number n) c whole named place fit given =
+    let same : number_coord name n ≡ c = cc in
+    subst (Named axes name) same (record { name = named; over = tt; distinct = refl; attrs = no_attrs; content = (refl, number_cells n (unless_holds (in_range kinds.Int64 n) DoesNotFit fit)) }, refl)
+given_coordinate axes name (Text t) c whole named place fit given =
+    let same : text_coord name t ≡ c = cc in
+    subst (Named axes name) same (record { name = named; over = tt; distinct = refl; attrs = no_attrs; content = refl }, refl)
+given_coordinate axes name (Array a) c whole named place fit given =
+    let p = first_passes (all_of (check_axis axes) a.axes) _ c given in
+    let shape = called_shape axes a.axes p.0 in
+    let told = p.1 in
+    let same : over_called axes (array_coord name a) ≡ c = cc in
+    subst (Named axes name) same (
       record {
         name = named;
         over = called_over axes a.axes place;
@@ -320,27 +357,120 @@ given_coordinate axes name (Array a) whole named place fits =
       },
       refl,
     )
-given_coordinate axes name Absent whole named place fits = tt
-given_coordinate axes name Missing whole named place fits = tt
-given_coordinate axes name (Truth b) whole named place fits = tt
-given_coordinate axes name (Sequence vs) whole named place fits = tt
-given_coordinate axes name (Table es) whole named place fits = tt
-given_coordinate axes name (Slice a b c) whole named place fits = tt
-given_coordinate axes name (Set s) whole named place fits = tt
-given_coordinate axes name (meanings.Times coding times) whole named place fits = tt
-given_coordinate axes name (GroupedArray a by) whole named place fits = tt
-given_coordinate axes name (GroupedSet s by) whole named place fits = tt
+given_coordinate axes name Absent c whole named place fit given = absurd cc
+given_coordinate axes name Missing c whole named place fit given = absurd cc
+given_coordinate axes name (Truth b) c whole named place fit given = absurd cc
+given_coordinate axes name (Sequence vs) c whole named place fit given = absurd cc
+given_coordinate axes name (Table es) c whole named place fit given = absurd cc
+given_coordinate axes name (Slice a b s) c whole named place fit given = absurd cc
+given_coordinate axes name (Set s) c whole named place fit given = absurd cc
+given_coordinate axes name (meanings.Times coding times) c whole named place fit given = absurd cc
+given_coordinate axes name (GroupedArray a by) c whole named place fit given = absurd cc
+given_coordinate axes name (GroupedSet s by) c whole named place fit given = absurd cc
 
-another_frame : (f : Frame) (name : List ℕ) (o : Option Coord) → is_dimension f.axes name ≡ false → Coordinates f.axes name o → IsFrame f.axes f.coords → IsFrame (with_another f o).axes (with_another f o).coords
-another_frame f name None other one is = is
-another_frame f name (Some c) other one is = coord_frame c f.axes f.coords (ap (is_dimension f.axes) one.1 ∙ other) one.0 is
+-- ---- an entry
 
-pub put_frame : (variables : List (List ℕ)) (f : Frame) (kv : List ℕ × Value) → IsWhole kv.1 → is_name kv.0 ≡ true → check_entry f.axes kv ≡ Ok tt → check_place f.axes kv ≡ Ok tt → check_put variables f.axes kv ≡ Ok tt → IsFrame f.axes f.coords
-    → IsFrame (put_fitting f kv).axes (put_fitting f kv).coords
-unfolding check_entry check_put
-put_frame variables f kv whole named is place fits frame = by (is_dimension f.axes kv.0) refl is (first_passes (if is_dimension f.axes kv.0 then sized f.axes kv.0 kv.1 else aligned f.axes kv.1) _ fits).0
+pub record Stays (variables : List (List ℕ)) (f g : Frame) : Type 0 where
+  pub frame : IsFrame g.axes g.coords
+  pub names : axis_names g.axes ≡ axis_names f.axes
+  pub apart : Apart variables f → Apart variables g
+
+entry_frame : (variables : List (List ℕ)) (f g : Frame) (kv : List ℕ × Value) → IsWhole kv.1 → is_name kv.0 ≡ true → check_entry f.axes kv ≡ Ok tt → check_place f.axes kv ≡ Ok tt → check_numbers kv ≡ Ok tt → with_entry variables f kv ≡ Ok g → IsFrame f.axes f.coords → Stays variables f g
+unfolding check_entry with_entry with_labels with_coordinate
+entry_frame variables f g kv whole named is place fit told frame = by (is_dimension f.axes kv.0) refl is (free _ _ told).0
   where
-    by : (b : Bool) → is_dimension f.axes kv.0 ≡ b → (if b then check_labels kv.0 kv.1 else check_coordinate kv.1) ≡ Ok tt → (if b then sized f.axes kv.0 kv.1 else aligned f.axes kv.1) ≡ Ok tt
-        → IsFrame (if b then indexed f kv.0 (fitting (labels_in kv.1)) else with_another f (coord_in f.axes kv.0 kv.1)).axes (if b then indexed f kv.0 (fitting (labels_in kv.1)) else with_another f (coord_in f.axes kv.0 kv.1)).coords
-    by true along checked long = index_frame kv.0 (fitting (labels_in kv.1)) f.axes f.coords (labels_index f.axes kv.0 kv.1 whole checked long) frame
-    by false other checked fit = another_frame f kv.0 (coord_in f.axes kv.0 kv.1) other (given_coordinate f.axes kv.0 kv.1 whole named place fit) frame
+    free : (r : Result Frame Fault) (t : Result (Unit {0}) Fault) → (r >>= λ h. t >>= λ u. Ok h) ≡ Ok g → (r ≡ Ok g) × (t ≡ Ok tt)
+    free (Ok h) (Ok u) e = (e, refl)
+    free (Ok h) (Err x) e = absurd cc
+    free (Err x) t e = absurd cc
+
+    untaken : among variables kv.0 ≡ false
+    untaken = not-true (among variables kv.0) (unless_holds (not (among variables kv.0)) DuplicateName (free _ _ told).1)
+
+    along : (r : Result Labels Fault) → labels_given kv.1 ≡ r → is_dimension f.axes kv.0 ≡ true → check_labels kv.0 kv.1 ≡ Ok tt → (r >>= λ l. unless (label_total l.list == (axis_called f.axes kv.0).size) SizeConflict >>= λ u. Ok (frame_labelled f kv.0 l)) ≡ Ok g → Stays variables f g
+    along (Err e) given there checked told = absurd cc
+    along (Ok l) given there checked told =
+        let p = first_passes (unless (label_total l.list == (axis_called f.axes kv.0).size) SizeConflict) _ g told in
+        let ready = given_index kv.0 kv.1 l whole checked fit given in
+        let long = equal (label_total l.list) (axis_called f.axes kv.0).size (unless_holds _ SizeConflict p.0) in
+        let same : frame_labelled f kv.0 l ≡ g = let q = p.1 in cc in
+        let absent = absent_both (names_of f.coords) variables kv.0 (absent_behind (axis_names f.axes) (names_of f.coords) kv.0 frame.distinct (sym (dimension_named f.axes kv.0) ∙ there)) untaken in
+        subst (Stays variables f) same
+        (record {
+          frame = index_frame kv.0 l f.axes f.coords (record { whole = sym (count_is l.list) ∙ long; range = ready.0; attrs = ready.1 }) frame;
+          names = names_kept (relabelled kv.0 l) (label_name kv.0 l) (label_size kv.0 l) f.axes;
+          apart = λ all. ap (λ ns. are_distinct (axis_names (labelled (map (relabelled kv.0 l) f.axes)) ++ (ns ++ variables))) (names_on kv.0 l f.coords) ∙ labelled_apart kv.0 l (names_of f.coords ++ variables) absent f.axes frame.axes_distinct all;
+        })
+
+    beside : (r : Result Coord Fault) → coordinate_given f.axes kv.0 kv.1 ≡ r → is_dimension f.axes kv.0 ≡ false → (r >>= λ c. Ok (record f { coords = with_coord f.coords c })) ≡ Ok g → Stays variables f g
+    beside (Err e) given other told = absurd cc
+    beside (Ok c) given other told =
+        let one = given_coordinate f.axes kv.0 kv.1 c whole named place fit given in
+        let same : over f.axes (with_coord f.coords c) ≡ g = cc in
+        let unlike = ap (is_dimension f.axes) one.1 ∙ other in
+        let before : among (axis_names (labelled f.axes)) c.name ≡ false = (absent_parts (axis_names (labelled f.axes)) [] c.name (kept_absent has_labels f.axes [] c.name (absent_both (axis_names f.axes) [] c.name (sym (dimension_named f.axes c.name) ∙ unlike) refl))).0 in
+        subst (Stays variables f) same (record { frame = coord_frame c f.axes f.coords unlike one.0 frame; names = refl; apart = named_apart c (axis_names (labelled f.axes)) variables f.coords before (ap (among variables) one.1 ∙ untaken) })
+
+    by : (b : Bool) → is_dimension f.axes kv.0 ≡ b → (if b then check_labels kv.0 kv.1 else check_coordinate kv.1) ≡ Ok tt → (if b then with_labels f kv.0 kv.1 else with_coordinate f kv.0 kv.1) ≡ Ok g → Stays variables f g
+    by true there checked told = along (labels_given kv.1) refl there checked told
+    by false other checked told = beside (coordinate_given f.axes kv.0 kv.1) refl other told
+
+-- ---- the entries behind it
+
+module _ (axes xs : List Axis) (named : axis_names axes ≡ axis_names xs) where
+  same : (n : List ℕ) → is_dimension axes n ≡ is_dimension xs n
+  same n = dimension_named axes n ∙ ap (λ ns. among ns n) named ∙ sym (dimension_named xs n)
+
+  entries_still : (kvs : List (List ℕ × Value)) → all_of (check_entry axes) kvs ≡ all_of (check_entry xs) kvs
+  unfolding check_entry
+  entries_still [] = refl
+  entries_still (kv ∷ kvs) =
+      ap (λ b. (if b then check_labels kv.0 kv.1 else check_coordinate kv.1) >>= λ u. all_of (check_entry axes) kvs) (same kv.0) ∙ ap (λ r. check_entry xs kv >>= λ u. r) (entries_still kvs)
+
+  there_still : (ys : List Axis) → all_of (is_there axes) ys ≡ all_of (is_there xs) ys
+  there_still [] = refl
+  there_still (y ∷ ys) = ap (λ b. unless b (NoDimension y.name) >>= λ u. all_of (is_there axes) ys) (same y.name) ∙ ap (λ r. is_there xs y >>= λ u. r) (there_still ys)
+
+  place_still : (kv : List ℕ × Value) → check_place axes kv ≡ check_place xs kv
+  unfolding check_place
+  place_still (name, Sequence vs) = ap (λ b. unless b (NoDimension name)) (same name)
+  place_still (name, Array a) = there_still a.axes
+  place_still (name, Absent) = refl
+  place_still (name, Missing) = refl
+  place_still (name, Truth b) = refl
+  place_still (name, Number n) = refl
+  place_still (name, Text t) = refl
+  place_still (name, Table es) = refl
+  place_still (name, Slice a b c) = refl
+  place_still (name, Set s) = refl
+  place_still (name, meanings.Times coding times) = refl
+  place_still (name, GroupedArray a by) = refl
+  place_still (name, GroupedSet s by) = refl
+
+  places_still : (kvs : List (List ℕ × Value)) → all_of (check_place axes) kvs ≡ all_of (check_place xs) kvs
+  places_still [] = refl
+  places_still (kv ∷ kvs) = ap (λ r. r >>= λ u. all_of (check_place axes) kvs) (place_still kv) ∙ ap (λ r. check_place xs kv >>= λ u. r) (places_still kvs)
+
+module _ (declines : ℕ → Bool) (nodes : List Node) (variables : List (List ℕ)) where
+  pub entries_frame : (f g : Frame) (kvs : List (TextBytes × Held)) → All (IsEntryIn nodes) kvs → list_all (λ (kv : TextBytes × Held). is_name kv.0) kvs ≡ true → all_of (check_entry f.axes) (map (with_key nodes) kvs) ≡ Ok tt → all_of (check_place f.axes) (map (with_key nodes) kvs) ≡ Ok tt
+      → all_of check_numbers (map (with_key nodes) kvs) ≡ Ok tt → entries_in declines nodes variables f kvs ≡ Ok g → IsFrame f.axes f.coords → Holds variables f g
+  unfolding entries_in entry_in
+  entries_frame f g [] inside named checked placed fits told frame =
+      let same : f ≡ g = cc in
+      subst (Holds variables f) same (frame, λ all. all)
+  entries_frame f g (kv ∷ kvs) inside named checked placed fits told frame =
+      let p = first_passes (check_entry f.axes (with_key nodes kv)) _ tt checked in
+      let q = first_passes (check_place f.axes (with_key nodes kv)) _ tt placed in
+      let n = first_passes (check_numbers (with_key nodes kv)) _ tt fits in
+      let t = and_parts (is_name kv.0) (list_all (λ (kv : TextBytes × Held). is_name kv.0) kvs) named in
+      let whole = whole_in nodes kv.1 (All-head (IsEntryIn nodes) kv kvs inside) in
+      by (with_entry variables f (with_key nodes kv)) (computed declines kv.1) refl told (λ h is. entry_frame variables f h (with_key nodes kv) whole t.0 p.0 q.0 n.0 is frame)
+      (λ h s on.
+      let r = entries_frame h g kvs (All-tail (IsEntryIn nodes) kv kvs inside) t.1 (entries_still h.axes f.axes s.names (map (with_key nodes) kvs) ∙ p.1) (places_still h.axes f.axes s.names (map (with_key nodes) kvs) ∙ q.1) n.1 on s.frame in
+      (r.0, λ all. r.1 (s.apart all)))
+    where
+      by : (r : Result Frame Fault) (c : Result (Unit {0}) CallFault) → with_entry variables f (with_key nodes kv) ≡ r → ((refused r >>= λ h. c >>= λ u. Ok h) >>= λ h. entries_in declines nodes variables h kvs) ≡ Ok g
+          → ((h : Frame) → with_entry variables f (with_key nodes kv) ≡ Ok h → Stays variables f h) → ((h : Frame) → Stays variables f h → entries_in declines nodes variables h kvs ≡ Ok g → Holds variables f g) → Holds variables f g
+      by (Ok h) (Ok u) is told here rest = rest h (here h is) told
+      by (Ok h) (Err e) is told here rest = absurd cc
+      by (Err e) c is told here rest = absurd cc

@@ -10,9 +10,7 @@ use Rattle.std.proofs.lemmas.Slice.Eq.{bytes_eq-Decides}
 use Rattle.xr_types.specs.declared.axis.Axis.{Axis}
 use Rattle.xr_arrays.specs.declared.node.Node.{Node}
 use Rattle.xr_defs.specs.declared.value.Coord.{Coord}
-use Rattle.xr_types.specs.Names.{among}
-use Rattle.xr_types.specs.Names.{are_distinct}
-use Rattle.xr_types.specs.Names.{axis_names}
+use Rattle.xr_types.specs.Names.{among, are_distinct, axis_names}
 use Rattle.xr_defs.specs.Limits.{most_variables}
 use Rattle.xr_defs.specs.Values as of
 use Rattle.xr_defs.specs.Selecting.{axis_called}
@@ -23,10 +21,8 @@ use Rattle.xr_defs.specs.WellFormed.{AreAttributes, AreCells, AreDimensions, IsC
 use Rattle.xr_values.specs.Stands.{variable_in, IsNodeOf}
 use Rattle.xr_values.proofs.Named.{bytes_eq_swap}
 use Rattle.xr_building.specs.Idle.{is_held}
-use Rattle.xr_building.proofs.Apart.{distinct_cons, distinct_parts}
-use Rattle.xr_building.proofs.Called.{called_name, dimension_named}
-use Rattle.xr_building.proofs.Framed.{called_cons}
-use Rattle.xr_building.proofs.Names.{false_or}
+use Rattle.xr_building.proofs.Called.{called_cons, called_name, dimension_named}
+use Rattle.xr_building.proofs.Names.{distinct_cons, distinct_parts, false_or}
 
 -- ---- an axis that a test leaves
 
@@ -74,7 +70,7 @@ module _ (p : Axis → Bool) where
       by true e rest = and_from (p x) (list_all p (filter p xs)) e rest
       by false e rest = rest
 
-  kept_absent : (axes : List Axis) (ns : List (List ℕ)) (n : List ℕ) → among (axis_names axes ++ ns) n ≡ false → among (axis_names (filter p axes) ++ ns) n ≡ false
+  pub kept_absent : (axes : List Axis) (ns : List (List ℕ)) (n : List ℕ) → among (axis_names axes ++ ns) n ≡ false → among (axis_names (filter p axes) ++ ns) n ≡ false
   kept_absent [] ns n absent = absent
   kept_absent (x ∷ xs) ns n absent = by (p x) (kept_absent xs ns n parts.1)
     where

@@ -1,24 +1,29 @@
 -- Items and elements of lists of values.
-use Rattle.std.proofs.Common.{◌≡◌, ◌<◌, ◌≤◌, ◌+◌, ◌-◌, ◌==◌, ℕ, ℤ, zero, suc, arith, drop, Bool, true, false, ◌&&◌, ◌||◌, List, [], ◌∷◌, ◌++◌, length, map, take, get_or, Option, Ok, Err, if◌then◌else◌, refl, sym, ap, ◌∙◌, append_assoc}
+use Rattle.std.proofs.Common.{◌≡◌, ◌<◌, ◌≤◌, ◌+◌, ◌-◌, ◌==◌, ℕ, ℤ, zero, suc, arith, drop, Bool, true, false, ◌&&◌, ◌||◌, List, [], ◌∷◌, ◌++◌, length, map, take, get_or, Option, Some, None, Result, Ok, Err, if◌then◌else◌, refl, sym, ap, ◌∙◌, append_assoc}
 use Rattle.std.proofs.Math.Bool.{and_assoc, or_assoc, and-true, or-false}
 use Rattle.std.proofs.lemmas.Bool.{and_parts}
 use Rattle.std.proofs.Math.Seq.{drop-cons}
 use Rattle.std.proofs.lemmas.List.{map-append, append-nil, length-map, nil_from_length, drop_all, take_all}
 use Rattle.std.proofs.lemmas.Bool.Decides.{nat_tests}
-use Rattle.std.proofs.lemmas.List.Folds.{list_all-append, list_any-append}
+use Rattle.std.proofs.lemmas.List.Folds.{list_all-append, list_all-map, list_all_at, list_any-append}
 use Rattle.std.specs.List.{list_all, list_any}
+use Rattle.std.specs.Prelude.{MatchOption}
 use Rattle.xr_types.specs.declared.fault.Fault.TheVariants.{WrongKind}
-use Rattle.xr_types.specs.declared.axis.LabelList.TheVariants.{Texts}
+use Rattle.xr_types.specs.declared.fault.Fault.{Fault}
+use Rattle.xr_types.specs.declared.axis.LabelList.{LabelList}
+use Rattle.xr_types.specs.declared.axis.LabelList.TheVariants.{Numbers, Texts}
+use Rattle.xr_types.specs.declared.axis.Labels.{Labels}
 use Rattle.xr_arrays.specs.declared.node.Node.{Node}
 use Rattle.xr_types.specs.Results.{◌>>=◌}
 use Rattle.xr_defs.specs.Arguments.{as_text}
 use Rattle.xr_defs.specs.Parts.{texts_in}
 use Rattle.xr_defs.specs.Meanings as of
 use Rattle.xr_defs.specs.Meanings.{Values, NoValue, With, Absent, Sequence}
-use Rattle.xr_defs.specs.Building.{elements, elements_of, items, item_count, first_item, all_values, is_number, is_text, as_labels, is_nested, is_regular, nested_shape, is_whole_cell, is_truth_cell, is_missing, element_cell}
+use Rattle.xr_types.specs.declared.kind.DType.TheVariants as kinds
+use Rattle.xr_building.specs.Puts.{fits_whole, texts_put}
+use Rattle.xr_defs.specs.Building.{elements, elements_of, items, item_count, first_item, all_values, numbers_in, is_number, is_text, as_labels, labels_given, is_nested, is_regular, nested_shape, is_whole_cell, is_truth_cell, is_missing, element_cell}
 use Rattle.xr_values.specs.declared.value.Value.{Value}
-use Rattle.xr_values.specs.Meaning.{meaning, values}
-use Rattle.xr_values.specs.Meaning.{all_values as listed}
+use Rattle.xr_values.specs.Meaning.{meaning, values, all_values as listed}
 use Rattle.xr_values.proofs.Meaning.{all_more}
 use Rattle.xr_arguments.proofs.Listed.{take_one}
 use Rattle.xr_building.specs.declared.elements.Elements.{Elements}
@@ -72,16 +77,64 @@ gathered_on nodes start now next vs i v lt is so_far here =
 
 -- ---- a list of numbers, or of texts
 
-all_from : (test : of.Value → Bool) (ws : Values) (vs : List of.Value) → all_values test (values ws vs) ≡ (all_values test ws && list_all test vs)
-all_from test ws [] = sym (and-true (all_values test ws))
-all_from test ws (v ∷ vs) = all_from test (With ws v) vs ∙ and_assoc (all_values test ws) (test v) (list_all test vs)
+module _ (all : Values → Bool) (test : of.Value → Bool) (more : (ws : Values) (v : of.Value) → all (With ws v) ≡ (all ws && test v)) where
+  all_from : (ws : Values) (vs : List of.Value) → all (values ws vs) ≡ (all ws && list_all test vs)
+  all_from ws [] = sym (and-true (all ws))
+  all_from ws (v ∷ vs) = all_from (With ws v) vs ∙ ap (λ b. b && list_all test vs) (more ws v) ∙ and_assoc (all ws) (test v) (list_all test vs)
 
 pub all_are : (test : of.Value → Bool) (nodes : List Node) (vs : List Value) → all_values test (listed nodes vs) ≡ list_all test (map (meaning nodes) vs)
 unfolding listed
-all_are test nodes vs = all_from test NoValue (map (meaning nodes) vs)
+all_are test nodes vs = all_from (all_values test) test (λ ws v. refl) NoValue (map (meaning nodes) vs)
 
-text_is : (v : of.Value) → is_text v ≡ true → (t : List ℕ) × (as_text v ≡ Ok t)
-unfolding as_text
+-- ---- the labels of a list
+
+abbrev plain : LabelList → Labels
+plain list = record { list = list; attrs = [] }
+
+abbrev pub plain_numbers : List ℤ → Result Labels Fault
+plain_numbers ns = Ok (plain (Numbers kinds.Int64 ns))
+
+module _ (nodes : List Node) (vs : List Value) where
+  abbrev chosen : Bool → Bool → Result Labels Fault
+  chosen n t = (if n then Ok (Numbers kinds.Int64 (numbers_in (listed nodes vs))) else if t then (texts_in (listed nodes vs) >>= λ ts. Ok (Texts ts)) else Err WrongKind) >>= λ l. Ok (plain l)
+
+  labels_chosen : labels_given (Sequence (listed nodes vs)) ≡ chosen (list_all is_number (map (meaning nodes) vs)) (list_all is_text (map (meaning nodes) vs))
+  unfolding as_labels
+  labels_chosen = ap (λ n. chosen n (all_values is_text (listed nodes vs))) (all_are is_number nodes vs) ∙ ap (chosen (list_all is_number (map (meaning nodes) vs))) (all_are is_text nodes vs)
+
+  pub numbers_given : list_all is_number (map (meaning nodes) vs) ≡ true → labels_given (Sequence (listed nodes vs)) ≡ plain_numbers (numbers_in (listed nodes vs))
+  numbers_given numbers = labels_chosen ∙ ap (λ n. chosen n (list_all is_text (map (meaning nodes) vs))) numbers
+
+  pub texts_given : list_all is_number (map (meaning nodes) vs) ≡ false → list_all is_text (map (meaning nodes) vs) ≡ true → labels_given (Sequence (listed nodes vs)) ≡ texts_put (texts_in (listed nodes vs))
+  texts_given numbers texts = labels_chosen ∙ ap (λ n. chosen n (list_all is_text (map (meaning nodes) vs))) numbers ∙ ap (chosen false) texts ∙ by (texts_in (listed nodes vs))
+    where
+      by : (r : Result (List (List ℕ)) Fault) → ((r >>= λ ts. Ok (Texts ts)) >>= λ l. Ok (plain l)) ≡ texts_put r
+      by (Ok ts) = refl
+      by (Err e) = refl
+
+  pub none_given : list_all is_number (map (meaning nodes) vs) ≡ false → list_all is_text (map (meaning nodes) vs) ≡ false → labels_given (Sequence (listed nodes vs)) ≡ Err WrongKind
+  none_given numbers texts = labels_chosen ∙ ap (λ n. chosen n (list_all is_text (map (meaning nodes) vs))) numbers ∙ ap (chosen false) texts
+
+-- ---- the numbers of a list
+
+pub number_on : (nodes : List Node) (vs : List Value) (i : ℕ) (v : Value) (n : ℤ) (new : List ℤ) → i < length vs → v ≡ get_or vs i v → meaning nodes v ≡ of.Number n → (numbers : List ℤ) → numbers ≡ numbers_in (listed nodes (take i vs)) → new ≡ numbers ++ n ∷ []
+    → new ≡ numbers_in (listed nodes (take (i + 1) vs))
+number_on nodes vs i v n new lt is here numbers so_far pushed =
+    pushed ∙ ap (λ ns. ns ++ n ∷ []) so_far
+    ∙ sym (ap (λ us. numbers_in (listed nodes us)) (take_one vs i v lt is) ∙ ap numbers_in (all_more nodes (take i vs) v) ∙ ap (λ m. numbers_in (With (listed nodes (take i vs)) m)) here)
+
+pub none_of : {X : Type 0} (o : Option X) (P : Type 0) (Q : X → Type 0) → ((x : X) → o ≡ Some x → ⊥) → MatchOption o P Q → P
+none_of None P Q other is = is
+none_of (Some x) P Q other is = absurd (other x refl)
+
+-- a list of numbers alone holds nothing else
+pub no_other : (nodes : List Node) (vs : List Value) (i : ℕ) (v : Value) → i < length vs → v ≡ get_or vs i v → list_all is_number (map (meaning nodes) vs) ≡ true → is_number (meaning nodes v) ≡ false → ⊥
+no_other nodes vs i v lt is all other =
+    let none = list_all_at (λ w. is_number (meaning nodes w)) vs i v lt (ap (λ w. is_number (meaning nodes w)) (sym is) ∙ other) in
+    let same = list_all-map is_number (meaning nodes) vs in
+    cc
+
+text_is : (v : of.Value) → is_text v ≡ true → (t : List ℕ) × (v ≡ of.Text t)
 text_is (of.Text t) is = (t, refl)
 text_is of.Absent is = absurd cc
 text_is of.Missing is = absurd cc
@@ -97,13 +150,24 @@ text_is (of.GroupedArray a by) is = absurd cc
 text_is (of.GroupedSet s by) is = absurd cc
 
 texts_are : (vs : Values) → all_values is_text vs ≡ true → (ts : List (List ℕ)) × (texts_in vs ≡ Ok ts)
-unfolding texts_in
+unfolding texts_in as_text
 texts_are NoValue is = ([], refl)
 texts_are (With vs v) is =
     let p = and_parts (all_values is_text vs) (is_text v) is in
     let before = texts_are vs p.0 in
     let last = text_is v p.1 in
-    (before.0 ++ last.0 ∷ [], ap (λ r. r >>= λ ts. as_text v >>= λ t. Ok (ts ++ t ∷ [])) before.1 ∙ ap (λ r. r >>= λ t. Ok (before.0 ++ t ∷ [])) last.1)
+    (before.0 ++ last.0 ∷ [], ap (λ m. texts_in (With vs m)) last.1 ∙ ap (λ r. r >>= λ ts. Ok (ts ++ last.0 ∷ [])) before.1)
+
+-- texts have no numbers
+texts_fit : (vs : Values) → all_values is_text vs ≡ true → fits_whole (Sequence vs) ≡ true
+texts_fit NoValue is = refl
+texts_fit (With vs v) is =
+    let p = and_parts (all_values is_text vs) (is_text v) is in
+    let last = text_is v p.1 in
+    ap (λ m. fits_whole (Sequence (With vs m))) last.1 ∙ texts_fit vs p.0
+
+pub texts_whole : (nodes : List Node) (vs : List Value) → list_all is_text (map (meaning nodes) vs) ≡ true → fits_whole (Sequence (listed nodes vs)) ≡ true
+texts_whole nodes vs is = texts_fit (listed nodes vs) (all_are is_text nodes vs ∙ is)
 
 checked : (vs : Values) (numbers texts : Bool) → all_values is_number vs ≡ numbers → all_values is_text vs ≡ texts → (as_labels vs >>= λ l. Ok (tt {0})) ≡ (if numbers || texts then Ok (tt {0}) else Err WrongKind)
 unfolding as_labels

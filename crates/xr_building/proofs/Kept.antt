@@ -1,12 +1,11 @@
 -- Cells as they are kept: numbers of their kind, and a mask.
-use Rattle.std.proofs.Common.{◌≡◌, ◌<◌, ℕ, ℤ, pos, ◌≤ℤ◌, Bool, true, false, ◌&&◌, List, [], ◌∷◌, map, length, All, Option, Some, None, refl, sym, ap, ◌∙◌, arith}
+use Rattle.std.proofs.Common.{◌≡◌, ◌<◌, ℕ, ℤ, pos, Bool, true, false, List, [], ◌∷◌, map, All, Option, Some, None, refl, sym, ap, ◌∙◌, arith}
 use Rattle.std.proofs.lemmas.Bool.{and_parts}
-use Rattle.std.proofs.lemmas.List.{length-map}
 use Rattle.std.proofs.lemmas.List.Elements.{All-nil, All-cons, All-head, All-tail}
 use Rattle.std.proofs.lemmas.Int.{ints}
 use Rattle.std.specs.List.{list_all}
-use Rattle.std.specs.Prelude.{is_some, int_le, IfOk, Result, Ok, Err}
-use Rattle.xr_types.specs.Kinds.{in_range, low, high, wrap_to, InRange}
+use Rattle.std.specs.Prelude.{is_some, IfOk, Result, Ok, Err}
+use Rattle.xr_types.specs.Kinds.{in_range, wrap_to, InRange}
 use Rattle.xr_types.specs.declared.kind.DType.{DType}
 use Rattle.xr_types.specs.declared.kind.DType.TheVariants as kinds
 use Rattle.xr_types.proofs.Wrapping.{wrapped_only}
@@ -15,6 +14,7 @@ use Rattle.xr_arrays.specs.Arrays.{Array, IsCell, hidden, cell, kind_of, wide}
 use Rattle.xr_defs.specs.Building.{fits_kind}
 use Rattle.xr_defs.specs.WellFormed.{AreSeen}
 use Rattle.xr_building.specs.Gathered.{number_or_zero, mask_byte}
+use Rattle.xr_building.proofs.Fitting.{fits_in_range}
 
 -- ---- a number of a kind is left as it is
 
@@ -85,23 +85,11 @@ all_seen (c ∷ cs) all =
 pub seen_are : (masked : Bool) (cells : List (Option ℤ)) → AreSeen masked cells → masked ≡ false → hidden (map number_or_zero cells) None ≡ cells
 seen_are masked cells seen bare = all_seen cells (seen bare)
 
-pub mask-length : (cells : List (Option ℤ)) → length (map mask_byte cells) ≡ length cells
-mask-length cells = length-map cells mask_byte
-
 -- ---- elements of a kind
-
-up_to : (x y : ℤ) → int_le x y ≡ true → x ≤ℤ y
-up_to x y is = grind (arith, ints)
-
-between_in : (l h n : ℤ) → (int_le l n && int_le n h) ≡ true → (l ≤ℤ n) × (n ≤ℤ h)
-between_in l h n is = let p = and_parts (int_le l n) (int_le n h) is in let a = p.0 in let b = p.1 in (up_to l n a, up_to n h b)
-
-number_fits : (k : DType) (n : ℤ) → in_range k n ≡ true → InRange k n
-number_fits k n is = between_in (low k) (high k) n is
 
 fits_in : (k : DType) (c : Option ℤ) → fits_kind k c ≡ true → IsCell k c
 fits_in k None is = tt
-fits_in k (Some n) is = number_fits k n is
+fits_in k (Some n) is = fits_in_range k n is
 
 pub all_in : (k : DType) (cells : List (Option ℤ)) → list_all (fits_kind k) cells ≡ true → All (IsCell k) cells
 all_in k [] is = All-nil (IsCell k)

@@ -30,7 +30,7 @@ use Rattle.xr_building.specs.Placed.{limited, with_written}
 use Rattle.xr_building.specs.Written.{built_in, entries_held, values_written}
 use Rattle.xr_building.proofs.Called.{rank as rank_of}
 use Rattle.xr_building.proofs.Described.{nested-length, suits_same}
-use Rattle.xr_building.proofs.Held.{entries_span}
+use Rattle.xr_building.proofs.Drafted.{entries_sizes}
 use Rattle.xr_building.proofs.Tables.{entries_same}
 use Rattle.xr_building.proofs.Unlabelled.{bare_sizes}
 
@@ -98,7 +98,7 @@ module _ (declines : ℕ → Bool) (nodes : List Node) (content : Value) (dims :
   as_long : (f : Frame) → entries_in declines nodes [] bare (entries_held coords) ≡ Ok f → length f.axes ≡ length dims
   as_long f told =
       sym (rank_of f.axes)
-      ∙ ap length ((entries_span declines nodes [] bare f (entries_held coords) told).sizes ∙ bare_sizes dims (nested_shape (length dims) content) (sym (nested-length (length dims) content)))
+      ∙ ap length (entries_sizes declines nodes [] bare f (entries_held coords) told ∙ bare_sizes dims (nested_shape (length dims) content) (sym (nested-length (length dims) content)))
       ∙ nested-length (length dims) content
 
   abbrev regular : Bool

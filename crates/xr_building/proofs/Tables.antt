@@ -24,7 +24,6 @@ use Rattle.xr_values.specs.declared.args.Args.{Args}
 use Rattle.xr_values.specs.Meaning.{meaning, layer, with_key, entries, all_entries, given, AreArgsIn, IsEntryIn, IsLayerIn, IsValueIn}
 use Rattle.xr_values.proofs.Meaning.{meaning_out, value_out}
 use Rattle.xr_arguments.proofs.Variants.{is_table}
-use Rattle.xr_building.specs.Outlined.{table_entries}
 use Rattle.xr_building.proofs.Framed.{first_passes}
 use Rattle.xr_building.specs.Written.{coords_held, entries_held, entries_of, keyword_held}
 
@@ -69,8 +68,8 @@ each_passes : (axes : List Axis) (es : List (List ℕ × Value)) → all_of (che
 unfolding check_table_entry
 each_passes axes [] is = refl
 each_passes axes (kv ∷ kvs) is =
-    let p = first_passes (check_table_entry axes kv) (all_of (check_table_entry axes) kvs) is in
-    let q = first_passes (check_entry axes kv) (unless (is_named_entry kv) BadArgument) p.0 in
+    let p = first_passes (check_table_entry axes kv) (all_of (check_table_entry axes) kvs) tt is in
+    let q = first_passes (check_entry axes kv) (unless (is_named_entry kv) BadArgument) tt p.0 in
     ap (λ r. r >>= λ u. all_of (check_entry axes) kvs) q.0 ∙ each_passes axes kvs p.1
 
 -- and each of them is labels or a coordinate
@@ -95,17 +94,19 @@ entries_checked axes (Some (Times coding times)) es is = absurd cc
 entries_checked axes (Some (GroupedArray a by)) es is = absurd cc
 entries_checked axes (Some (GroupedSet s by)) es is = absurd cc
 
-pub table_means : (nodes : List Node) (axes : List Axis) (v : Held) (t : Vec (TextBytes × Held) Global) → v ≡ variants.Table t → entries_given axes (given_value (Some (meaning nodes v))) ≡ table_entries axes (map (with_key nodes) t.items)
-unfolding entries_given table_entries
-table_means nodes axes v t is =
-    ap (λ w. entries_given axes (given_value (Some w))) (is_table nodes v t is)
-    ∙ ap (λ (es : List (List ℕ × Value)). all_of (check_table_entry axes) es >>= λ u. Ok es) (listed_all nodes t.items)
+abbrev given_table : List Axis → List (List ℕ × Value) → Result (List (List ℕ × Value)) Fault
+given_table axes es = all_of (check_table_entry axes) es >>= λ u. Ok es
 
-pub table_fails : {A B : Type 0} (view : A → B) (r : Result A CallFault) (e : CallFault) (whole : Result B Fault) (b : B) (told : Result B Fault) → r ≡ Err e → whole ≡ told → Answers (λ (u : Unit {0}). b) (Err e) told → Answers view r whole
-table_fails view r e whole b told is same given = subst (λ s. Answers view s whole) (sym is) (subst (Answers view (Err e)) (sym same) (by e given))
+pub table_means : (nodes : List Node) (axes : List Axis) (v : Held) (t : Vec (TextBytes × Held) Global) (kvs : List (TextBytes × Held)) → v ≡ variants.Table t → kvs ≡ t.items → entries_given axes (given_value (Some (meaning nodes v))) ≡ given_table axes (map (with_key nodes) kvs)
+unfolding entries_given
+table_means nodes axes v t kvs is same =
+    ap (λ w. entries_given axes (given_value (Some w))) (is_table nodes v t is) ∙ ap (given_table axes) (listed_all nodes t.items) ∙ ap (λ es. given_table axes (map (with_key nodes) es)) (sym same)
+
+pub table_fails : {A : Type 0} (view : A → List (List ℕ × Value)) (r : Result A CallFault) (e : CallFault) (whole : Result (List (List ℕ × Value)) Fault) (axes : List Axis) (es : List (List ℕ × Value)) → r ≡ Err e → whole ≡ given_table axes es → Answers (λ (u : Unit {0}). u) (Err e) (all_of (check_table_entry axes) es) → Answers view r whole
+table_fails view r e whole axes es is same given = subst (λ s. Answers view s whole) (sym is) (subst (Answers view (Err e)) (sym same) (by e given))
   where
-    by : (e : CallFault) → Answers (λ (u : Unit {0}). b) (Err e) told → Answers view (Err e) told
-    by (Refused f) g = g
+    by : (e : CallFault) → Answers (λ (u : Unit {0}). u) (Err e) (all_of (check_table_entry axes) es) → Answers view (Err e) (given_table axes es)
+    by (Refused f) g = ap (λ r. r >>= λ u. Ok es) g
     by (Declined n) g = g
     by NoMemory g = tt
 

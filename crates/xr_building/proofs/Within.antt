@@ -9,16 +9,15 @@ use Rattle.xr_types.specs.declared.fault.Fault.TheVariants.{TooLarge}
 use Rattle.xr_defs.specs.declared.value.Content.{Content}
 use Rattle.xr_defs.specs.declared.value.Content.TheVariants as contents
 use Rattle.xr_defs.specs.declared.value.Coord.{Coord}
-use Rattle.xr_types.specs.Names.{among}
+use Rattle.xr_types.specs.Names.{among, axis_names, shape_over}
 use Rattle.xr_defs.specs.Limits.{most_cells, most_dimensions}
 use Rattle.xr_types.specs.Points.{size}
 use Rattle.xr_types.specs.Results.{unless}
-use Rattle.xr_types.specs.Names.{axis_names, shape_over}
 use Rattle.xr_defs.specs.Values.{Dataset, Variable}
 use Rattle.xr_defs.specs.Selecting.{are_few, are_within, axis_called, check_set, is_within, variable_array}
 use Rattle.xr_defs.specs.WellFormed.{IsContent, IsCoordinate, IsDimension, IsVariable}
 use Rattle.xr_values.proofs.Named.{bytes_eq_swap}
-use Rattle.xr_building.proofs.Framed.{called_cons}
+use Rattle.xr_building.proofs.Called.{called_cons}
 
 within_cell : (n : ℕ) → n ≤ most_cells → nat_le n most_cells ≡ true
 within_cell n few = le-leb n most_cells few

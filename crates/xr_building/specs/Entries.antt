@@ -32,6 +32,10 @@ abbrev pub node_of : Value-F Value → Option ℕ
 node_of (held.Array a) = Some a.value.node
 node_of v = None
 
+-- it is no array
+abbrev pub IsPlain : Value → Type 0
+IsPlain v = node_of (out-Value v) ≡ None
+
 -- an array's cells are computed, unless its node is declined
 unfoldable pub computed : (ℕ → Bool) → Value → Result (Unit {0}) CallFault
 computed declines v = elim (node_of (out-Value v)) [ None ↦ Ok tt | Some n ↦ unless (not (declines n)) (Declined n) ]

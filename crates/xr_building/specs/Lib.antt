@@ -1,13 +1,12 @@
 pub mod Aligned
-pub mod Found
 pub mod Entries
 pub mod Frames
 pub mod Gathered
 pub mod Idle
-pub mod Listed
 pub mod Nested
 pub mod Outlined
 pub mod Placed
 pub mod Places
-pub mod Walk
+pub mod Placing
+pub mod Puts
 pub mod Written

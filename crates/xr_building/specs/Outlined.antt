@@ -2,7 +2,6 @@
 use Rattle.std.specs.Prelude.{◌||◌, ℕ, ℤ, Bool, List, [], length, map, Option, Some, Result, Ok}
 use Rattle.std.specs.List.{list_all}
 use Rattle.xr_types.specs.declared.text.TextBytes.{TextBytes}
-use Rattle.xr_types.specs.declared.axis.Axis.{Axis}
 use Rattle.xr_types.specs.declared.fault.Fault.{Fault}
 use Rattle.xr_types.specs.declared.fault.Fault.TheVariants.{WrongKind, BadArgument, SizeConflict, DoesNotFit}
 use Rattle.xr_types.specs.declared.fault.CallFault.{CallFault}
@@ -11,7 +10,7 @@ use Rattle.xr_arrays.specs.declared.node.Node.{Node}
 use Rattle.xr_defs.specs.Meanings.{Value}
 use Rattle.xr_types.specs.Results.{◌>>=◌, unless, all_of}
 use Rattle.xr_defs.specs.Values.{DataArray}
-use Rattle.xr_defs.specs.Building.{Frame, argument, bare_axes, check_numbers, check_place, check_table_entry, dims_given, elements, entries_given, fits_kind, given_value, is_nested, is_regular, kind_given, name_given, nested_shape, option, required}
+use Rattle.xr_defs.specs.Building.{Frame, argument, bare_axes, check_numbers, check_place, dims_given, elements, entries_given, fits_kind, given_value, is_nested, is_regular, kind_given, name_given, nested_shape, option, required}
 use Rattle.xr_values.specs.declared.value.Value.{Value as Held}
 use Rattle.xr_values.specs.Meaning.{with_key}
 use Rattle.xr_building.specs.declared.elements.Elements.{Elements}
@@ -20,11 +19,6 @@ use Rattle.xr_building.specs.declared.placed.Outline.{Outline}
 use Rattle.xr_building.specs.Entries.{refused, entries_in}
 use Rattle.xr_building.specs.Gathered.{gathered, kind_of_all, suits_all}
 use Rattle.xr_building.specs.Placed.{limited, with_written}
-use Rattle.xr_building.specs.Walk.{entries_put}
-
--- the entries of a table
-unfoldable pub table_entries : List Axis → List (List ℕ × Value) → Result (List (List ℕ × Value)) Fault
-table_entries axes es = all_of (check_table_entry axes) es >>= λ u. Ok es
 
 -- the name, and a kind that the elements can have
 unfoldable pub header_of : Elements → Option Value → Option Value → Result Header Fault
@@ -35,10 +29,10 @@ header_of e named kinded =
 unfoldable pub check_fit : DType → List (Option ℤ) → List (List ℕ × Value) → Result (Unit {0}) Fault
 check_fit kind cells entries = unless (list_all (fits_kind kind) cells) DoesNotFit >>= λ u. all_of check_numbers entries
 
--- the entries over bare axes, as the code puts them and as the definitions do
-unfoldable pub draft_put : (ℕ → Bool) → List Node → Frame → DType → List (Option ℤ) → List (TextBytes × Held) → Result Frame CallFault
-draft_put declines nodes f kind cells kvs = entries_put declines nodes [] f kvs >>= λ g. refused (check_fit kind cells (map (with_key nodes) kvs)) >>= λ u. Ok g
+abbrev pub fitting : Bool → Bool → Result (Unit {0}) Fault
+fitting cells numbers = unless cells DoesNotFit >>= λ u. unless numbers DoesNotFit
 
+-- the entries over bare axes
 unfoldable pub draft_in : (ℕ → Bool) → List Node → Frame → DType → List (Option ℤ) → List (TextBytes × Held) → Result Frame CallFault
 draft_in declines nodes f kind cells kvs = entries_in declines nodes [] f kvs >>= λ g. refused (check_fit kind cells (map (with_key nodes) kvs)) >>= λ u. Ok g
 

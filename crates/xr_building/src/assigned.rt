@@ -1,41 +1,49 @@
 //! `assign_coords(name=value)`: arrays with labels and coordinates of these names.
-ghost use Rattle.std.specs.Prelude.{◌≡◌, false, ℕ, List, IfOk};
+ghost use Rattle.std.specs.Prelude.{◌≡◌, false, true, ℕ, List, IfOk};
+ghost use Rattle.std.specs.List.{list_all};
 ghost use denote.Param.Send.{IsSync};
+ghost use Rattle.xr_types.specs.declared.text.TextBytes.{TextBytes as Text};
+ghost use Rattle.xr_files.specs.Classic.{is_name};
 ghost use Rattle.xr_arrays.specs.declared.node.Node.{Node};
+ghost use Rattle.xr_defs.specs.declared.value.Coord.{Coord as Other};
 ghost use Rattle.xr_defs.specs.Building.{assigned_to_array};
+ghost use Rattle.xr_values.specs.declared.value.Value.{Value as Held};
 ghost use Rattle.xr_values.specs.Answers.{AnswersArray};
 ghost use Rattle.xr_values.specs.Meaning.{given, AreArgsIn};
 ghost use Rattle.xr_values.specs.Stands.{array_in, IsArrayIn};
 ghost use Rattle.xr_values.specs.Variables.{names_of};
 ghost use Rattle.xr_building.specs.Entries.{array_assigned, frame_in, Follows, FollowsArray};
-ghost use Rattle.xr_building.specs.Frames.{IsFrame};
-ghost use Rattle.xr_building.specs.Walk.{frame_of, frame_put};
+ghost use Rattle.xr_building.specs.Puts.{after, over, put_fits};
 
 use crate::check::{check_entries, check_places};
-use crate::draft::Draft;
-use crate::placing::check_numbers;
+use crate::draft::{draft_of, with_puts};
 use crate::put::put_entries;
+use crate::puts::{Put, check_numbers};
 use plan_core::Compute;
-use std::alloc::{AllocError, Global};
+use std::alloc::Global;
 use std::thread::Threads;
-use xr_types::{CallFault, DeepCopy, Fault};
-use xr_values::{Args, Cx, DataArray, Variable, copy_coords};
+use xr_types::{Axis, CallFault, DeepCopy, Fault, Items};
+use xr_values::{Args, Cx, DataArray, Variable};
 
-// The entries of a call are checked and put in their places; last come numbers past 64 bits.
-#[tactic(auto, unfolding(crate::specs::Walk::frame_put, xr_types::specs::Results::unless))]
-fn put_all<R: Threads + Sync, C: Compute>(
+/// What the entries of a call come to over these axes, none of which has the name of one of these variables. Numbers past 64 bits come
+/// last.
+///
+/// # Errors
+/// Those of an array, and `DuplicateName` in its turn for the name of a variable.
+#[tactic(auto, unfolding(crate::specs::Entries::frame_in, xr_types::specs::Results::unless))]
+pub(crate) fn assigned<R: Threads + Sync, C: Compute>(
     rt: &R,
     alloc: Global,
     cx: &mut Cx<C>,
     variables: &[Variable],
-    draft: Draft,
+    axes: &[Axis],
     args: &Args,
-) -> Result<Draft, CallFault>
+) -> Result<Items<Put>, CallFault>
     requires sync { IsSync R.row }
     requires given { AreArgsIn cx.old.plan args.now }
-    requires frame { IsFrame draft.axes draft.coords }
-    ensures told { Follows frame_of result (frame_put (C.declines cx.old.compute cx.old.plan) cx.old.plan (names_of variables.now) (frame_of draft) args.now) }
-    ensures frame { IfOk result (λ d. IsFrame d.axes d.coords) }
+    ensures told { (coords : List Other) → Follows (after (over axes.now coords)) result (frame_in (C.declines cx.old.compute cx.old.plan) cx.old.plan (names_of variables.now) (over axes.now coords) args.now) }
+    ensures named { IfOk result (λ ps. list_all (λ (kv : Text × Held). is_name kv.0) args.now.keyed.items ≡ true) }
+    ensures fits { IfOk result (λ ps. list_all put_fits ps ≡ true) }
     ensures plan { cx.new.plan ≡ cx.old.plan }
     ensures keeps { (nodes : List Node) (n : ℕ) → C.declines cx.new.compute nodes n ≡ C.declines cx.old.compute nodes n }
 {
@@ -43,45 +51,11 @@ fn put_all<R: Threads + Sync, C: Compute>(
         return Err(CallFault::Refused(Fault::BadArgument));
     }
     let entries = args.keyed.as_slice();
-    check_entries(draft.axes.as_slice(), entries)?;
-    check_places(alloc, draft.axes.as_slice(), entries)?;
-    let draft = put_entries(rt, alloc, cx, variables, draft, entries)?;
-    check_numbers(entries)?;
-    Ok(draft)
-}
-
-/// The axes and the coordinates that a call leaves, none of which has the name of one of these variables.
-///
-/// # Errors
-/// Those of an array, and `DuplicateName` in its turn for the name of a variable.
-#[tactic(auto, using(crate::proofs::Walked::frame_same))]
-pub(crate) fn assigned<R: Threads + Sync, C: Compute>(
-    rt: &R,
-    alloc: Global,
-    cx: &mut Cx<C>,
-    variables: &[Variable],
-    draft: Draft,
-    args: &Args,
-) -> Result<Draft, CallFault>
-    requires sync { IsSync R.row }
-    requires given { AreArgsIn cx.old.plan args.now }
-    requires frame { IsFrame draft.axes draft.coords }
-    ensures told { Follows frame_of result (frame_in (C.declines cx.old.compute cx.old.plan) cx.old.plan (names_of variables.now) (frame_of draft) args.now) }
-    ensures frame { IfOk result (λ d. IsFrame d.axes d.coords) }
-    ensures plan { cx.new.plan ≡ cx.old.plan }
-    ensures keeps { (nodes : List Node) (n : ℕ) → C.declines cx.new.compute nodes n ≡ C.declines cx.old.compute nodes n }
-{
-    put_all(rt, alloc, cx, variables, draft, args)
-}
-
-fn draft_of(alloc: Global, array: &DataArray) -> Result<Draft, AllocError>
-    ensures axes { IfOk result (λ d. d.axes ≡ array.now.axes) }
-    ensures coords { IfOk result (λ d. d.coords ≡ array.now.coords) }
-{
-    Ok(Draft {
-        axes: array.axes.deep_copy(alloc)?,
-        coords: copy_coords(alloc, array.coords.as_slice())?,
-    })
+    check_entries(axes, entries)?;
+    check_places(alloc, axes, entries)?;
+    let puts = put_entries(rt, alloc, cx, variables, axes, entries)?;
+    check_numbers(puts.as_slice())?;
+    Ok(puts)
 }
 
 #[tactic(auto, unfolding(crate::specs::Entries::array_assigned))]
@@ -99,8 +73,9 @@ fn array_with<R: Threads + Sync, C: Compute>(
     ensures plan { cx.new.plan ≡ cx.old.plan }
     ensures keeps { (nodes : List Node) (n : ℕ) → C.declines cx.new.compute nodes n ≡ C.declines cx.old.compute nodes n }
 {
-    let draft = draft_of(alloc, on)?;
-    let draft = assigned(rt, alloc, cx, &[], draft, args)?;
+    let draft = draft_of(alloc, &on.axes, &on.coords)?;
+    let puts = assigned(rt, alloc, cx, &[], on.axes.as_slice(), args)?;
+    let draft = with_puts(alloc, draft, puts.as_slice())?;
     let mut array = on.deep_copy(alloc)?;
     array.axes = draft.axes;
     array.coords = draft.coords;

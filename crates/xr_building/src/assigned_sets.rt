@@ -13,22 +13,12 @@ ghost use Rattle.xr_building.specs.Entries.{set_assigned, FollowsSet};
 
 use crate::assigned::assigned;
 use crate::busy::busy_axes;
-use crate::draft::Draft;
+use crate::draft::{Draft, draft_of, with_puts};
 use plan_core::Compute;
-use std::alloc::{AllocError, Global};
+use std::alloc::Global;
 use std::thread::Threads;
 use xr_types::{CallFault, DeepCopy, Fault, MOST_VARIABLES};
-use xr_values::{Args, Cx, Dataset, copy_coords};
-
-fn draft_of(alloc: Global, set: &Dataset) -> Result<Draft, AllocError>
-    ensures axes { IfOk result (λ d. d.axes ≡ set.now.axes) }
-    ensures coords { IfOk result (λ d. d.coords ≡ set.now.coords) }
-{
-    Ok(Draft {
-        axes: set.axes.deep_copy(alloc)?,
-        coords: copy_coords(alloc, set.coords.as_slice())?,
-    })
-}
+use xr_values::{Args, Cx, Dataset};
 
 // Refuses more coordinates and variables together than a dataset may have.
 #[tactic(auto, unfolding(xr_types::specs::Results::unless))]
@@ -41,30 +31,6 @@ fn check_few(draft: &Draft, set: &Dataset) -> Result<(), CallFault>
     } else {
         Err(CallFault::Refused(Fault::TooLarge))
     }
-}
-
-fn set_with<R: Threads + Sync, C: Compute>(
-    rt: &R,
-    alloc: Global,
-    cx: &mut Cx<C>,
-    on: &Dataset,
-    args: &Args,
-) -> Result<Dataset, CallFault>
-    requires sync { IsSync R.row }
-    requires inside { IsDatasetIn cx.old.plan on.now }
-    requires given { AreArgsIn cx.old.plan args.now }
-    ensures told { FollowsSet cx.old.plan result (set_assigned (C.declines cx.old.compute cx.old.plan) cx.old.plan on.now args.now) }
-    ensures plan { cx.new.plan ≡ cx.old.plan }
-    ensures keeps { (nodes : List Node) (n : ℕ) → C.declines cx.new.compute nodes n ≡ C.declines cx.old.compute nodes n }
-{
-    let draft = draft_of(alloc, on)?;
-    let draft = assigned(rt, alloc, cx, on.vars.as_slice(), draft, args)?;
-    check_few(&draft, on)?;
-    let axes = busy_axes(alloc, &draft, on)?;
-    let mut set = on.deep_copy(alloc)?;
-    set.axes = axes;
-    set.coords = draft.coords;
-    Ok(set)
 }
 
 /// A dataset with these labels and coordinates, as an array has them. A coordinate that is replaced may have been the last along a bare
@@ -88,5 +54,13 @@ pub fn assign_to_set<R: Threads + Sync, C: Compute>(
     ensures plan { cx.new.plan ≡ cx.old.plan }
     ensures keeps { (nodes : List Node) (n : ℕ) → C.declines cx.new.compute nodes n ≡ C.declines cx.old.compute nodes n }
 {
-    set_with(rt, alloc, cx, on, args)
+    let draft = draft_of(alloc, &on.axes, &on.coords)?;
+    let puts = assigned(rt, alloc, cx, on.vars.as_slice(), on.axes.as_slice(), args)?;
+    let draft = with_puts(alloc, draft, puts.as_slice())?;
+    check_few(&draft, on)?;
+    let axes = busy_axes(alloc, &draft, on)?;
+    let mut set = on.deep_copy(alloc)?;
+    set.axes = axes;
+    set.coords = draft.coords;
+    Ok(set)
 }

@@ -1,34 +1,43 @@
 //! Axes by their names.
-ghost use Rattle.std.specs.Prelude.{◌≡◌, ◌<◌, length, is_some, map, IfSome};
-ghost use Rattle.xr_types.specs.Names.{among};
-ghost use Rattle.xr_types.specs.Names.{axis_names};
-ghost use Rattle.xr_defs.specs.Values.{axis_position};
+ghost use Rattle.std.specs.Prelude.{◌≡◌, is_some, option_map, IfOk};
+ghost use Rattle.xr_defs.specs.Selecting.{axis_called};
 ghost use Rattle.xr_defs.specs.Building.{is_dimension};
+ghost use Rattle.xr_building.specs.Aligned.{axis_or_none};
 
-use xr_types::{Axis, TextBytes};
+use std::alloc::{AllocError, Global};
+use xr_types::{Axis, DeepCopy, TextBytes};
 
-/// The first position of an axis of this name.
-pub fn position_of(axes: &[Axis], name: &TextBytes) -> Option<usize>
-    ensures place { result ≡ axis_position name.now axes.now }
-    ensures inside { IfSome result (λ k. k < length axes.now) }
+/// The first axis of this name.
+#[tactic(auto, using(crate::proofs::Called::called_from, crate::proofs::Called::dimension_from))]
+pub fn called<'a>(axes: &'a [Axis], name: &TextBytes) -> Option<&'a Axis>
+    ensures axis { axis_called axes.now name.now ≡ axis_or_none (option_map (λ x. x.now) result) }
+    ensures there { is_dimension axes.now name.now ≡ is_some result }
 {
-    match axes {
-        [] => None,
-        [axis, rest @ ..] => {
-            if axis.name.is(name) {
-                return Some(0);
-            }
-            match position_of(rest, name) {
-                Some(n) => Some(n + 1),
-                None => None,
-            }
+    for axis in axes {
+        if axis.name.is(name) {
+            return Some(axis);
         }
     }
+    None
 }
 
 /// Whether there is an axis of this name.
 pub fn is_dimension(axes: &[Axis], name: &TextBytes) -> bool
     ensures { result ≡ is_dimension axes.now name.now }
 {
-    position_of(axes, name).is_some()
+    called(axes, name).is_some()
+}
+
+/// The first axis of this name, or one without a name and positions.
+pub fn axis_called(alloc: Global, axes: &[Axis], name: &TextBytes) -> Result<Axis, AllocError>
+    ensures { IfOk result (λ x. x ≡ axis_called axes.now name.now) }
+{
+    match called(axes, name) {
+        Some(axis) => axis.deep_copy(alloc),
+        None => Ok(Axis {
+            name: TextBytes::from_str(alloc, "")?,
+            size: 0,
+            labels: None,
+        }),
+    }
 }

@@ -17,23 +17,16 @@ use xr_values::{Dataset, Variable};
 fn have_axis(coords: &[Coord], name: &TextBytes) -> bool
     ensures { result ≡ list_any (λ (c : Other). among (axis_names c.axes) name.now) coords.now }
 {
-    for coord in coords {
-        if has_axis(coord.axes.as_slice(), name) {
-            return true;
-        }
-    }
-    false
+    coords
+        .iter()
+        .any(|coord| has_axis(coord.axes.as_slice(), name))
 }
 
 fn have_dim(vars: &[Variable], name: &TextBytes) -> bool
     ensures { result ≡ list_any (λ (v : Var). among v.dims name.now) vars.now }
 {
-    for variable in vars {
-        if is_among(variable.dims.as_slice(), name) {
-            return true;
-        }
-    }
-    false
+    vars.iter()
+        .any(|variable| is_among(variable.dims.as_slice(), name))
 }
 
 #[tactic(auto, unfolding(crate::specs::Idle::is_held))]

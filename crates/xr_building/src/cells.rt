@@ -44,12 +44,7 @@ fn cell_fits(kind: DType, cell: Option<i128>) -> bool
 pub fn all_fit(kind: DType, cells: &[Option<i128>]) -> bool
     ensures { result ≡ list_all (fits_kind kind) cells.now }
 {
-    for cell in cells {
-        if !cell_fits(kind, *cell) {
-            return false;
-        }
-    }
-    true
+    cells.iter().all(|cell| cell_fits(kind, *cell))
 }
 
 /// The kind that is given, or that of the elements.

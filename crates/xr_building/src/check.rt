@@ -2,9 +2,8 @@
 ghost use Rattle.std.specs.Prelude.{◌≡◌, ◌&&◌, ◌==◌, List, map, length};
 ghost use Rattle.std.specs.List.{list_all};
 ghost use Rattle.xr_arrays.specs.declared.node.Node.{Node};
-ghost use Rattle.xr_types.specs.Names.{among};
+ghost use Rattle.xr_types.specs.Names.{among, axis_names};
 ghost use Rattle.xr_types.specs.Results.{Answers, all_of};
-ghost use Rattle.xr_types.specs.Names.{axis_names};
 ghost use Rattle.xr_defs.specs.Building as of;
 ghost use Rattle.xr_defs.specs.Meanings.{Array};
 ghost use Rattle.xr_values.specs.Meaning.{meaning, all_values, with_key};

@@ -1,14 +1,20 @@
-//! Axes and coordinates while entries are put in their places.
-ghost use Rattle.std.specs.Prelude.{◌≡◌, ◌<◌, length, map, IfOk, IfSome, OnOk};
+//! Axes and coordinates with what entries come to.
+ghost use Rattle.std.specs.Prelude.{◌≡◌, ◌<◌, true, length, map, All, IfOk, IfSome, OnOk};
+ghost use Rattle.std.specs.List.{list_all};
+ghost use Rattle.xr_types.specs.Kinds.{in_range, InRange};
+ghost use Rattle.xr_types.specs.declared.kind.DType.TheVariants as kinds;
+ghost use Rattle.xr_types.specs.declared.axis.Axis.{Axis as Dimension};
 ghost use Rattle.xr_defs.specs.Building as of;
-ghost use Rattle.xr_building.specs.Found.{coord_place};
-ghost use Rattle.xr_building.specs.Frames.{with_index, coord_with_index};
-ghost use Rattle.xr_building.specs.Walk.{frame_of, indexed, with_another};
+ghost use Rattle.xr_defs.specs.Selecting.{axis_called};
+ghost use Rattle.xr_building.specs.Puts.{after, coord_place, frame_of, labels_fit, labels_of, number_coord, over, over_called, put_fits, put_on};
 
+use crate::axes::axis_called;
+use crate::cells::array_value;
+use crate::puts::{NewLabels, Put};
 use std::alloc::{AllocError, Global};
-use xr_defs::Coord;
-use xr_types::{Axis, DeepCopy, Items, Labels, TextBytes};
-use xr_values::copy_content;
+use xr_defs::{Content, Coord};
+use xr_types::{Axis, DType, DeepCopy, Integers, Items, LabelList, Labels, TextBytes};
+use xr_values::{copy_content, copy_coord, copy_coords};
 
 /// Axes with the coordinates over them.
 #[derive(Drop)]
@@ -17,88 +23,143 @@ pub struct Draft {
     pub coords: Items<Coord>,
 }
 
-// An axis with these labels, or none, where it has the name.
-fn with_index(
+/// A copy of axes and of the coordinates over them.
+pub fn draft_of(
+    alloc: Global,
+    axes: &Items<Axis>,
+    coords: &Items<Coord>,
+) -> Result<Draft, AllocError>
+    ensures { IfOk result (λ d. frame_of d ≡ over axes.now coords.now) }
+{
+    Ok(Draft {
+        axes: axes.deep_copy(alloc)?,
+        coords: copy_coords(alloc, coords.as_slice())?,
+    })
+}
+
+// ---- labels
+
+// An axis with these labels where it has the name.
+fn relabelled(
     alloc: Global,
     axis: &Axis,
     name: &TextBytes,
-    labels: &Option<Labels>,
+    labels: &Labels,
 ) -> Result<Axis, AllocError>
-    ensures { IfOk result (λ x. x ≡ with_index name.now labels.now axis.now) }
+    ensures { IfOk result (λ x. x ≡ of.relabelled name.now labels.now axis.now) }
 {
     if axis.name.is(name) {
         Ok(Axis {
             name: axis.name.deep_copy(alloc)?,
             size: axis.size,
-            labels: labels.deep_copy(alloc)?,
+            labels: Some(labels.deep_copy(alloc)?),
         })
     } else {
         axis.deep_copy(alloc)
     }
 }
 
-fn axes_with_index(
+fn axes_relabelled(
     alloc: Global,
     axes: &[Axis],
     name: &TextBytes,
-    labels: &Option<Labels>,
+    labels: &Labels,
 ) -> Result<Items<Axis>, AllocError>
-    ensures { IfOk result (λ xs. xs ≡ map (with_index name.now labels.now) axes.now) }
+    ensures { IfOk result (λ xs. xs ≡ map (of.relabelled name.now labels.now) axes.now) }
 {
     let mut out = Items::new(alloc);
     for axis in axes {
-        out.push(with_index(alloc, axis, name, labels)?)?;
+        out.push(relabelled(alloc, axis, name, labels)?)?;
     }
     Ok(out)
 }
 
-fn coord_with_index(
+fn coord_relabelled(
     alloc: Global,
     coord: &Coord,
     name: &TextBytes,
-    labels: &Option<Labels>,
+    labels: &Labels,
 ) -> Result<Coord, AllocError>
-    ensures { IfOk result (λ c. c ≡ coord_with_index name.now labels.now coord.now) }
+    ensures { IfOk result (λ c. c ≡ of.coord_relabelled name.now labels.now coord.now) }
 {
     Ok(Coord {
         name: coord.name.deep_copy(alloc)?,
-        axes: axes_with_index(alloc, coord.axes.as_slice(), name, labels)?,
+        axes: axes_relabelled(alloc, coord.axes.as_slice(), name, labels)?,
         attrs: coord.attrs.deep_copy(alloc)?,
         content: copy_content(alloc, &coord.content)?,
     })
 }
 
-fn coords_with_index(
+fn coords_relabelled(
     alloc: Global,
     coords: &[Coord],
     name: &TextBytes,
-    labels: &Option<Labels>,
+    labels: &Labels,
 ) -> Result<Items<Coord>, AllocError>
-    ensures { IfOk result (λ cs. cs ≡ map (coord_with_index name.now labels.now) coords.now) }
+    ensures { IfOk result (λ cs. cs ≡ map (of.coord_relabelled name.now labels.now) coords.now) }
 {
     let mut out = Items::new(alloc);
     for coord in coords {
-        out.push(coord_with_index(alloc, coord, name, labels)?)?;
+        out.push(coord_relabelled(alloc, coord, name, labels)?)?;
     }
     Ok(out)
 }
 
-/// The axis of this name has these labels, or none, wherever it stands.
-pub fn indexed(
+fn labelled(
     alloc: Global,
     draft: &Draft,
     name: &TextBytes,
-    labels: &Option<Labels>,
+    labels: &Labels,
 ) -> Result<Draft, AllocError>
-    ensures { IfOk result (λ d. frame_of d ≡ indexed (frame_of draft.now) name.now labels.now) }
+    ensures { IfOk result (λ d. frame_of d ≡ of.frame_labelled (frame_of draft.now) name.now labels.now) }
 {
     Ok(Draft {
-        axes: axes_with_index(alloc, draft.axes.as_slice(), name, labels)?,
-        coords: coords_with_index(alloc, draft.coords.as_slice(), name, labels)?,
+        axes: axes_relabelled(alloc, draft.axes.as_slice(), name, labels)?,
+        coords: coords_relabelled(alloc, draft.coords.as_slice(), name, labels)?,
     })
 }
 
-#[tactic(auto, unfolding(crate::specs::Found::coord_place))]
+fn integers(alloc: Global, numbers: &[i128]) -> Result<Integers, AllocError>
+    requires { All (InRange kinds.Int64) numbers.now }
+    ensures { IfOk result (λ ns. ns ≡ numbers.now) }
+{
+    let mut out = Items::new(alloc);
+    for number in numbers {
+        out.push(*number as i64)?;
+    }
+    Integers::signed(alloc, out)
+}
+
+#[tactic(auto, using(crate::proofs::Fitting::fit_in_range))]
+fn labels_of(alloc: Global, labels: &NewLabels) -> Result<Labels, AllocError>
+    requires { labels_fit labels.now ≡ true }
+    ensures { IfOk result (λ l. l ≡ labels_of labels.now) }
+{
+    match labels {
+        NewLabels::Numbers(numbers) => Ok(Labels {
+            list: LabelList::Numbers(DType::Int64, integers(alloc, numbers.as_slice())?),
+            attrs: Items::new(alloc),
+        }),
+        NewLabels::Labels(labels) => labels.deep_copy(alloc),
+    }
+}
+
+fn with_labels(
+    alloc: Global,
+    draft: &Draft,
+    name: &TextBytes,
+    labels: &NewLabels,
+) -> Result<Draft, AllocError>
+    requires { labels_fit labels.now ≡ true }
+    ensures { IfOk result (λ d. frame_of d ≡ of.frame_labelled (frame_of draft.now) name.now (labels_of labels.now)) }
+{
+    let labels = labels_of(alloc, labels)?;
+    labelled(alloc, draft, name, &labels)
+}
+
+// ---- coordinates
+
+#[tactic(auto, unfolding(crate::specs::Puts::coord_place))]
 fn coord_place(coords: &[Coord], name: &TextBytes) -> Option<usize>
     ensures place { result ≡ coord_place coords.now name.now }
     ensures inside { IfSome result (λ k. k < length coords.now) }
@@ -120,13 +181,82 @@ fn put_coord(coords: &mut Items<Coord>, coord: Coord) -> Result<(), AllocError>
     }
 }
 
-/// With another coordinate, where there is one.
-pub fn with_another(draft: Draft, coord: Option<Coord>) -> Result<Draft, AllocError>
-    ensures { IfOk result (λ d. frame_of d ≡ with_another (frame_of draft) coord) }
+// A coordinate of one number.
+#[tactic(auto, using(crate::proofs::Fitting::one_in_range))]
+fn number_coord(alloc: Global, name: &TextBytes, n: i128) -> Result<Coord, AllocError>
+    requires { in_range kinds.Int64 n ≡ true }
+    ensures { IfOk result (λ c. c ≡ number_coord name.now n) }
+{
+    let cells = array_value(
+        alloc,
+        DType::Int64,
+        Items::new(alloc),
+        false,
+        [Some(n)].as_slice(),
+    )?;
+    Ok(Coord {
+        name: name.deep_copy(alloc)?,
+        axes: Items::new(alloc),
+        attrs: Items::new(alloc),
+        content: Content::Cells(cells, false),
+    })
+}
+
+fn axes_called(alloc: Global, axes: &[Axis], own: &[Axis]) -> Result<Items<Axis>, AllocError>
+    ensures { IfOk result (λ xs. xs ≡ map (λ (x : Dimension). axis_called axes.now x.name) own.now) }
+{
+    let mut out = Items::new(alloc);
+    for axis in own {
+        out.push(axis_called(alloc, axes, &axis.name)?)?;
+    }
+    Ok(out)
+}
+
+fn over_called(alloc: Global, axes: &[Axis], coord: &Coord) -> Result<Coord, AllocError>
+    ensures { IfOk result (λ c. c ≡ over_called axes.now coord.now) }
+{
+    let own = axes_called(alloc, axes, coord.axes.as_slice())?;
+    let mut coord = copy_coord(alloc, coord)?;
+    coord.axes = own;
+    Ok(coord)
+}
+
+fn with_coord(draft: Draft, coord: Coord) -> Result<Draft, AllocError>
+    ensures { IfOk result (λ d. frame_of d ≡ record { axes = draft.axes; coords = of.with_coord draft.coords coord }) }
 {
     let mut draft = draft;
-    if let Some(coord) = coord {
-        put_coord(&mut draft.coords, coord)?;
+    put_coord(&mut draft.coords, coord)?;
+    Ok(draft)
+}
+
+// ---- both
+
+fn with_put(alloc: Global, draft: Draft, put: &Put) -> Result<Draft, AllocError>
+    requires { put_fits put.now ≡ true }
+    ensures { IfOk result (λ d. frame_of d ≡ put_on (frame_of draft) put.now) }
+{
+    match put {
+        Put::Labels(name, labels) => with_labels(alloc, &draft, name, labels),
+        Put::Number(name, n) => {
+            let coord = number_coord(alloc, name, *n)?;
+            with_coord(draft, coord)
+        }
+        Put::Coord(coord) => {
+            let coord = over_called(alloc, draft.axes.as_slice(), coord)?;
+            with_coord(draft, coord)
+        }
+    }
+}
+
+/// Axes and coordinates with these puts.
+#[tactic(auto, using(crate::proofs::Fitting::each_fits))]
+pub fn with_puts(alloc: Global, draft: Draft, puts: &[Put]) -> Result<Draft, AllocError>
+    requires { list_all put_fits puts.now ≡ true }
+    ensures { IfOk result (λ d. frame_of d ≡ after (frame_of draft) puts.now) }
+{
+    let mut draft = draft;
+    for put in puts {
+        draft = with_put(alloc, draft, put)?;
     }
     Ok(draft)
 }

@@ -4,7 +4,6 @@ ghost use Rattle.xr_arrays.specs.declared.node.Node.{Node};
 ghost use Rattle.xr_types.specs.Results.{Answers, all_of};
 ghost use Rattle.xr_defs.specs.Building as of;
 ghost use Rattle.xr_values.specs.Meaning.{meaning, with_key, IsEntryIn, IsValueIn};
-ghost use Rattle.xr_building.specs.Outlined.{table_entries};
 ghost use Rattle.xr_building.specs.Written.{coords_held, entries_held, keyword_held};
 
 use crate::check::check_entry;
@@ -47,21 +46,13 @@ fn check_table_entry(axes: &[Axis], entry: &(TextBytes, Value)) -> Result<(), Ca
     }
 }
 
+// Refuses the first entry of a table that can't be one.
 fn check_each(axes: &[Axis], entries: &[(TextBytes, Value)]) -> Result<(), CallFault>
     ensures { (nodes : List Node) → Answers (λ u. u) result (all_of (of.check_table_entry axes.now) (map (with_key nodes) entries.now)) }
 {
     for entry in entries {
         check_table_entry(axes, entry)?;
     }
-    Ok(())
-}
-
-// Refuses the first entry of a table that can't be one.
-#[tactic(auto, unfolding(crate::specs::Outlined::table_entries))]
-fn check_table(axes: &[Axis], entries: &[(TextBytes, Value)]) -> Result<(), CallFault>
-    ensures answers { (nodes : List Node) → Answers (λ u. map (with_key nodes) entries.now) result (table_entries axes.now (map (with_key nodes) entries.now)) }
-{
-    check_each(axes, entries)?;
     Ok(())
 }
 
@@ -76,7 +67,7 @@ fn table_given<'a>(axes: &[Axis], value: &'a Value) -> Result<&'a [(TextBytes, V
         Value::Absent => Ok(&[]),
         Value::Table(table) => {
             let entries = table.as_slice();
-            check_table(axes, entries)?;
+            check_each(axes, entries)?;
             Ok(entries)
         }
         _ => Err(CallFault::Refused(Fault::WrongKind)),

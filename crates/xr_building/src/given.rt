@@ -4,9 +4,8 @@ ghost use Rattle.std.specs.List.{list_all};
 ghost use Rattle.xr_types.specs.declared.kind.DType.TheVariants as kinds;
 ghost use Rattle.xr_arrays.specs.declared.node.Node.{Node};
 ghost use Rattle.xr_types.specs.Results.{Answers};
-ghost use Rattle.xr_types.specs.Names.{among};
+ghost use Rattle.xr_types.specs.Names.{among, are_distinct};
 ghost use Rattle.xr_files.specs.Classic.{is_name};
-ghost use Rattle.xr_types.specs.Names.{are_distinct};
 ghost use Rattle.xr_defs.specs.Building as of;
 ghost use Rattle.xr_defs.specs.Parts as parts;
 ghost use Rattle.xr_values.specs.Meaning.{meaning};
@@ -28,24 +27,14 @@ fn are_named(names: &[TextBytes]) -> bool
     ensures value { result ≡ list_all (λ n. not (length n == 0)) names.now }
     ensures names { result ≡ list_all is_name names.now }
 {
-    for name in names {
-        if !is_named(name) {
-            return false;
-        }
-    }
-    true
+    names.iter().all(|name| is_named(name))
 }
 
 /// Whether the name is one of these.
 pub fn is_among(names: &[TextBytes], name: &TextBytes) -> bool
     ensures { result ≡ among names.now name.now }
 {
-    for other in names {
-        if name.is(other) {
-            return true;
-        }
-    }
-    false
+    names.iter().any(|other| name.is(other))
 }
 
 fn are_distinct(names: &[TextBytes]) -> bool

@@ -1,110 +1,47 @@
-//! Labels that are given: lists of numbers or of texts, and the cells of arrays.
-ghost use Rattle.std.specs.Prelude.{◌≡◌, List, [], map, IfOk, MatchOption, Some};
-ghost use Rattle.xr_types.specs.declared.axis.LabelList.TheVariants as lists;
+//! Labels that are given: lists of numbers or of texts, times, and the cells of arrays.
+ghost use Rattle.std.specs.Prelude.{◌≡◌, [], true, false, List, Ok, map, IfOk, MatchOption};
+ghost use Rattle.std.specs.List.{list_all};
 ghost use Rattle.xr_arrays.specs.declared.node.Node.{Node};
-ghost use Rattle.xr_arrays.specs.Arrays.{wide};
-ghost use Rattle.xr_defs.specs.Meanings.{Sequence};
+ghost use Rattle.xr_arrays.specs.Nodes.{value as value_of};
+ghost use Rattle.xr_types.specs.Results.{Answers};
+ghost use Rattle.xr_defs.specs.Meanings.{Array, Number, Sequence};
+ghost use Rattle.xr_defs.specs.Building as of;
+ghost use Rattle.xr_defs.specs.Parts as parts;
 ghost use Rattle.xr_values.specs.Meaning.{meaning, all_values};
-ghost use Rattle.xr_building.specs.Listed.{in_64_bits, in_unsigned, number_in, unsigned_in, text_in, each_of, texts_listed, unsigned_listed, listed_in};
-ghost use Rattle.xr_building.specs.Walk.{fitting, labels_in};
+ghost use Rattle.xr_values.specs.Stands.{array_in, IsArrayIn};
+ghost use Rattle.xr_building.specs.Entries.{IsPlain};
+ghost use Rattle.xr_building.specs.Puts.{fits_whole, labels_fit, labels_of, texts_put};
 
+use crate::check::{are_numbers, are_texts};
+use crate::puts::NewLabels;
 use std::alloc::{AllocError, Global};
-use xr_arrays::Cells;
-use xr_types::{DType, DeepCopy, Integers, Items, LabelList, Labels, Shared, TextBytes};
-use xr_values::{Value, integers_of};
-
-/// A number in 64 bits, where they hold it.
-pub fn in_64_bits(n: i128) -> Option<i64>
-    ensures { result ≡ in_64_bits n }
-{
-    if -9_223_372_036_854_775_808 <= n && n <= 9_223_372_036_854_775_807 {
-        Some(n as i64)
-    } else {
-        None
-    }
-}
+use stored_cells::as_typed;
+use xr_arguments::texts_in;
+use xr_arrays::ArrayValue;
+use xr_types::{CallFault, DeepCopy, Fault, Items, LabelList, Labels, Shared};
+use xr_values::{DataArray, Value, integers_of};
 
 #[tactic(auto, using(xr_arguments::proofs::Variants::is_number, xr_values::proofs::Meaning::meaning_out))]
-fn number_in(value: &Value) -> Option<i64>
-    ensures { (nodes : List Node) → result ≡ number_in (meaning nodes value.now) }
+fn number_in(value: &Value) -> Option<i128>
+    ensures { (nodes : List Node) → MatchOption result (of.is_number (meaning nodes value.now) ≡ false) (λ n. meaning nodes value.now ≡ Number n) }
 {
     match value {
-        Value::Number(n) => in_64_bits(*n),
+        Value::Number(n) => Some(*n),
         _ => None,
     }
 }
 
-// The numbers, where all are numbers of 64 bits.
-fn numbers_in(alloc: Global, list: &[Value]) -> Result<Option<Items<i64>>, AllocError>
-    ensures { (nodes : List Node) → IfOk result (λ o. o ≡ each_of number_in (map (meaning nodes) list.now)) }
+fn numbers_in(alloc: Global, list: &[Value]) -> Result<Items<i128>, AllocError>
+    requires { (nodes : List Node) → list_all of.is_number (map (meaning nodes) list.now) ≡ true }
+    ensures { (nodes : List Node) → IfOk result (λ ns. ns ≡ of.numbers_in (all_values nodes list.now)) }
 {
     let mut numbers = Items::new(alloc);
     for value in list {
-        match number_in(value) {
-            Some(n) => numbers.push(n)?,
-            None => return Ok(None),
+        if let Some(n) = number_in(value) {
+            numbers.push(n)?;
         }
     }
-    Ok(Some(numbers))
-}
-
-/// A number in 64 bits without a sign, where they hold it.
-fn in_unsigned(n: i128) -> Option<u64>
-    ensures { result ≡ in_unsigned n }
-{
-    if 0 <= n && n <= 18_446_744_073_709_551_615 {
-        Some(n as u64)
-    } else {
-        None
-    }
-}
-
-#[tactic(auto, using(xr_arguments::proofs::Variants::is_number, xr_values::proofs::Meaning::meaning_out))]
-fn unsigned_in(value: &Value) -> Option<u64>
-    ensures { (nodes : List Node) → result ≡ unsigned_in (meaning nodes value.now) }
-{
-    match value {
-        Value::Number(n) => in_unsigned(*n),
-        _ => None,
-    }
-}
-
-// The numbers, where all are numbers of 64 bits without a sign.
-fn all_unsigned(alloc: Global, list: &[Value]) -> Result<Option<Items<u64>>, AllocError>
-    ensures { (nodes : List Node) → IfOk result (λ o. o ≡ each_of unsigned_in (map (meaning nodes) list.now)) }
-{
-    let mut numbers = Items::new(alloc);
-    for value in list {
-        match unsigned_in(value) {
-            Some(n) => numbers.push(n)?,
-            None => return Ok(None),
-        }
-    }
-    Ok(Some(numbers))
-}
-
-#[tactic(auto, using(xr_arguments::proofs::Variants::is_text, xr_values::proofs::Meaning::meaning_out))]
-fn text_in(alloc: Global, value: &Value) -> Result<Option<TextBytes>, AllocError>
-    ensures { (nodes : List Node) → IfOk result (λ o. o ≡ text_in (meaning nodes value.now)) }
-{
-    match value {
-        Value::Text(text) => Ok(Some(text.deep_copy(alloc)?)),
-        _ => Ok(None),
-    }
-}
-
-// The texts, where all are texts.
-fn texts_in(alloc: Global, list: &[Value]) -> Result<Option<Items<TextBytes>>, AllocError>
-    ensures { (nodes : List Node) → IfOk result (λ o. o ≡ each_of text_in (map (meaning nodes) list.now)) }
-{
-    let mut texts = Items::new(alloc);
-    for value in list {
-        match text_in(alloc, value)? {
-            Some(text) => texts.push(text)?,
-            None => return Ok(None),
-        }
-    }
-    Ok(Some(texts))
+    Ok(numbers)
 }
 
 // Labels without attributes.
@@ -117,55 +54,77 @@ fn plain(alloc: Global, list: LabelList) -> Labels
     }
 }
 
-// The texts, where all are texts.
-fn listed_texts(alloc: Global, list: &[Value]) -> Result<Option<Labels>, AllocError>
-    ensures { (nodes : List Node) → IfOk result (λ o. o ≡ texts_listed (map (meaning nodes) list.now)) }
+fn text_labels(alloc: Global, list: &[Value]) -> Result<NewLabels, CallFault>
+    ensures answers { (nodes : List Node) → Answers labels_of result (texts_put (parts.texts_in (all_values nodes list.now))) }
+    ensures fits { IfOk result (λ l. labels_fit l ≡ true) }
 {
-    match texts_in(alloc, list)? {
-        Some(texts) => {
-            let texts = Shared::of(alloc, texts)?;
-            Ok(Some(plain(alloc, LabelList::Texts(texts))))
-        }
-        None => Ok(None),
+    let texts = texts_in(alloc, list)?;
+    let texts = Shared::of(alloc, texts)?;
+    Ok(NewLabels::Labels(plain(alloc, LabelList::Texts(texts))))
+}
+
+fn list_labels(alloc: Global, list: &[Value]) -> Result<NewLabels, CallFault>
+    ensures answers { (nodes : List Node) → Answers labels_of result (of.labels_given (Sequence (all_values nodes list.now))) }
+    ensures fits { (nodes : List Node) → IfOk result (λ l. labels_fit l ≡ fits_whole (Sequence (all_values nodes list.now))) }
+{
+    if are_numbers(list) {
+        let numbers = numbers_in(alloc, list)?;
+        return Ok(NewLabels::Numbers(numbers));
+    }
+    if are_texts(list) {
+        text_labels(alloc, list)
+    } else {
+        Err(CallFault::Refused(Fault::WrongKind))
     }
 }
 
-// Numbers that no signed kind holds are of kind `uint64` for the time being.
-fn listed_unsigned(alloc: Global, list: &[Value]) -> Result<Option<Labels>, AllocError>
-    ensures { (nodes : List Node) → IfOk result (λ o. o ≡ unsigned_listed (map (meaning nodes) list.now)) }
+/// The labels that a value gives.
+///
+/// # Errors
+/// `WrongKind` for what can't be labels.
+#[tactic(auto, using(xr_arguments::proofs::Variants::is_list, xr_arguments::proofs::Variants::is_times, xr_arguments::proofs::Variants::is_array, xr_values::proofs::Meaning::meaning_out))]
+pub fn labels_given(alloc: Global, value: &Value) -> Result<NewLabels, CallFault>
+    requires { IsPlain value.now }
+    ensures answers { (nodes : List Node) → Answers labels_of result (of.labels_given (meaning nodes value.now)) }
+    ensures fits { (nodes : List Node) → IfOk result (λ l. labels_fit l ≡ fits_whole (meaning nodes value.now)) }
 {
-    match all_unsigned(alloc, list)? {
-        Some(numbers) => {
-            let numbers = Integers::unsigned(alloc, numbers)?;
-            Ok(Some(plain(alloc, LabelList::Numbers(DType::UInt64, numbers))))
+    match value {
+        Value::List(items) => list_labels(alloc, items.as_slice()),
+        Value::Times(coding, times) => {
+            let times = LabelList::Times(coding.deep_copy(alloc)?, times.deep_copy(alloc)?);
+            Ok(NewLabels::Labels(plain(alloc, times)))
         }
-        None => listed_texts(alloc, list),
+        _ => Err(CallFault::Refused(Fault::WrongKind)),
     }
 }
 
-fn listed(alloc: Global, list: &[Value]) -> Result<Option<Labels>, AllocError>
-    ensures { (nodes : List Node) → IfOk result (λ o. o ≡ listed_in (map (meaning nodes) list.now)) }
+/// How many labels these are.
+pub fn total(labels: &NewLabels) -> usize
+    ensures { result ≡ of.label_total (labels_of labels.now).list }
 {
-    match numbers_in(alloc, list)? {
-        Some(numbers) => {
-            let numbers = Integers::signed(alloc, numbers)?;
-            Ok(Some(plain(alloc, LabelList::Numbers(DType::Int64, numbers))))
-        }
-        None => listed_unsigned(alloc, list),
+    match labels {
+        NewLabels::Numbers(numbers) => numbers.as_slice().len(),
+        NewLabels::Labels(labels) => match &labels.list {
+            LabelList::Numbers(_, numbers) => numbers.len(),
+            LabelList::Times(_, times) => times.as_slice().len(),
+            LabelList::Texts(texts) => texts.as_slice().len(),
+        },
     }
 }
 
-/// The labels of a list of whole numbers or of texts, unless no kind holds the numbers.
-#[tactic(auto, using(crate::proofs::Lists::listed_labels_are))]
-pub fn list_labels(alloc: Global, list: &[Value]) -> Result<Option<Labels>, AllocError>
-    ensures { (nodes : List Node) → IfOk result (λ o. o ≡ fitting (labels_in (Sequence (all_values nodes list.now)))) }
+/// The labels that an array's cells are.
+pub fn array_labels(
+    alloc: Global,
+    array: &DataArray,
+    cells: &ArrayValue,
+) -> Result<Labels, AllocError>
+    requires { array.now.masked ≡ false }
+    ensures { (nodes : List Node) → IsArrayIn nodes array.now → cells.now ≡ value_of nodes array.now.node → IfOk result (λ l. of.labels_given (Array (array_in nodes array.now)) ≡ Ok l) }
 {
-    listed(alloc, list)
-}
-
-/// The numbers of cells as labels.
-pub fn cell_labels(alloc: Global, kind: DType, cells: &Cells) -> Result<LabelList, AllocError>
-    ensures { IfOk result (λ l. l ≡ lists.Numbers kind (wide cells.now)) }
-{
-    Ok(LabelList::Numbers(kind, integers_of(alloc, cells)?))
+    let typed = as_typed(alloc, cells)?;
+    let (numbers, _) = typed.parts();
+    Ok(Labels {
+        list: LabelList::Numbers(array.kind, integers_of(alloc, numbers)?),
+        attrs: array.attrs.deep_copy(alloc)?,
+    })
 }

@@ -10,7 +10,6 @@ mod busy;
 mod cells;
 mod check;
 mod computed;
-mod coordinates;
 mod draft;
 mod elements;
 mod entries;
@@ -23,6 +22,7 @@ mod outlined;
 mod placed;
 mod placing;
 mod put;
+mod puts;
 mod written;
 
 pub use assigned::assign_to_array;

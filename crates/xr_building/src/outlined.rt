@@ -5,30 +5,29 @@ ghost use Rattle.std.specs.List.{list_all};
 ghost use Rattle.xr_types.specs.declared.kind.DType.TheVariants as kinds;
 ghost use Rattle.xr_arrays.specs.declared.node.Node.{Node};
 ghost use Rattle.xr_files.specs.Classic.{is_name};
-ghost use Rattle.xr_types.specs.Names.{are_distinct};
+ghost use Rattle.xr_types.specs.Names.{are_distinct, shape_over};
 ghost use Rattle.xr_types.specs.Results.{Answers, all_of};
-ghost use Rattle.xr_types.specs.Names.{shape_over};
 ghost use Rattle.xr_defs.specs.Building as of;
 ghost use Rattle.xr_values.specs.Meaning.{meaning, with_key, IsEntryIn, IsValueIn};
 ghost use Rattle.xr_building.specs.Entries.{Follows};
 ghost use Rattle.xr_building.specs.Frames.{IsFrame};
 ghost use Rattle.xr_building.specs.Gathered.{gathered as elements_of};
-ghost use Rattle.xr_building.specs.Outlined.{check_fit, draft_in, draft_put, outline_in, outline_over};
+ghost use Rattle.xr_building.specs.Outlined.{draft_in, fitting, outline_in, outline_over};
 ghost use Rattle.xr_building.specs.Placed.{IsFilled};
-ghost use Rattle.xr_building.specs.Walk.{frame_of};
+ghost use Rattle.xr_building.specs.Puts.{frame_of, put_fits};
 ghost use Rattle.xr_building.specs.Written.{entries_held};
 
 use crate::bare::bare_axes;
 use crate::cells::all_fit;
 use crate::check::check_places;
-use crate::draft::Draft;
+use crate::draft::{Draft, with_puts};
 use crate::elements::Elements;
 use crate::entries::entries_given;
 use crate::header::header_of;
 use crate::nesting::{is_regular, nested_shape};
 use crate::placed::Outline;
-use crate::placing::check_numbers;
 use crate::put::put_entries;
+use crate::puts::{Put, check_numbers};
 use plan_core::Compute;
 use std::alloc::Global;
 use std::thread::Threads;
@@ -44,52 +43,21 @@ pub struct Options<'a> {
 }
 
 // Refuses elements that are none of the kind, and then the numbers of entries that 64 bits don't hold.
-#[tactic(auto, unfolding(crate::specs::Outlined::check_fit, xr_types::specs::Results::unless))]
-fn check_fit(
-    kind: DType,
-    cells: &[Option<i128>],
-    entries: &[(TextBytes, Value)],
-) -> Result<(), CallFault>
+#[tactic(auto, unfolding(xr_types::specs::Results::unless))]
+fn check_fit(kind: DType, cells: &[Option<i128>], puts: &[Put]) -> Result<(), CallFault>
     requires { kind ≢ kinds.Char }
-    ensures answers { (nodes : List Node) → Answers (λ u. u) result (check_fit kind cells.now (map (with_key nodes) entries.now)) }
-    ensures fit { IfOk result (λ u. list_all (of.fits_kind kind) cells.now ≡ true) }
+    ensures answers { Answers (λ u. u) result (fitting (list_all (of.fits_kind kind) cells.now) (list_all put_fits puts.now)) }
+    ensures cells { IfOk result (λ u. list_all (of.fits_kind kind) cells.now ≡ true) }
+    ensures puts { IfOk result (λ u. list_all put_fits puts.now ≡ true) }
 {
     if !all_fit(kind, cells) {
         return Err(CallFault::Refused(Fault::DoesNotFit));
     }
-    check_numbers(entries)
+    check_numbers(puts)
 }
 
-// Entries are put over bare axes; last come the elements and the numbers that don't fit.
-#[tactic(auto, unfolding(crate::specs::Outlined::draft_put))]
-fn put_all<R: Threads + Sync, C: Compute>(
-    rt: &R,
-    alloc: Global,
-    cx: &mut Cx<C>,
-    draft: Draft,
-    kind: DType,
-    cells: &[Option<i128>],
-    entries: &[(TextBytes, Value)],
-) -> Result<Draft, CallFault>
-    requires sync { IsSync R.row }
-    requires kind { kind ≢ kinds.Char }
-    requires inside { All (IsEntryIn cx.old.plan) entries.now }
-    requires checked { all_of (of.check_entry draft.axes) (map (with_key cx.old.plan) entries.now) ≡ Ok tt }
-    requires placed { all_of (of.check_place draft.axes) (map (with_key cx.old.plan) entries.now) ≡ Ok tt }
-    requires frame { IsFrame draft.axes draft.coords }
-    ensures told { Follows frame_of result (draft_put (C.declines cx.old.compute cx.old.plan) cx.old.plan (frame_of draft) kind cells.now entries.now) }
-    ensures frame { IfOk result (λ d. IsFrame d.axes d.coords) }
-    ensures fit { IfOk result (λ d. list_all (of.fits_kind kind) cells.now ≡ true) }
-    ensures plan { cx.new.plan ≡ cx.old.plan }
-    ensures keeps { (nodes : List Node) (n : ℕ) → C.declines cx.new.compute nodes n ≡ C.declines cx.old.compute nodes n }
-{
-    let draft = put_entries(rt, alloc, cx, &[], draft, entries)?;
-    check_fit(kind, cells, entries)?;
-    Ok(draft)
-}
-
-// The same by the definitions. The axes are as long as before.
-#[tactic(auto, using(crate::proofs::Drafted::draft_same))]
+// Entries are put over bare axes; last come the elements and the numbers that don't fit. The axes are as long as before.
+#[tactic(auto, unfolding(crate::specs::Outlined::draft_in, crate::specs::Outlined::check_fit))]
 fn with_entries<R: Threads + Sync, C: Compute>(
     rt: &R,
     alloc: Global,
@@ -112,7 +80,10 @@ fn with_entries<R: Threads + Sync, C: Compute>(
     ensures plan { cx.new.plan ≡ cx.old.plan }
     ensures keeps { (nodes : List Node) (n : ℕ) → C.declines cx.new.compute nodes n ≡ C.declines cx.old.compute nodes n }
 {
-    put_all(rt, alloc, cx, draft, kind, cells, entries)
+    let puts = put_entries(rt, alloc, cx, &[], draft.axes.as_slice(), entries)?;
+    check_fit(kind, cells, puts.as_slice())?;
+    let draft = with_puts(alloc, draft, puts.as_slice())?;
+    Ok(draft)
 }
 
 // The same over axes of these sizes.

@@ -1,54 +1,31 @@
 //! Whether entries fit their places: the sizes of labels and of arrays, the labels of arrays, and names.
-ghost use Rattle.std.specs.Prelude.{◌≡◌, ℕ, true, List, Ok, map};
-ghost use Rattle.std.specs.List.{list_all};
-ghost use Rattle.xr_arrays.specs.declared.node.Node.{Node};
+ghost use Rattle.std.specs.Prelude.{◌≡◌, ◌==◌, true, List, not};
+ghost use Rattle.xr_types.specs.declared.axis.LabelList.TheVariants as lists;
+ghost use Rattle.xr_types.specs.declared.fault.Fault.TheVariants as faults;
 ghost use Rattle.xr_types.specs.Names.{among};
-ghost use Rattle.xr_defs.specs.Meanings.{Array};
-ghost use Rattle.xr_types.specs.Results.{Answers, all_of};
+ghost use Rattle.xr_types.specs.Results.{unless, all_of, Answers};
+ghost use Rattle.xr_arrays.specs.declared.node.Node.{Node};
+ghost use Rattle.xr_defs.specs.declared.value.Coord.{Coord};
 ghost use Rattle.xr_defs.specs.Selecting.{axis_called};
+ghost use Rattle.xr_defs.specs.Values.{present};
 ghost use Rattle.xr_defs.specs.Building as of;
-ghost use Rattle.xr_values.specs.Meaning.{meaning, with_key, IsValueIn};
 ghost use Rattle.xr_values.specs.Stands.{array_in, IsArrayIn};
 ghost use Rattle.xr_values.specs.Variables.{names_of};
-ghost use Rattle.xr_building.specs.Places.{is_there};
-ghost use Rattle.xr_building.specs.Walk.{aligned, check_taken, coord_fits, fits_whole, sized, total_in};
+ghost use Rattle.xr_building.specs.Placing.{array_checks, is_free, IsAlone};
+ghost use Rattle.xr_building.specs.Puts.{after, over};
 
 use crate::aligned::check_aligned;
-use crate::axes::position_of;
-use crate::cells::fits;
-use xr_types::{Axis, CallFault, DType, Fault, TextBytes};
-use xr_values::{DataArray, Value, Variable};
+use crate::axes::{called, is_dimension};
+use crate::puts::Put;
+use xr_types::{Axis, CallFault, Fault, TextBytes};
+use xr_values::{DataArray, Variable};
 
-/// The size of the axis of this name, or 0.
 fn size_called(axes: &[Axis], name: &TextBytes) -> u64
     ensures { result ≡ (axis_called axes.now name.now).size }
 {
-    match position_of(axes, name) {
-        Some(place) => axes[place].size,
+    match called(axes, name) {
+        Some(axis) => axis.size,
         None => 0,
-    }
-}
-
-// The size of an array along one dimension.
-fn size_along(array: &DataArray) -> Option<u64>
-    ensures { (nodes : List Node) (name : List ℕ) → IsArrayIn nodes array.now → of.check_labels name (Array (array_in nodes array.now)) ≡ Ok tt → result ≡ total_in (Array (array_in nodes array.now)) }
-{
-    match array.axes.as_slice() {
-        [] => None,
-        [axis, ..] => Some(axis.size),
-    }
-}
-
-// How many labels a list, times or an array along its dimension has.
-#[tactic(auto, using(xr_arguments::proofs::Variants::is_list, xr_arguments::proofs::Variants::is_times, xr_arguments::proofs::Variants::is_array, xr_arguments::proofs::Inside::held_array, xr_values::proofs::Meaning::meaning_out))]
-fn total_in(value: &Value) -> Option<u64>
-    ensures { (nodes : List Node) (name : List ℕ) → IsValueIn nodes value.now → of.check_labels name (meaning nodes value.now) ≡ Ok tt → result ≡ total_in (meaning nodes value.now) }
-{
-    match value {
-        Value::List(items) => Some(items.as_slice().len() as u64),
-        Value::Array(array) => size_along(array),
-        Value::Times(_, times) => Some(times.as_slice().len() as u64),
-        _ => None,
     }
 }
 
@@ -56,59 +33,56 @@ fn total_in(value: &Value) -> Option<u64>
 ///
 /// # Errors
 /// `SizeConflict`.
-#[tactic(auto, unfolding(crate::specs::Walk::sized, xr_types::specs::Results::unless))]
-pub fn check_sized(axes: &[Axis], name: &TextBytes, value: &Value) -> Result<(), CallFault>
-    ensures { (nodes : List Node) → IsValueIn nodes value.now → of.check_labels name.now (meaning nodes value.now) ≡ Ok tt → Answers (λ u. u) result (sized axes.now name.now (meaning nodes value.now)) }
+#[tactic(auto, unfolding(xr_types::specs::Results::unless))]
+pub fn check_total(axes: &[Axis], name: &TextBytes, total: u64) -> Result<(), CallFault>
+    ensures { Answers (λ u. u) result (unless (total == (axis_called axes.now name.now).size) faults.SizeConflict) }
 {
-    match total_in(value) {
-        Some(total) => {
-            if total == size_called(axes, name) {
-                Ok(())
-            } else {
-                Err(CallFault::Refused(Fault::SizeConflict))
-            }
-        }
-        None => Err(CallFault::Refused(Fault::WrongKind)),
+    if total == size_called(axes, name) {
+        Ok(())
+    } else {
+        Err(CallFault::Refused(Fault::SizeConflict))
     }
 }
 
-fn check_axis(axes: &[Axis], own: &Axis) -> Result<(), CallFault>
-    requires { of.is_dimension axes.now own.now.name ≡ true }
-    ensures { Answers (λ u. u) result (of.check_axis axes.now own.now) }
+fn check_axis(axes: &[Axis], puts: &[Put], own: &Axis) -> Result<(), CallFault>
+    ensures { (coords : List Coord) → Answers (λ u. u) result (of.check_axis (after (over axes.now coords) puts.now).axes own.now) }
 {
-    match position_of(axes, &own.name) {
-        Some(place) => check_aligned(own, &axes[place]),
-        None => Ok(()),
+    match called(axes, &own.name) {
+        Some(axis) => check_aligned(own, axis.size, puts, &axis.labels),
+        None => check_aligned(own, 0, &[], &None),
     }
 }
 
-fn check_axes(axes: &[Axis], own: &[Axis]) -> Result<(), CallFault>
-    requires { all_of (is_there axes.now) own.now ≡ Ok tt }
-    ensures { Answers (λ u. u) result (all_of (of.check_axis axes.now) own.now) }
+fn check_axes(axes: &[Axis], puts: &[Put], own: &[Axis]) -> Result<(), CallFault>
+    ensures { (coords : List Coord) → Answers (λ u. u) result (all_of (of.check_axis (after (over axes.now coords) puts.now).axes) own.now) }
 {
     for axis in own {
-        check_axis(axes, axis)?;
+        check_axis(axes, puts, axis)?;
     }
     Ok(())
 }
 
-/// Refuses an array whose axes can't stand for those of their names.
-///
-/// # Errors
-/// `WrongKind` for what is no coordinate; `SizeConflict` and `NotAligned` for the array's axes.
-#[tactic(auto, using(xr_arguments::proofs::Variants::is_number, xr_arguments::proofs::Variants::is_text, xr_arguments::proofs::Variants::is_array, xr_values::proofs::Meaning::meaning_out), unfolding(crate::specs::Walk::aligned))]
-pub fn check_coordinate_axes(
-    axes: &[Axis],
-    name: &TextBytes,
-    value: &Value,
-) -> Result<(), CallFault>
-    requires { (nodes : List Node) × (of.check_place axes.now (name.now, meaning nodes value.now) ≡ Ok tt) }
-    ensures { (nodes : List Node) → Answers (λ u. u) result (aligned axes.now (meaning nodes value.now)) }
+// Refuses an array along a dimension that isn't as long.
+fn check_along(axes: &[Axis], name: &TextBytes, array: &DataArray) -> Result<(), CallFault>
+    requires { IsAlone array.now }
+    ensures { (nodes : List Node) → IsArrayIn nodes array.now → Answers (λ u. u) result (unless (of.label_total (lists.Numbers array.now.kind (present (array_in nodes array.now).cells)) == (axis_called axes.now name.now).size) faults.SizeConflict) }
 {
-    match value {
-        Value::Number(_) | Value::Text(_) => Ok(()),
-        Value::Array(array) => check_axes(axes, array.axes.as_slice()),
-        _ => Err(CallFault::Refused(Fault::WrongKind)),
+    check_total(axes, name, array.axes.as_slice()[0].size)
+}
+
+fn check_fit(
+    axes: &[Axis],
+    puts: &[Put],
+    name: &TextBytes,
+    array: &DataArray,
+) -> Result<(), CallFault>
+    requires { of.is_dimension axes.now name.now ≡ true → IsAlone array.now }
+    ensures { (nodes : List Node) (coords : List Coord) → IsArrayIn nodes array.now → Answers (λ u. u) result (array_checks (after (over axes.now coords) puts.now) name.now (array_in nodes array.now)) }
+{
+    if is_dimension(axes, name) {
+        check_along(axes, name, array)
+    } else {
+        check_axes(axes, puts, array.axes.as_slice())
     }
 }
 
@@ -127,9 +101,9 @@ fn is_taken(variables: &[Variable], name: &TextBytes) -> bool
 ///
 /// # Errors
 /// `DuplicateName`.
-#[tactic(auto, unfolding(crate::specs::Walk::check_taken, xr_types::specs::Results::unless))]
+#[tactic(auto, unfolding(xr_types::specs::Results::unless))]
 pub fn check_taken(variables: &[Variable], name: &TextBytes) -> Result<(), CallFault>
-    ensures { Answers (λ u. u) result (check_taken (names_of variables.now) name.now) }
+    ensures { Answers (λ u. u) result (unless (not (among (names_of variables.now) name.now)) faults.DuplicateName) }
 {
     if is_taken(variables, name) {
         Err(CallFault::Refused(Fault::DuplicateName))
@@ -138,58 +112,20 @@ pub fn check_taken(variables: &[Variable], name: &TextBytes) -> Result<(), CallF
     }
 }
 
-#[tactic(auto, using(xr_arguments::proofs::Variants::is_number, xr_values::proofs::Meaning::meaning_out))]
-fn number_fits(value: &Value) -> bool
-    ensures { (nodes : List Node) → result ≡ coord_fits (meaning nodes value.now) }
-{
-    match value {
-        Value::Number(n) => fits(DType::Int64, *n),
-        _ => true,
-    }
-}
-
-fn numbers_fit(list: &[Value]) -> bool
-    ensures { (nodes : List Node) → result ≡ list_all coord_fits (map (meaning nodes) list.now) }
-{
-    for value in list {
-        if !number_fits(value) {
-            return false;
-        }
-    }
-    true
-}
-
-#[tactic(auto, using(xr_arguments::proofs::Variants::is_number, xr_values::proofs::Meaning::meaning_out))]
-fn value_fits(value: &Value) -> bool
-    ensures { (nodes : List Node) → result ≡ fits_whole (meaning nodes value.now) }
-{
-    match value {
-        Value::Number(n) => fits(DType::Int64, *n),
-        Value::List(items) => numbers_fit(items.as_slice()),
-        _ => true,
-    }
-}
-
-#[tactic(auto, using(crate::proofs::Fits::numbers_checked), unfolding(xr_types::specs::Results::unless))]
-fn check_number(entry: &(TextBytes, Value)) -> Result<(), CallFault>
-    ensures { (nodes : List Node) → Answers (λ u. u) result (of.check_numbers (with_key nodes entry.now)) }
-{
-    if value_fits(&entry.1) {
-        Ok(())
-    } else {
-        Err(CallFault::Refused(Fault::DoesNotFit))
-    }
-}
-
-/// Refuses the first entry with a number that 64 bits don't hold.
+/// Refuses an array that doesn't fit the axes with these puts, and then the name of a data variable.
 ///
 /// # Errors
-/// `DoesNotFit`.
-pub fn check_numbers(entries: &[(TextBytes, Value)]) -> Result<(), CallFault>
-    ensures { (nodes : List Node) → Answers (λ u. u) result (all_of of.check_numbers (map (with_key nodes) entries.now)) }
+/// `SizeConflict` and `NotAligned`, and then `DuplicateName`.
+pub fn check_array(
+    axes: &[Axis],
+    puts: &[Put],
+    variables: &[Variable],
+    name: &TextBytes,
+    array: &DataArray,
+) -> Result<(), CallFault>
+    requires { of.is_dimension axes.now name.now ≡ true → IsAlone array.now }
+    ensures { (nodes : List Node) (coords : List Coord) → IsArrayIn nodes array.now → Answers (λ u. u) result (is_free (names_of variables.now) name.now (array_checks (after (over axes.now coords) puts.now) name.now (array_in nodes array.now))) }
 {
-    for entry in entries {
-        check_number(entry)?;
-    }
-    Ok(())
+    check_fit(axes, puts, name, array)?;
+    check_taken(variables, name)
 }

@@ -112,28 +112,6 @@ fn from_values<R: Threads + Sync, C: Compute>(
     placed(rt, alloc, cx, content, &elements, dims, options)
 }
 
-// The array that a call says.
-fn told_written<R: Threads + Sync, C: Compute>(
-    rt: &R,
-    alloc: Global,
-    cx: &mut Cx<C>,
-    args: &Args,
-) -> Result<DataArray, CallFault>
-    requires sync { IsSync R.row }
-    requires given { AreArgsIn cx.old.plan args.now }
-    ensures told { FollowsArray cx.new.plan result (array_written (C.declines cx.old.compute cx.old.plan) cx.old.plan args.now) }
-    ensures grows { Grows cx.old.plan cx.new.plan }
-    ensures room { IfOk result (λ b. AddsForAny cx.old.plan cx.new.plan (array_in cx.new.plan b)) }
-    ensures keeps { (nodes : List Node) (n : ℕ) → C.declines cx.new.compute nodes n ≡ C.declines cx.old.compute nodes n }
-{
-    let values = bound(
-        alloc,
-        ["data", "dims", "coords", "name", "dtype"].as_slice(),
-        args,
-    )?;
-    from_values(rt, alloc, cx, values.as_slice(), coords_argument(args))
-}
-
 /// `DataArray(data, dims, coords, name, dtype)`: the array of a nested list, as deep as there are dimensions, with the labels and
 /// coordinates of a table. The cells of an array that becomes one are computed in its turn, and where its node is declined that is
 /// the answer.
@@ -159,5 +137,10 @@ pub fn array_written_out<R: Threads + Sync, C: Compute>(
     ensures room { IfOk result (λ b. AddsForAny cx.old.plan cx.new.plan (array_in cx.new.plan b)) }
     ensures keeps { (nodes : List Node) (n : ℕ) → C.declines cx.new.compute nodes n ≡ C.declines cx.old.compute nodes n }
 {
-    told_written(rt, alloc, cx, args)
+    let values = bound(
+        alloc,
+        ["data", "dims", "coords", "name", "dtype"].as_slice(),
+        args,
+    )?;
+    from_values(rt, alloc, cx, values.as_slice(), coords_argument(args))
 }

@@ -1,14 +1,20 @@
-use Rattle.std.proofs.Common.{◌≡◌, Ok, sym, subst}
+use Rattle.std.proofs.Common.{◌≡◌, Ok, [], sym, subst, ap, ◌∙◌}
 use Rattle.xr_values.specs.declared.data_array.DataArray.{DataArray}
 use Rattle.xr_values.specs.Stands.{array_in, IsArrayIn}
-use Rattle.xr_building.specs.Entries.{array_assigned}
-use Rattle.xr_building.specs.Walk.{frame_of}
+use Rattle.xr_building.specs.Entries.{array_assigned, frame_in}
+use Rattle.xr_building.specs.Puts.{after, frame_of, over}
 use Rattle.xr_building.proofs.Held.{array_told, reframed}
 use Rattle.xr_building.proofs.assigned.array_with.Goals as goal
 
 pub returns-clause-told : goal.returns-clause-told
 returns-clause-told g c =
     let nodes = c.args.cx.now.plan in
+    let declines = g.C.Compute.declines c.args.cx.now.compute nodes in
+    let on = c.args.on.now in
+    let first = c.in_ok-draft.draft in
     let d = c.in_ok-draft-2.draft in
-    subst (λ (b : DataArray). (array_assigned (g.C.Compute.declines c.args.cx.now.compute nodes) nodes c.args.on.now c.args.args.now ≡ Ok (array_in nodes (reframed b d.axes d.coords))) × IsArrayIn nodes (reframed b d.axes d.coords)) (sym c.in_ok-array.ensures)
-    (array_told (g.C.Compute.declines c.args.cx.now.compute nodes) nodes c.args.on.now c.args.args.now c.in_ok-draft.draft.axes c.in_ok-draft.draft.coords (frame_of d) c.in_ok-draft.ensures.axes c.in_ok-draft.ensures.coords c.in_ok-draft-2.ensures.told c.requires.inside c.in_ok-draft-2.ensures.frame)
+    let puts = c.in_ok-puts.puts in
+    subst (λ (b : DataArray). (array_assigned declines nodes on c.args.args.now ≡ Ok (array_in nodes (reframed b d.axes d.coords))) × IsArrayIn nodes (reframed b d.axes d.coords)) (sym c.in_ok-array.ensures)
+    (array_told declines nodes on c.args.args.now puts d.axes d.coords
+    (c.in_ok-draft-2.ensures ∙ ap (after (frame_of first)) c.as_slice-2.ensures ∙ ap (λ h. after h puts) c.in_ok-draft.ensures)
+    (subst (λ xs. frame_in declines nodes [] (over xs on.coords) c.args.args.now ≡ Ok (after (over xs on.coords) puts)) c.as_slice.ensures (c.in_ok-puts.ensures.told on.coords)) c.requires.inside c.requires.given c.in_ok-puts.ensures.named)

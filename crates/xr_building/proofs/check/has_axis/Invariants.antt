@@ -1,6 +1,5 @@
 use Rattle.std.proofs.Common.{◌≡◌, drop}
-use Rattle.xr_types.specs.Names.{among}
-use Rattle.xr_types.specs.Names.{axis_names}
+use Rattle.xr_types.specs.Names.{among, axis_names}
 use Rattle.xr_building.proofs.check.has_axis.Given as goal
 
 abbrev pub invariant-loop-axis : goal.invariant-loop-axis

@@ -1,9 +1,8 @@
-use Rattle.std.proofs.Common.{◌≡◌, List, map, drop}
+use Rattle.std.proofs.Common.{◌≡◌, List, take}
 use Rattle.xr_arrays.specs.declared.node.Node.{Node}
-use Rattle.xr_values.specs.Meaning.{meaning}
-use Rattle.xr_building.specs.Listed.{number_in, each_of}
-use Rattle.xr_building.proofs.Lists.{onto}
+use Rattle.xr_defs.specs.Building as of
+use Rattle.xr_values.specs.Meaning.{all_values}
 use Rattle.xr_building.proofs.labels.numbers_in.Given as goal
 
 abbrev pub invariant-loop-value : goal.invariant-loop-value
-invariant-loop-value l = (nodes : List Node) → onto l.numbers (each_of number_in (map (meaning nodes) (drop l.value-index l.list))) ≡ each_of number_in (map (meaning nodes) l.list)
+invariant-loop-value l = (nodes : List Node) → l.numbers ≡ of.numbers_in (all_values nodes (take l.value-index l.list))

@@ -7,7 +7,7 @@ use Rattle.xr_types.specs.Results.{all_of}
 use Rattle.xr_values.specs.declared.value.Value.{Value}
 use Rattle.xr_values.specs.Meaning.{meaning, with_key}
 use Rattle.xr_building.specs.Outlined.{draft_in, header_of}
-use Rattle.xr_building.specs.Walk.{frame_of}
+use Rattle.xr_building.specs.Puts.{frame_of}
 use Rattle.xr_building.specs.Written.{entries_held}
 use Rattle.xr_building.proofs.Described.{whole_from, range_from, seen_from}
 use Rattle.xr_building.proofs.Outlining.{drafted, follow_fails, no_draft, no_entries, no_header, no_place, step_fails, uneven}

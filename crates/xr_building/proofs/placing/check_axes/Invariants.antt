@@ -1,11 +1,9 @@
-use Rattle.std.proofs.Common.{◌≡◌, drop, Ok}
+use Rattle.std.proofs.Common.{◌≡◌, List, drop}
 use Rattle.xr_types.specs.Results.{all_of}
+use Rattle.xr_defs.specs.declared.value.Coord.{Coord}
 use Rattle.xr_defs.specs.Building.{check_axis}
-use Rattle.xr_building.specs.Places.{is_there}
+use Rattle.xr_building.specs.Puts.{after, over}
 use Rattle.xr_building.proofs.placing.check_axes.Given as goal
 
 abbrev pub invariant-loop-axis : goal.invariant-loop-axis
-invariant-loop-axis l = record {
-  there : all_of (is_there l.axes) (drop l.axis-index l.own) ≡ Ok tt;
-  so_far : all_of (check_axis l.axes) (drop l.axis-index l.own) ≡ all_of (check_axis l.axes) l.own;
-}
+invariant-loop-axis l = (coords : List Coord) → all_of (check_axis (after (over l.axes coords) l.puts).axes) (drop l.axis-index l.own) ≡ all_of (check_axis (after (over l.axes coords) l.puts).axes) l.own

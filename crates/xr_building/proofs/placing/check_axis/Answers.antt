@@ -1,9 +1,12 @@
 use Rattle.std.proofs.Common.{sym, subst}
 use Rattle.xr_types.specs.Results.{Answers}
-use Rattle.xr_building.proofs.Fits.{axis_at}
+use Rattle.xr_building.proofs.After.{axis_there, axis_gone}
 use Rattle.xr_building.proofs.placing.check_axis.Goals as goal
 
 pub returns-in-Some : goal.returns-in-Some
-returns-in-Some c =
-    subst (λ told. Answers (λ u. u) c.check_aligned.result told)
-    (sym (axis_at c.args.axes.now c.args.own.now c.index-axes-place.result c.in-Some.place c.in-Some.ensures.place c.in-Some.ensures.inside c.index-axes-place.is)) c.check_aligned.ensures
+returns-in-Some c = λ coords.
+    subst (λ told. Answers (λ u. u) c.check_aligned.result told) (sym (axis_there c.args.axes.now coords c.args.puts.now c.args.own.now c.in-Some.axis.now c.in-Some.ensures.there c.in-Some.ensures.axis)) c.check_aligned.ensures
+
+pub returns-in-None : goal.returns-in-None
+returns-in-None c = λ coords.
+    subst (λ told. Answers (λ u. u) c.check_aligned-in-None.result told) (sym (axis_gone c.args.axes.now coords c.args.puts.now c.args.own.now c.in-None.ensures.there)) c.check_aligned-in-None.ensures

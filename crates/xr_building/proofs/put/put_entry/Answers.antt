@@ -1,29 +1,32 @@
-use Rattle.std.proofs.Common.{sym, subst, ap, ◌∙◌}
-use Rattle.xr_defs.specs.Building.{is_dimension}
-use Rattle.xr_values.specs.Meaning.{with_key}
+use Rattle.std.proofs.Common.{◌≡◌, sym, subst}
+use Rattle.std.specs.Prelude.{IfOk}
 use Rattle.xr_values.specs.Variables.{names_of}
+use Rattle.xr_arguments.proofs.Inside.{held_array}
+use Rattle.xr_arguments.proofs.Variants.{is_array}
 use Rattle.xr_building.specs.Entries.{Follows}
-use Rattle.xr_building.specs.Walk.{frame_of}
-use Rattle.xr_building.proofs.Stays.{along_is, beside_is, dimension_checked, entry_frame}
+use Rattle.xr_building.specs.Puts.{after, fits_whole, over, put_fits, put_on}
+use Rattle.xr_building.proofs.Entering.{alone, array_is, plain, plain_told}
 use Rattle.xr_building.proofs.put.put_entry.Goals as goal
 
-pub put_labels-requires-clause-checked : goal.put_labels-requires-clause-checked
-put_labels-requires-clause-checked g c = λ κs live.
-    let axes = c.args.draft.axes in
-    let along = ap (λ xs. is_dimension xs c.args.entry.now.0) (sym c.as_slice.ensures) ∙ sym c.if-is_dimension.ensures in
-    dimension_checked axes (with_key c.args.cx.now.plan c.args.entry.now) along c.requires.checked
+pub put_array-requires-clause-inside : goal.put_array-requires-clause-inside
+put_array-requires-clause-inside g c = λ κs live. held_array c.args.cx.now.plan c.args.entry.now.1 c.in-Array.array c.deref.result.now c.in-Array.is c.deref.ensures c.requires.inside
 
-pub returns-then-is_dimension-clause-frame : goal.returns-then-is_dimension-clause-frame
-returns-then-is_dimension-clause-frame g c =
-    let axes = c.args.draft.axes in
-    let along = ap (λ xs. is_dimension xs c.args.entry.now.0) (sym c.as_slice.ensures) ∙ sym c.if-is_dimension.ensures in
-    entry_frame _ c.args.cx.now.plan (names_of c.args.variables.now) (frame_of c.args.draft) c.args.entry.now c.put_labels.result
-    (subst (Follows frame_of c.put_labels.result) (sym (along_is _ c.args.cx.now.plan (names_of c.args.variables.now) (frame_of c.args.draft) c.args.entry.now along)) c.put_labels.ensures.told)
-    c.requires.inside (sym c.if-not-is_named.ensures.name) c.requires.checked c.requires.placed c.requires.frame
+pub put_array-requires-clause-alone : goal.put_array-requires-clause-alone
+put_array-requires-clause-alone g c = λ κs live. alone c.args.cx.now.plan c.args.axes.now c.args.entry.now c.in-Array.array c.deref.result.now c.in-Array.is c.deref.ensures c.requires.checked
 
-pub returns-else-is_dimension-clause-frame : goal.returns-else-is_dimension-clause-frame
-returns-else-is_dimension-clause-frame g c =
-    let beside = ap (λ xs. is_dimension xs c.args.entry.now.0) (sym c.as_slice.ensures) ∙ sym c.if-is_dimension.ensures in
-    entry_frame _ c.args.cx.now.plan (names_of c.args.variables.now) (frame_of c.args.draft) c.args.entry.now c.put_coord.result
-    (subst (Follows frame_of c.put_coord.result) (sym (beside_is _ c.args.cx.now.plan (names_of c.args.variables.now) (frame_of c.args.draft) c.args.entry.now beside)) c.put_coord.ensures.told)
-    c.requires.inside (sym c.if-not-is_named.ensures.name) c.requires.checked c.requires.placed c.requires.frame
+pub put_plain-requires : goal.put_plain-requires
+put_plain-requires g c = plain c.args.entry.now.1 c.in_default.not-Array
+
+pub returns-in-Array-clause-told : goal.returns-in-Array-clause-told
+returns-in-Array-clause-told g c = λ coords.
+    let f = after (over c.args.axes.now coords) c.args.puts.now in
+    subst (Follows (put_on f) c.put_array.result) (sym (array_is (g.C.Compute.declines c.args.cx.now.compute c.args.cx.now.plan) c.args.cx.now.plan (names_of c.args.variables.now) f c.args.entry.now c.in-Array.array c.deref.result.now c.in-Array.is c.deref.ensures))
+    (c.put_array.ensures.told coords)
+
+pub returns-in-Array-clause-fits : goal.returns-in-Array-clause-fits
+returns-in-Array-clause-fits g c = subst (λ m. IfOk c.put_array.result (λ p. put_fits p ≡ fits_whole m)) (sym (is_array c.args.cx.now.plan c.args.entry.now.1 c.in-Array.array c.in-Array.is)) c.put_array.ensures.fits
+
+pub returns-in_default-clause-told : goal.returns-in_default-clause-told
+returns-in_default-clause-told g c = λ coords.
+    plain_told (g.C.Compute.declines c.args.cx.now.compute c.args.cx.now.plan) c.args.cx.now.plan (names_of c.args.variables.now) (after (over c.args.axes.now coords) c.args.puts.now) c.args.entry.now c.put_plain.result (plain c.args.entry.now.1 c.in_default.not-Array)
+    (c.put_plain.ensures.answers c.args.cx.now.plan coords c.args.puts.now)

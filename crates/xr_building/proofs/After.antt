@@ -1,0 +1,127 @@
+-- Axes with what is put on them: they keep their names and sizes, and have the labels that are put last.
+use Rattle.std.proofs.Common.{◌≡◌, ℕ, Bool, true, false, List, [], ◌∷◌, ◌++◌, Option, Some, None, Result, refl, sym, ap, ◌∙◌}
+use Rattle.std.specs.Prelude.{◌==◌, if◌then◌else◌}
+use Rattle.std.specs.Option.{option_or}
+use Rattle.std.specs.Str.{bytes_eq}
+use Rattle.xr_types.specs.declared.axis.Axis.{Axis}
+use Rattle.xr_types.specs.declared.axis.Labels.{Labels}
+use Rattle.xr_types.specs.declared.axis.LabelList.TheVariants.{Numbers}
+use Rattle.xr_types.specs.declared.fault.Fault.{Fault}
+use Rattle.xr_types.specs.declared.fault.Fault.TheVariants.{NotAligned, SizeConflict}
+use Rattle.xr_types.specs.Names.{among, axis_names, shape_over}
+use Rattle.xr_types.specs.Results.{◌>>=◌, unless, all_of}
+use Rattle.xr_defs.specs.declared.value.Coord.{Coord}
+use Rattle.xr_defs.specs.Selecting.{axis_called}
+use Rattle.xr_defs.specs.Values as of
+use Rattle.xr_defs.specs.Values.{no_axis, present}
+use Rattle.xr_defs.specs.Building.{Frame, check_axis, equal_labels, is_dimension, label_total, relabelled}
+use Rattle.xr_building.specs.declared.puts.NewLabels.{NewLabels}
+use Rattle.xr_building.specs.declared.puts.Put.{Put}
+use Rattle.xr_building.specs.declared.puts.Put.TheVariants as puts
+use Rattle.xr_building.specs.Aligned.{are_aligned, checked_axis}
+use Rattle.xr_building.specs.Placing.{array_checks}
+use Rattle.xr_building.specs.Puts.{after, labels_at, labels_of, labels_or, last_labels, over, put_on}
+use Rattle.xr_building.proofs.Called.{called_kept, called_name, dimension_named, names_kept, not_called, sizes_alike, sizes_kept}
+
+module _ (name : List ℕ) (l : Labels) where
+  pub label_name : (x : Axis) → (relabelled name l x).name ≡ x.name
+  label_name x = by (bytes_eq x.name name)
+    where
+      by : (b : Bool) → (if b then record x { labels = Some l } else x).name ≡ x.name
+      by true = refl
+      by false = refl
+
+  pub label_size : (x : Axis) → (relabelled name l x).size ≡ x.size
+  label_size x = by (bytes_eq x.name name)
+    where
+      by : (b : Bool) → (if b then record x { labels = Some l } else x).size ≡ x.size
+      by true = refl
+      by false = refl
+
+pub after_names : (f : Frame) (ps : List Put) → axis_names (after f ps).axes ≡ axis_names f.axes
+after_names f [] = refl
+after_names f (p ∷ ps) = after_names (put_on f p) ps ∙ by p
+  where
+    by : (p : Put) → axis_names (put_on f p).axes ≡ axis_names f.axes
+    by (puts.Labels name l) = names_kept (relabelled name (labels_of l)) (label_name name (labels_of l)) (label_size name (labels_of l)) f.axes
+    by (puts.Number name n) = refl
+    by (puts.Coord c) = refl
+
+pub after_sizes : (f : Frame) (ps : List Put) → shape_over (after f ps).axes ≡ shape_over f.axes
+after_sizes f [] = refl
+after_sizes f (p ∷ ps) = after_sizes (put_on f p) ps ∙ by p
+  where
+    by : (p : Put) → shape_over (put_on f p).axes ≡ shape_over f.axes
+    by (puts.Labels name l) = sizes_kept (relabelled name (labels_of l)) (label_name name (labels_of l)) (label_size name (labels_of l)) f.axes
+    by (puts.Number name n) = refl
+    by (puts.Coord c) = refl
+
+pub after_dimension : (f : Frame) (ps : List Put) (n : List ℕ) → is_dimension (after f ps).axes n ≡ is_dimension f.axes n
+after_dimension f ps n = dimension_named (after f ps).axes n ∙ ap (λ ns. among ns n) (after_names f ps) ∙ sym (dimension_named f.axes n)
+
+pub after_size : (f : Frame) (ps : List Put) (n : List ℕ) → (axis_called (after f ps).axes n).size ≡ (axis_called f.axes n).size
+after_size f ps n = sizes_alike (after f ps).axes f.axes (after_names f ps) (after_sizes f ps) n
+
+-- one more at the end
+pub after_end : (f : Frame) (ps : List Put) (p : Put) → after f (ps ++ p ∷ []) ≡ put_on (after f ps) p
+after_end f [] p = refl
+after_end f (q ∷ ps) p = after_end (put_on f q) ps p
+
+-- with these labels to begin with
+after_labels_from : (f : Frame) (o : Option NewLabels) (own : Option Labels) (ps : List Put) (n : List ℕ) → is_dimension f.axes n ≡ true → (axis_called f.axes n).labels ≡ labels_or o own → (axis_called (after f ps).axes n).labels ≡ labels_or (last_labels n o ps) own
+after_labels_from f o own [] n is begun = begun
+after_labels_from f o own (p ∷ ps) n is begun = after_labels_from (put_on f p) (option_or (labels_at n p) o) own ps n (after_dimension f (p ∷ []) n ∙ is) (one p)
+  where
+    one : (p : Put) → (axis_called (put_on f p).axes n).labels ≡ labels_or (option_or (labels_at n p) o) own
+    one (puts.Labels m l) =
+        ap (λ (x : Axis). x.labels) (called_kept (relabelled m (labels_of l)) (label_name m (labels_of l)) (label_size m (labels_of l)) f.axes n is)
+        ∙ ap (λ k. (if bytes_eq k m then record (axis_called f.axes n) { labels = Some (labels_of l) } else axis_called f.axes n).labels) (called_name f.axes n is) ∙ to (bytes_eq n m)
+      where
+        to : (b : Bool) → (if b then record (axis_called f.axes n) { labels = Some (labels_of l) } else axis_called f.axes n).labels ≡ labels_or (option_or (if b then Some l else None) o) own
+        to true = refl
+        to false = begun
+    one (puts.Number m k) = begun
+    one (puts.Coord c) = begun
+
+pub after_labels : (f : Frame) (ps : List Put) (n : List ℕ) → is_dimension f.axes n ≡ true → (axis_called (after f ps).axes n).labels ≡ labels_or (last_labels n None ps) (axis_called f.axes n).labels
+after_labels f ps n is = after_labels_from f None (axis_called f.axes n).labels ps n is refl
+
+-- ---- an array's axis against the one of its name
+
+against : (x y : Axis) → (unless (x.size == y.size) SizeConflict >>= λ u. unless (elim x.labels as (λ o. Bool) [ None ↦ true | Some l ↦ elim y.labels as (λ o. Bool) [ None ↦ false | Some m ↦ equal_labels l.list m.list ] ]) NotAligned) ≡ checked_axis x y.size y.labels
+against x y = ap (λ b. unless (x.size == y.size) SizeConflict >>= λ u. unless b NotAligned) (by x.labels y.labels)
+  where
+    by : (o p : Option Labels) → elim o as (λ o. Bool) [ None ↦ true | Some l ↦ elim p as (λ o. Bool) [ None ↦ false | Some m ↦ equal_labels l.list m.list ] ] ≡ are_aligned o p
+    by None p = refl
+    by (Some l) None = refl
+    by (Some l) (Some m) = refl
+
+module _ (axes : List Axis) (coords : List Coord) (ps : List Put) (x : Axis) where
+  abbrev then_called : Axis
+  then_called = axis_called (after (over axes coords) ps).axes x.name
+
+  pub axis_there : (y : Axis) → is_dimension axes x.name ≡ true → axis_called axes x.name ≡ y → check_axis (after (over axes coords) ps).axes x ≡ checked_axis x y.size (labels_or (last_labels x.name None ps) y.labels)
+  unfolding check_axis
+  axis_there y there is =
+      against x then_called ∙ ap (λ n. checked_axis x n then_called.labels) (after_size (over axes coords) ps x.name) ∙ ap (checked_axis x (axis_called axes x.name).size) (after_labels (over axes coords) ps x.name there)
+      ∙ ap (λ (z : Axis). checked_axis x z.size (labels_or (last_labels x.name None ps) z.labels)) is
+
+  pub axis_gone : is_dimension axes x.name ≡ false → check_axis (after (over axes coords) ps).axes x ≡ checked_axis x 0 None
+  unfolding check_axis
+  axis_gone gone = against x then_called ∙ ap (λ (z : Axis). checked_axis x z.size z.labels) (not_called (after (over axes coords) ps).axes x.name (after_dimension (over axes coords) ps x.name ∙ gone))
+
+-- ---- an array against the axes
+
+module _ (axes : List Axis) (coords : List Coord) (ps : List Put) (name : List ℕ) (a : of.DataArray) where
+  abbrev then_axes : List Axis
+  then_axes = (after (over axes coords) ps).axes
+
+  abbrev sized : ℕ → Result (Unit {0}) Fault
+  sized n = unless (label_total (Numbers a.kind (present a.cells)) == n) SizeConflict
+
+  pub checks_along : is_dimension axes name ≡ true → array_checks (after (over axes coords) ps) name a ≡ sized (axis_called axes name).size
+  checks_along is =
+      ap (λ b. if b then sized (axis_called then_axes name).size else all_of (check_axis then_axes) a.axes) (after_dimension (over axes coords) ps name ∙ is) ∙ ap sized (after_size (over axes coords) ps name)
+
+  pub checks_beside : is_dimension axes name ≡ false → array_checks (after (over axes coords) ps) name a ≡ all_of (check_axis then_axes) a.axes
+  checks_beside is = ap (λ b. if b then sized (axis_called then_axes name).size else all_of (check_axis then_axes) a.axes) (after_dimension (over axes coords) ps name ∙ is)

@@ -1,0 +1,7 @@
+use Rattle.std.proofs.Common.{◌≡◌, map, take}
+use Rattle.xr_types.specs.declared.axis.Axis.{Axis}
+use Rattle.xr_defs.specs.Selecting.{axis_called}
+use Rattle.xr_building.proofs.draft.axes_called.Given as goal
+
+abbrev pub invariant-loop-axis : goal.invariant-loop-axis
+invariant-loop-axis l = l.out ≡ map (λ (x : Axis). axis_called l.axes x.name) (take l.axis-index l.own)

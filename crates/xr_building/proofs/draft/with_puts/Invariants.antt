@@ -1,0 +1,6 @@
+use Rattle.std.proofs.Common.{◌≡◌, drop}
+use Rattle.xr_building.specs.Puts.{after, frame_of}
+use Rattle.xr_building.proofs.draft.with_puts.Given as goal
+
+abbrev pub invariant-loop-put : goal.invariant-loop-put
+invariant-loop-put l = after (frame_of l.draft) (drop l.put-index l.puts) ≡ after (frame_of l.fn.draft) l.puts

@@ -1,0 +1,18 @@
+use Rattle.std.proofs.Common.{◌≡◌, true, sym, subst, ap, ◌∙◌, All}
+use Rattle.std.specs.Prelude.{is_some}
+use Rattle.xr_types.specs.declared.axis.LabelList.TheVariants.{Numbers}
+use Rattle.xr_arrays.specs.Arrays.{Array, wide}
+use Rattle.xr_types.specs.Points.{size}
+use Rattle.xr_defs.specs.Values.{present}
+use Rattle.xr_building.proofs.Fits.{same_given, seen_numbers}
+use Rattle.xr_building.proofs.labels.array_labels.Goals as goal
+
+pub returns : goal.returns
+returns c = λ nodes is same.
+    let typed = c.in_ok-typed.typed in
+    let here = c.in_ok-typed.ensures ∙ same in
+    let numbers = wide c.parts.result.0.now in
+    let all = is.formed.cells.seen c.requires in
+    let held = subst (λ (a : Array). All (λ x. is_some x ≡ true) a.cells) (sym here) all in
+    let found = seen_numbers _ numbers typed.cells (size typed.shape) c.parts.result.1 c.parts.ensures.cells c.parts.ensures.mask c.parts.ensures.whole held in
+    sym (same_given _ _ _ _ (ap (Numbers c.args.array.now.kind) (c.in_ok-integers_of.ensures ∙ sym found ∙ ap (λ (a : Array). present a.cells) here)) c.in_ok-deep_copy.ensures)

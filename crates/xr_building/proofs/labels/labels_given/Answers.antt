@@ -1,0 +1,11 @@
+use Rattle.std.proofs.Common.{◌≡◌, sym, ap, subst, ◌∙◌}
+use Rattle.std.specs.Prelude.{IfOk}
+use Rattle.xr_defs.specs.Meanings.{Sequence}
+use Rattle.xr_values.specs.Meaning.{all_values}
+use Rattle.xr_arguments.proofs.Variants.{is_list}
+use Rattle.xr_building.specs.Puts.{fits_whole, labels_fit}
+use Rattle.xr_building.proofs.labels.labels_given.Goals as goal
+
+pub returns-in-List-clause-fits : goal.returns-in-List-clause-fits
+returns-in-List-clause-fits c = λ nodes.
+    subst (λ m. IfOk c.list_labels.result (λ l. labels_fit l ≡ fits_whole m)) (sym (is_list nodes c.args.value.now c.in-List.items c.in-List.is ∙ ap (λ us. Sequence (all_values nodes us)) (sym c.as_slice.ensures.value))) (c.list_labels.ensures.fits nodes)

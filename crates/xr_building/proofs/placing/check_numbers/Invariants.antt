@@ -1,9 +1,0 @@
-use Rattle.std.proofs.Common.{◌≡◌, List, map, drop}
-use Rattle.xr_arrays.specs.declared.node.Node.{Node}
-use Rattle.xr_types.specs.Results.{all_of}
-use Rattle.xr_defs.specs.Building.{check_numbers}
-use Rattle.xr_values.specs.Meaning.{with_key}
-use Rattle.xr_building.proofs.placing.check_numbers.Given as goal
-
-abbrev pub invariant-loop-entry : goal.invariant-loop-entry
-invariant-loop-entry l = (nodes : List Node) → all_of check_numbers (map (with_key nodes) (drop l.entry-index l.entries)) ≡ all_of check_numbers (map (with_key nodes) l.entries)
