@@ -8,7 +8,8 @@ ghost use Rattle.xr_operations.specs.Alignment.{are_kin, common_kind, number_kin
 
 use xr_types::{Calendar, CallFault, DType, Fault, LabelList, promote};
 
-fn same_calendar(a: Calendar, b: Calendar) -> bool
+/// Whether times of these calendars are labels of one kind.
+pub(crate) fn same_calendar(a: Calendar, b: Calendar) -> bool
     ensures { result ≡ same_calendar a b }
 {
     match (a, b) {

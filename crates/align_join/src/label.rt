@@ -5,6 +5,7 @@ ghost use Rattle.xr_arrays.specs.Labels.{labels_of, label_at, same};
 ghost use Rattle.xr_defs.specs.Building as building;
 
 use crate::key::Key;
+use crate::kind::same_calendar;
 use std::alloc::{AllocError, Global};
 use xr_types::{DeepCopy, Integers, IntegersForm, Label, LabelList, TextBytes};
 
@@ -174,4 +175,22 @@ pub fn same_labels(a: &LabelList, b: &LabelList) -> bool
         LabelList::Times(_, a) => same_as_times(a.as_slice(), b),
         LabelList::Texts(a) => same_as_texts(a.as_slice(), b),
     }
+}
+
+fn have_one_calendar(a: &LabelList, b: &LabelList) -> bool
+    ensures { result ≡ building.have_one_calendar a.now b.now }
+{
+    match (a, b) {
+        (LabelList::Times(a, _), LabelList::Times(b, _)) => {
+            same_calendar(a.units.calendar, b.units.calendar)
+        }
+        _ => true,
+    }
+}
+
+/// Whether lists are equal, and times are of one calendar.
+pub fn equal_labels(a: &LabelList, b: &LabelList) -> bool
+    ensures { result ≡ building.equal_labels a.now b.now }
+{
+    have_one_calendar(a, b) && same_labels(a, b)
 }

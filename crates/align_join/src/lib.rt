@@ -15,6 +15,6 @@ mod values;
 pub use alignment::{Joined, join, joined_axis};
 pub use key::Key;
 pub use kind::all_kin;
-pub use label::{count, label_at, same_labels};
+pub use label::{count, equal_labels, label_at};
 pub use source::{sources, stays};
 pub use values::aligned;

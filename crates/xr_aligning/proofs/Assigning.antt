@@ -32,7 +32,7 @@ use Rattle.xr_parts.specs.Frames.{IsThere}
 use Rattle.xr_parts.proofs.Axes.{called_holds, called_name}
 use Rattle.xr_parts.proofs.Words.{AreAbsent, absent_left, distinct_left, distinct_parts, same_text, each_left, each_named_left, each_weaker, join, split}
 use Rattle.xr_reducing.specs.Reduced.{is_busy}
-use Rattle.xr_reducing.proofs.Idle.{has_dim, idle_formed, sizes_left, vars_have, IsLoose as LooseSet}
+use Rattle.xr_parts.proofs.Idle.{has_dim, idle_formed, sizes_left, vars_have, IsLoose as LooseSet}
 use Rattle.xr_aligning.specs.Fitted.{IsArrayAfter}
 use Rattle.xr_aligning.specs.Joined.{AreLoose, IsLoose}
 use Rattle.xr_aligning.specs.Assigned.{coords_with, is_free, others, relabelled, rest_axes, set_with, variable_of, IsApart, Stay, Stays, StaysNamed}

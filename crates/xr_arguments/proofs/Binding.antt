@@ -1,11 +1,8 @@
 -- The arguments of parameters, one after the other.
-use Rattle.std.proofs.Common.{◌≡◌, ◌≤◌, ◌-◌, ℕ, true, List, [], ◌∷◌, ◌++◌, length, map, take, drop, get_or, Option, Some, Result, Ok, Err, sym, ap, ◌∙◌, append_assoc, arith}
+use Rattle.xr_arguments.proofs.Common.{Err, List, Ok, OnOk, Option, Result, Some, [], ap, append_assoc, arith, drop, drop-map, get_or, length, length-map, map, map-append, nat_le, sym, take, take_all, true, unless, ℕ, ◌++◌, ◌-◌, ◌∙◌, ◌∷◌, ◌≡◌, ◌≤◌}
 use Rattle.std.proofs.lemmas.Bool.{le-leb}
-use Rattle.std.proofs.lemmas.List.{map-append, drop-map, length-map, take_all}
 use Rattle.std.specs.List.{list_all}
-use Rattle.std.specs.Prelude.{nat_le, OnOk}
 use Rattle.xr_defs.specs.Meanings.{Value}
-use Rattle.xr_types.specs.Results.{unless}
 use Rattle.xr_defs.specs.Building.{bound, keyword, is_keyword_of}
 
 pub bound_is : {N : Type 0} (now : N → List ℕ) (names others : List N) (plain : List Value) (keyed : List (List ℕ × Value)) (values : List (Option Value)) → length plain ≤ length names → others ≡ drop (length plain) names

@@ -1,23 +1,8 @@
 -- Which values are of a plan, by their variant.
-use Rattle.std.proofs.Common.{◌≡◌, ℤ, All, Bool, List, Option, ap, sym, subst, ◌∙◌}
-use Rattle.std.specs.declared.rc.Rc.{Rc}
-use Rattle.std.specs.declared.alloc.Global.{Global}
-use Rattle.xr_types.specs.declared.text.TextBytes.{TextBytes}
-use Rattle.xr_types.specs.declared.axis.TimeCoding.{TimeCoding}
-use Rattle.xr_defs.specs.declared.grouping.Grouping.{Grouping}
-use Rattle.xr_defs.specs.declared.slice.Part.{Part}
+use Rattle.xr_arguments.proofs.Common.{All, Bool, DataArray, Dataset, Global, Grouping, IsArrayIn, IsDatasetIn, IsLayerIn, IsValueIn, List, Node, Option, Part, Rc, TextBytes, TimeCoding, Value, Value-F, ap, out-Value, out-roll-Value, roll-Value, subst, sym, value_in, value_out, ℤ, ◌∙◌, ◌≡◌}
 use Rattle.xr_times.specs.Times.{IsTime}
-use Rattle.xr_arrays.specs.declared.node.Node.{Node}
-use Rattle.xr_values.specs.declared.data_array.DataArray.{DataArray}
-use Rattle.xr_values.specs.declared.dataset.Dataset.{Dataset}
-use Rattle.xr_values.specs.declared.value.Value.{Value}
 use Rattle.xr_values.specs.declared.value.Value.TheVariants as variants
 use Rattle.xr_values.specs.declared.value.Value.TheOpen as held
-use Rattle.xr_values.specs.declared.value.Value.TheOpen.{Value-F}
-use Rattle.xr_values.specs.declared.value.Value.TheViews.{out-Value, roll-Value, out-roll-Value}
-use Rattle.xr_values.specs.Meaning.{IsValueIn, IsLayerIn}
-use Rattle.xr_values.specs.Stands.{IsArrayIn, IsDatasetIn}
-use Rattle.xr_values.proofs.Meaning.{value_in, value_out}
 
 by_layer : (nodes : List Node) (v : Value) (x : Value-F Value) → v ≡ roll-Value x → IsValueIn nodes v → IsLayerIn nodes x
 by_layer nodes v x is inside = subst (IsLayerIn nodes) (ap (λ w. out-Value w) is ∙ out-roll-Value x) (value_out nodes v inside)
@@ -54,10 +39,6 @@ slice_inside nodes v start stop step is = of_layer nodes v (held.Slice start sto
 pub times_inside : (nodes : List Node) (v : Value) (coding : TimeCoding) (ts : List ℤ) → v ≡ variants.Times coding ts → All (IsTime coding.units.calendar) ts → IsValueIn nodes v
 unfolding roll-Value denote.Hole.Carrier.roll
 times_inside nodes v coding ts is inside = of_layer nodes v (held.Times coding ts) is inside
-
-pub inside_times : (nodes : List Node) (v : Value) (coding : TimeCoding) (ts : List ℤ) → v ≡ variants.Times coding ts → IsValueIn nodes v → All (IsTime coding.units.calendar) ts
-unfolding roll-Value denote.Hole.Carrier.roll
-inside_times nodes v coding ts is inside = by_layer nodes v (held.Times coding ts) is inside
 
 -- ---- arrays and datasets of a plan
 

@@ -1,4 +1,5 @@
 pub mod Binding
+pub mod Common
 pub mod Inside
 pub mod Listed
 pub mod Variants

@@ -1,17 +1,9 @@
 -- Lists of values, read one after the other.
-use Rattle.std.proofs.Common.{◌≡◌, ◌<◌, ◌+◌, ℕ, suc, List, [], ◌∷◌, ◌++◌, length, map, take, drop, get_or, Result, Ok, Err, refl, sym, ap, ◌∙◌, append_assoc}
+use Rattle.xr_arguments.proofs.Common.{Err, List, NoValue, Node, Ok, Result, Value, Values, With, [], all_more, all_values, ap, append_assoc, drop, get_or, length, map, map-append, meaning, refl, suc, sym, take, take-append-drop, take_more, texts_in, values, ℕ, ◌++◌, ◌+◌, ◌<◌, ◌>>=◌, ◌∙◌, ◌∷◌, ◌≡◌}
 use Rattle.std.proofs.Math.Seq.{drop-cons}
-use Rattle.std.proofs.lemmas.List.{map-append, take_more, take-append-drop}
 use Rattle.xr_types.specs.declared.fault.Fault.{Fault}
-use Rattle.xr_arrays.specs.declared.node.Node.{Node}
-use Rattle.xr_types.specs.Results.{◌>>=◌}
 use Rattle.xr_defs.specs.Meanings as of
-use Rattle.xr_defs.specs.Meanings.{Values, NoValue, With}
 use Rattle.xr_defs.specs.Arguments.{as_text}
-use Rattle.xr_defs.specs.Parts.{texts_in}
-use Rattle.xr_values.specs.declared.value.Value.{Value}
-use Rattle.xr_values.specs.Meaning.{meaning, values, all_values}
-use Rattle.xr_values.proofs.Meaning.{all_more}
 
 pub take_one : {X : Type 0} (xs : List X) (i : ℕ) (x : X) → i < length xs → x ≡ get_or xs i x → take (i + 1) xs ≡ take i xs ++ x ∷ []
 take_one xs i x lt is = take_more xs i x lt ∙ ap (λ y. take i xs ++ y ∷ []) (sym is)

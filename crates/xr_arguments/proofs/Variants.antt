@@ -1,24 +1,8 @@
 -- What a value stands for, by its variant.
-use Rattle.std.proofs.Common.{◌≡◌, ℤ, Bool, List, Option, ap, ◌∙◌}
-use Rattle.std.specs.Prelude.{Vec}
-use Rattle.std.specs.declared.rc.Rc.{Rc}
-use Rattle.std.specs.declared.alloc.Global.{Global}
-use Rattle.xr_types.specs.declared.text.TextBytes.{TextBytes}
-use Rattle.xr_types.specs.declared.axis.TimeCoding.{TimeCoding}
-use Rattle.xr_defs.specs.declared.grouping.Grouping.{Grouping}
-use Rattle.xr_defs.specs.declared.slice.Part.{Part}
-use Rattle.xr_arrays.specs.declared.node.Node.{Node}
+use Rattle.xr_arguments.proofs.Common.{Bool, DataArray, Dataset, Global, Grouping, List, Node, Option, Part, Rc, TextBytes, TimeCoding, Value, Value-F, Vec, all_entries, all_values, ap, array_in, dataset_in, layer, meaning, meaning_out, out-Value, out-roll-Value, roll-Value, ℤ, ◌∙◌, ◌≡◌}
 use Rattle.xr_defs.specs.Meanings as of
-use Rattle.xr_values.specs.declared.data_array.DataArray.{DataArray}
-use Rattle.xr_values.specs.declared.dataset.Dataset.{Dataset}
-use Rattle.xr_values.specs.declared.value.Value.{Value}
 use Rattle.xr_values.specs.declared.value.Value.TheVariants as variants
 use Rattle.xr_values.specs.declared.value.Value.TheOpen as held
-use Rattle.xr_values.specs.declared.value.Value.TheOpen.{Value-F}
-use Rattle.xr_values.specs.declared.value.Value.TheViews.{out-Value, roll-Value, out-roll-Value}
-use Rattle.xr_values.specs.Meaning.{meaning, layer, all_values, all_entries}
-use Rattle.xr_values.specs.Stands.{array_in, dataset_in}
-use Rattle.xr_values.proofs.Meaning.{meaning_out}
 
 by_layer : (nodes : List Node) (v : Value) (x : Value-F Value) → v ≡ roll-Value x → meaning nodes v ≡ layer nodes x
 by_layer nodes v x is = meaning_out nodes v ∙ ap (λ w. layer nodes (out-Value w)) is ∙ ap (layer nodes) (out-roll-Value x)

@@ -1,27 +1,11 @@
 -- Axes with what is put on them: they keep their names and sizes, and have the labels that are put last.
-use Rattle.std.proofs.Common.{◌≡◌, ℕ, Bool, true, false, List, [], ◌∷◌, ◌++◌, Option, Some, None, Result, refl, sym, ap, ◌∙◌}
-use Rattle.std.specs.Prelude.{◌==◌, if◌then◌else◌}
+use Rattle.xr_building.proofs.Common.{Axis, Bool, Coord, Fault, Frame, Labels, List, None, NotAligned, Numbers, Option, Put, Result, SizeConflict, Some, [], after, all_of, among, ap, are_aligned, array_checks, axis_called, axis_names, bytes_eq, called_kept, check_axis, checked_axis, equal_labels, false, if◌then◌else◌, is_dimension, label_total, labels_at, labels_of, labels_or, last_labels, names_kept, no_axis, over, present, put_on, refl, relabelled, shape_over, size_alike, sizes_kept, sym, true, unless, ℕ, ◌++◌, ◌>>=◌, ◌∙◌, ◌∷◌, ◌≡◌}
+use Rattle.std.specs.Prelude.{◌==◌}
 use Rattle.std.specs.Option.{option_or}
-use Rattle.std.specs.Str.{bytes_eq}
-use Rattle.xr_types.specs.declared.axis.Axis.{Axis}
-use Rattle.xr_types.specs.declared.axis.Labels.{Labels}
-use Rattle.xr_types.specs.declared.axis.LabelList.TheVariants.{Numbers}
-use Rattle.xr_types.specs.declared.fault.Fault.{Fault}
-use Rattle.xr_types.specs.declared.fault.Fault.TheVariants.{NotAligned, SizeConflict}
-use Rattle.xr_types.specs.Names.{among, axis_names, shape_over}
-use Rattle.xr_types.specs.Results.{◌>>=◌, unless, all_of}
-use Rattle.xr_defs.specs.declared.value.Coord.{Coord}
-use Rattle.xr_defs.specs.Selecting.{axis_called}
 use Rattle.xr_defs.specs.Values as of
-use Rattle.xr_defs.specs.Values.{no_axis, present}
-use Rattle.xr_defs.specs.Building.{Frame, check_axis, equal_labels, is_dimension, label_total, relabelled}
 use Rattle.xr_building.specs.declared.puts.NewLabels.{NewLabels}
-use Rattle.xr_building.specs.declared.puts.Put.{Put}
 use Rattle.xr_building.specs.declared.puts.Put.TheVariants as puts
-use Rattle.xr_building.specs.Aligned.{are_aligned, checked_axis}
-use Rattle.xr_building.specs.Placing.{array_checks}
-use Rattle.xr_building.specs.Puts.{after, labels_at, labels_of, labels_or, last_labels, over, put_on}
-use Rattle.xr_building.proofs.Called.{called_kept, called_name, dimension_named, names_kept, not_called, sizes_alike, sizes_kept}
+use Rattle.xr_building.proofs.Called.{called_name, dimension_named, not_called}
 
 module _ (name : List ℕ) (l : Labels) where
   pub label_name : (x : Axis) → (relabelled name l x).name ≡ x.name
@@ -60,7 +44,7 @@ pub after_dimension : (f : Frame) (ps : List Put) (n : List ℕ) → is_dimensio
 after_dimension f ps n = dimension_named (after f ps).axes n ∙ ap (λ ns. among ns n) (after_names f ps) ∙ sym (dimension_named f.axes n)
 
 pub after_size : (f : Frame) (ps : List Put) (n : List ℕ) → (axis_called (after f ps).axes n).size ≡ (axis_called f.axes n).size
-after_size f ps n = sizes_alike (after f ps).axes f.axes (after_names f ps) (after_sizes f ps) n
+after_size f ps n = size_alike (after f ps).axes f.axes (after_names f ps) (after_sizes f ps) n
 
 -- one more at the end
 pub after_end : (f : Frame) (ps : List Put) (p : Put) → after f (ps ++ p ∷ []) ≡ put_on (after f ps) p
@@ -74,7 +58,7 @@ after_labels_from f o own (p ∷ ps) n is begun = after_labels_from (put_on f p)
   where
     one : (p : Put) → (axis_called (put_on f p).axes n).labels ≡ labels_or (option_or (labels_at n p) o) own
     one (puts.Labels m l) =
-        ap (λ (x : Axis). x.labels) (called_kept (relabelled m (labels_of l)) (label_name m (labels_of l)) (label_size m (labels_of l)) f.axes n is)
+        ap (λ (x : Axis). x.labels) (called_kept (relabelled m (labels_of l)) (label_name m (labels_of l)) (label_size m (labels_of l)) f.axes n (sym (dimension_named f.axes n) ∙ is))
         ∙ ap (λ k. (if bytes_eq k m then record (axis_called f.axes n) { labels = Some (labels_of l) } else axis_called f.axes n).labels) (called_name f.axes n is) ∙ to (bytes_eq n m)
       where
         to : (b : Bool) → (if b then record (axis_called f.axes n) { labels = Some (labels_of l) } else axis_called f.axes n).labels ≡ labels_or (option_or (if b then Some l else None) o) own

@@ -1,12 +1,6 @@
 -- Coordinates that are put in the place of those of their name, or behind.
-use Rattle.std.proofs.Common.{◌≡◌, ℕ, List, [], ◌∷◌, ◌++◌, set, Some, None, refl, ap, ◌∙◌}
-use Rattle.std.specs.Prelude.{if◌then◌else◌}
-use Rattle.std.specs.Str.{bytes_eq}
-use Rattle.xr_defs.specs.declared.value.Coord.{Coord}
-use Rattle.xr_defs.specs.Building.{with_coord}
-use Rattle.xr_building.specs.Puts.{coord_place}
+use Rattle.xr_building.proofs.Common.{Coord, List, None, Some, [], ap, bytes_eq, coord_place, if◌then◌else◌, put_over, refl, set, with_coord, ℕ, ◌++◌, ◌∙◌, ◌∷◌, ◌≡◌}
 use Rattle.xr_values.proofs.Places as places
-use Rattle.xr_values.proofs.Places.{put_over}
 
 by_name : (coords : List Coord) (d : Coord) → with_coord coords d ≡ put_over (λ (c : Coord). bytes_eq c.name d.name) coords d
 by_name [] d = refl

@@ -1,19 +1,7 @@
 -- What is checked of an array that is given.
-use Rattle.std.proofs.Common.{◌≡◌, ◌≤◌, ◌<◌, ℕ, true, false, ◌||◌, List, length, map, if◌then◌else◌, Ok, Err, ap, ◌∙◌, arith}
-use Rattle.std.proofs.lemmas.Bool.{le-leb}
-use Rattle.std.proofs.lemmas.Bool.Decides.{nat_tests}
-use Rattle.std.specs.Prelude.{nat_le}
-use Rattle.xr_types.specs.declared.axis.Axis.{Axis}
-use Rattle.xr_types.specs.declared.fault.Fault.TheVariants.{BadArgument, WrongKind}
-use Rattle.std.specs.List.{list_all}
-use Rattle.xr_arrays.specs.declared.node.Node.{Node}
-use Rattle.xr_values.specs.declared.value.Value.{Value as Held}
-use Rattle.xr_values.specs.Meaning.{meaning, all_values}
-use Rattle.xr_types.specs.Results.{unless, all_of}
-use Rattle.xr_defs.specs.Meanings.{Value, Array}
+use Rattle.xr_building.proofs.Common.{Array, Axis, BadArgument, Err, Held, List, Node, Ok, Value, WrongKind, all_of, all_values, ap, arith, check_coordinate, check_place, false, is_number, is_text, is_there, le-leb, length, list_all, listed_labels, map, meaning, nat_le, nat_tests, true, unless, ℕ, ◌<◌, ◌||◌, ◌∙◌, ◌≡◌, ◌≤◌}
+use Rattle.std.proofs.Common.{if◌then◌else◌}
 use Rattle.xr_defs.specs.Values as of
-use Rattle.xr_defs.specs.Building.{check_coordinate, check_place, is_number, is_text}
-use Rattle.xr_building.specs.Places.{is_there, listed_labels}
 use Rattle.xr_building.proofs.Items.{labels_checked}
 
 pub few_axes : (a : of.DataArray) → length a.axes ≤ 1 → check_coordinate (Array a) ≡ Ok (tt {0})

@@ -1,13 +1,6 @@
 -- As many elements as the shape has points.
-use Rattle.std.proofs.Common.{◌≡◌, ◌+◌, ◌*◌, ◌&&◌, ℕ, zero, suc, Bool, true, List, [], ◌∷◌, ◌++◌, length, refl, sym, ap, ◌∙◌, arith, length-append}
-use Rattle.std.proofs.lemmas.Bool.{and_parts}
-use Rattle.std.proofs.lemmas.List.Folds.{list_all-append}
-use Rattle.std.specs.List.{list_all}
+use Rattle.xr_building.proofs.Common.{Absent, Array, Bool, GroupedArray, GroupedSet, List, Missing, NoValue, Number, Sequence, Set, Slice, Table, Text, Times, Truth, Value, Values, With, [], and_parts, ap, arith, elements, elements_of, is_nested, is_regular, items, length, length-append, list_all, list_all-append, nat_tests, refl, size, suc, sym, true, zero, ℕ, ◌&&◌, ◌*◌, ◌++◌, ◌+◌, ◌∙◌, ◌∷◌, ◌≡◌}
 use Rattle.std.specs.Prelude.{◌==◌}
-use Rattle.std.proofs.lemmas.Bool.Decides.{nat_tests}
-use Rattle.xr_defs.specs.Meanings.{Value, Absent, Missing, Truth, Number, Text, Sequence, Table, Slice, Array, Set, Times, GroupedArray, GroupedSet, Values, NoValue, With}
-use Rattle.xr_types.specs.Points.{size}
-use Rattle.xr_defs.specs.Building.{elements, elements_of, items, is_nested, is_regular}
 
 one_element : (v : Value) → is_nested 0 v ≡ true → length (elements v) ≡ 1
 unfolding elements

@@ -1,33 +1,18 @@
 -- An array that is written out has what its node and its limits ask.
-use Rattle.std.proofs.Common.{◌≡◌, ◌≢◌, ℕ, ℤ, zero, suc, Bool, true, false, ◌||◌, List, [], ◌∷◌, map, length, All, Option, refl, sym, ap, subst, ◌∙◌}
-use Rattle.std.proofs.Math.Bool.{or_comm}
-use Rattle.std.proofs.lemmas.Bool.{and_parts, or_parts}
-use Rattle.std.proofs.lemmas.List.{length-map}
-use Rattle.std.proofs.lemmas.List.Elements.{All-nil, All-cons}
-use Rattle.std.specs.List.{list_all, list_any}
-use Rattle.std.specs.Prelude.{is_some}
-use Rattle.xr_types.specs.declared.axis.Axis.{Axis}
-use Rattle.xr_types.specs.declared.kind.DType.{DType}
-use Rattle.xr_types.specs.declared.kind.DType.TheVariants as kinds
-use Rattle.xr_defs.specs.declared.value.Coord.{Coord}
-use Rattle.xr_arrays.specs.Arrays.{IsCell}
-use Rattle.xr_files.specs.Classic.{is_name}
-use Rattle.xr_types.specs.Names.{are_distinct, shape_over}
-use Rattle.xr_types.specs.Points.{size}
+use Rattle.xr_building.proofs.Common.{All, All-cons, All-nil, AreSeen, Axis, Bool, Coord, Elements, IsFrame, List, Option, Value, [], and_parts, ap, are_distinct, bare_axes, element_cell, elements, false, first_item, gathered, is_missing, is_name, is_nested, is_regular, is_some, is_truth_cell, is_whole_cell, length, length-map, list_all, list_any, map, nested_shape, or_comm, or_parts, refl, shape_over, size, subst, suc, sym, true, zero, ℕ, ℤ, ◌||◌, ◌∙◌, ◌∷◌, ◌≡◌}
 use Rattle.xr_defs.specs.Meanings as of
-use Rattle.xr_defs.specs.Meanings.{Value}
-use Rattle.xr_defs.specs.Building.{bare_axes, elements, element_cell, fits_kind, first_item, is_missing, is_nested, is_regular, is_truth_cell, is_whole_cell, nested_shape, suits}
-use Rattle.xr_defs.specs.WellFormed.{AreSeen}
-use Rattle.xr_building.specs.declared.elements.Elements.{Elements}
-use Rattle.xr_building.specs.Frames.{IsFrame}
-use Rattle.xr_building.specs.Gathered.{gathered, suits_all}
 use Rattle.xr_building.proofs.Counted.{whole}
-use Rattle.xr_building.proofs.Kept.{all_in}
-use Rattle.xr_building.proofs.Unlabelled.{bare_frame}
+use Rattle.xr_building.proofs.Called.{rank}
+use Rattle.xr_building.proofs.Unlabelled.{bare_frame, bare_sizes}
 
 pub nested-length : (k : ℕ) (m : Value) → length (nested_shape k m) ≡ k
 nested-length zero m = refl
 nested-length (suc k) m = ap suc (nested-length k (first_item m))
+
+pub bare_rank : (dims : List (List ℕ)) (m : Value) → length (bare_axes dims (nested_shape (length dims) m)) ≡ length dims
+bare_rank dims m =
+    let long = nested-length (length dims) m in
+    sym (rank (bare_axes dims (nested_shape (length dims) m))) ∙ ap length (bare_sizes dims (nested_shape (length dims) m) (sym long)) ∙ long
 
 pub frame_from : (axes : List Axis) (coords : List Coord) (dims : List (List ℕ)) (shape : List ℕ) → axes ≡ bare_axes dims shape → coords ≡ [] → length dims ≡ length shape → list_all is_name dims ≡ true → are_distinct dims ≡ true → IsFrame axes coords
 frame_from axes coords dims shape is none long named distinct =
@@ -35,21 +20,6 @@ frame_from axes coords dims shape is none long named distinct =
 
 pub whole_from : (axes : List Axis) (shape : List ℕ) (m : Value) (e : Elements) → shape_over axes ≡ shape → e ≡ gathered (elements m) → is_nested (length shape) m ≡ true → is_regular shape m ≡ true → length e.cells ≡ size (shape_over axes)
 whole_from axes shape m e sizes all deep even = ap (λ (x : Elements). length x.cells) all ∙ length-map (elements m) element_cell ∙ whole shape m deep even ∙ ap size (sym sizes)
-
-pub suits_same : (k : DType) (vs : List Value) → suits_all k (gathered vs) ≡ suits k vs
-suits_same kinds.Bool vs = refl
-suits_same kinds.Char vs = refl
-suits_same kinds.Int8 vs = refl
-suits_same kinds.Int16 vs = refl
-suits_same kinds.Int32 vs = refl
-suits_same kinds.Int64 vs = refl
-suits_same kinds.UInt8 vs = refl
-suits_same kinds.UInt16 vs = refl
-suits_same kinds.UInt32 vs = refl
-suits_same kinds.UInt64 vs = refl
-
-pub range_from : (k : DType) (e : Elements) (vs : List Value) (cells : List (Option ℤ)) → e ≡ gathered vs → cells ≡ e.cells → k ≢ kinds.Char → suits_all k e ≡ true → list_all (fits_kind k) cells ≡ true → All (IsCell k) cells
-range_from k e vs cells all look number suit fit = all_in k cells fit
 
 seen_cell : (v : Value) → (is_whole_cell v || is_truth_cell v) ≡ true → is_missing v ≡ false → is_some (element_cell v) ≡ true
 seen_cell (of.Number n) is there = refl

@@ -1,42 +1,11 @@
 -- Entries that are put in their places, as the definitions say.
-use Rattle.std.proofs.Common.{◌≡◌, ◌&&◌, ℕ, Bool, true, false, not, List, [], ◌∷◌, ◌++◌, length, map, Option, Some, None, Result, Ok, Err, refl, sym, ap, subst, ◌∙◌}
-use Rattle.std.specs.Prelude.{◌==◌, if◌then◌else◌}
-use Rattle.std.proofs.Math.Bool.{and-true}
-use Rattle.std.proofs.lemmas.Bool.{and_parts, not-true}
-use Rattle.std.proofs.lemmas.List.Folds.{list_all-append}
-use Rattle.std.specs.List.{list_all}
-use Rattle.xr_types.specs.declared.axis.Axis.{Axis}
+use Rattle.xr_building.proofs.Common.{Answers, Array, Axis, BadArgument, Bool, CallFault, Coord, DataArray, Declined, DoesNotFit, DuplicateName, Err, Fault, Follows, Frame, Global, Held as Value, IsAlone, IsPlain, List, NoMemory, Node, None, Numbers, Ok, Option, Put, Refused, Result, SizeConflict, Some, TextBytes, Value-F, WrongKind, [], all_of, among, and-true, and_parts, ap, array_checks, array_in, array_of, array_put, array_told, axis_called, axis_names, check_axis, check_coordinate, check_entry, check_labels, check_numbers, computed, coordinate_given, entries_in, entry_in, false, fits_whole, frame_labelled, if◌then◌else◌, is_along, is_array, is_dimension, is_free, is_integer_kind, label_total, length, list_all, list_all-append, map, meaning, node_of, not, not-true, out-Value, out-roll-Value, over_called, present, put_fits, put_on, refl, refused, roll-Value, roll-out-Value, subst, sym, true, unless, with_coord, with_coordinate, with_entry, with_key, with_labels, ℕ, ◌&&◌, ◌++◌, ◌>>=◌, ◌∙◌, ◌∷◌, ◌≡◌}
+use Rattle.std.specs.Prelude.{◌==◌}
 use Rattle.std.specs.declared.rc.Rc.{Rc}
-use Rattle.std.specs.declared.alloc.Global.{Global}
-use Rattle.xr_types.specs.declared.text.TextBytes.{TextBytes}
-use Rattle.xr_types.specs.declared.axis.LabelList.TheVariants.{Numbers}
-use Rattle.xr_types.specs.declared.fault.Fault.{Fault}
-use Rattle.xr_types.specs.declared.fault.Fault.TheVariants.{BadArgument, DoesNotFit, DuplicateName, SizeConflict, WrongKind}
-use Rattle.xr_types.specs.declared.fault.CallFault.{CallFault}
-use Rattle.xr_types.specs.declared.fault.CallFault.TheVariants.{Refused, Declined, NoMemory}
-use Rattle.xr_types.specs.Names.{among, axis_names}
-use Rattle.xr_types.specs.Results.{◌>>=◌, unless, all_of, Answers}
-use Rattle.xr_arrays.specs.declared.node.Node.{Node}
 use Rattle.xr_defs.specs.declared.value.Content.TheVariants as contents
-use Rattle.xr_defs.specs.declared.value.Coord.{Coord}
-use Rattle.xr_defs.specs.Meanings.{Array}
-use Rattle.xr_defs.specs.Selecting.{axis_called}
 use Rattle.xr_defs.specs.Values as of
-use Rattle.xr_defs.specs.Values.{array_of, present}
-use Rattle.xr_defs.specs.Building.{Frame, check_axis, check_coordinate, check_entry, check_labels, check_numbers, coordinate_given, frame_labelled, is_along, is_dimension, is_integer_kind, label_total, with_coord, with_coordinate, with_entry, with_labels}
-use Rattle.xr_values.specs.declared.data_array.DataArray.{DataArray}
-use Rattle.xr_values.specs.declared.value.Value.{Value}
 use Rattle.xr_values.specs.declared.value.Value.TheVariants as variants
 use Rattle.xr_values.specs.declared.value.Value.TheOpen as held
-use Rattle.xr_values.specs.declared.value.Value.TheOpen.{Value-F}
-use Rattle.xr_values.specs.declared.value.Value.TheViews.{out-Value, roll-Value, out-roll-Value, roll-out-Value}
-use Rattle.xr_values.specs.Meaning.{meaning, with_key}
-use Rattle.xr_values.specs.Stands.{array_in}
-use Rattle.xr_arguments.proofs.Variants.{is_array}
-use Rattle.xr_building.specs.declared.puts.Put.{Put}
-use Rattle.xr_building.specs.Entries.{computed, entries_in, entry_in, node_of, refused, Follows, IsPlain}
-use Rattle.xr_building.specs.Placing.{array_checks, array_put, array_told, is_free, IsAlone}
-use Rattle.xr_building.specs.Puts.{fits_whole, over_called, put_fits, put_on}
 use Rattle.xr_building.proofs.Fits.{numbers_checked}
 use Rattle.xr_building.proofs.Framed.{equal, first_passes, unless_holds}
 

@@ -1,26 +1,7 @@
 -- How many labels arrays give, their numbers as labels, and numbers that 64 bits hold.
-use Rattle.std.proofs.Common.{◌≡◌, ◌==◌, ◌*◌, ℕ, ℤ, suc, Bool, true, false, List, [], ◌∷◌, length, map, get_or, All, Option, Some, None, Ok, refl, sym, ap, subst, ◌∙◌, arith}
-use Rattle.std.proofs.lemmas.List.{length-map}
-use Rattle.std.proofs.lemmas.List.Elements.{All-head, All-tail}
-use Rattle.std.specs.Prelude.{if◌then◌else◌, is_some, MatchOption, Result}
-use Rattle.xr_types.specs.declared.attr.Attr.{Attr}
-use Rattle.xr_types.specs.declared.axis.Axis.{Axis}
-use Rattle.xr_types.specs.declared.axis.LabelList.{LabelList}
-use Rattle.xr_types.specs.declared.axis.Labels.{Labels}
-use Rattle.xr_types.specs.declared.axis.Label.TheVariants.{Int}
-use Rattle.xr_types.specs.declared.axis.LabelList.TheVariants.{Numbers}
-use Rattle.xr_types.specs.declared.fault.Fault.{Fault}
-use Rattle.xr_types.specs.declared.fault.Fault.TheVariants.{DoesNotFit}
-use Rattle.xr_types.specs.Names.{shape_over}
-use Rattle.xr_types.specs.Points.{size}
-use Rattle.xr_types.specs.Results.{unless}
-use Rattle.xr_arrays.specs.Arrays.{cell, hidden}
+use Rattle.xr_building.proofs.Common.{Absent, All, All-head, All-tail, Array, Attr, Axis, Bool, DoesNotFit, Fault, GroupedArray, GroupedSet, Int, IsDataArray, LabelList, Labels, List, MatchOption, Missing, None, Number, Numbers, Ok, Option, Sequence, Set, Slice, Some, Table, Text, Times, Truth, Value, [], ap, arith, cell, check_numbers, false, fits_whole, get_or, hidden, if◌then◌else◌, is_some, label_total, length, length-map, map, present, refl, shape_over, size, subst, suc, sym, true, unless, ℕ, ℤ, ◌*◌, ◌==◌, ◌∙◌, ◌∷◌, ◌≡◌}
+use Rattle.std.specs.Prelude.{Result}
 use Rattle.xr_defs.specs.Values as of
-use Rattle.xr_defs.specs.Values.{present}
-use Rattle.xr_defs.specs.Meanings.{Value, Absent, Missing, Truth, Number, Text, Sequence, Table, Slice, Array, Set, Times, GroupedArray, GroupedSet}
-use Rattle.xr_defs.specs.Building.{check_numbers, label_total}
-use Rattle.xr_defs.specs.WellFormed.{IsDataArray}
-use Rattle.xr_building.specs.Puts.{fits_whole}
 
 -- ---- an array along its dimension
 

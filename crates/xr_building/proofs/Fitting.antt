@@ -1,18 +1,6 @@
 -- Numbers in the range of a kind.
-use Rattle.std.proofs.Common.{◌≡◌, ◌<◌, ℕ, ℤ, ◌≤ℤ◌, true, false, List, [], ◌∷◌, length, get_or, All, Bool, Option, Some, None, refl, sym, ap, ◌∙◌, arith}
-use Rattle.std.proofs.lemmas.Bool.{and_parts}
-use Rattle.std.proofs.lemmas.List.Elements.{All-nil, All-cons, All-head, All-tail}
-use Rattle.std.proofs.lemmas.Int.{ints}
-use Rattle.std.proofs.lemmas.List.Folds.{list_all_at}
-use Rattle.std.specs.List.{list_all}
-use Rattle.std.specs.Prelude.{int_le}
-use Rattle.xr_types.specs.Kinds.{in_range, InRange, low, high}
-use Rattle.xr_types.specs.declared.kind.DType.{DType}
-use Rattle.xr_arrays.specs.Arrays.{IsCell}
+use Rattle.xr_building.proofs.Common.{All, All-cons, All-head, All-nil, All-tail, Bool, DType, InRange, IsCell, List, None, Option, Put, Some, [], and_parts, ap, arith, false, get_or, high, in_range, int_le, ints, length, list_all, list_all_at, low, present, put_fits, refl, sym, true, ℕ, ℤ, ◌<◌, ◌∙◌, ◌∷◌, ◌≡◌, ◌≤ℤ◌}
 use Rattle.xr_types.specs.declared.kind.DType.TheVariants as kinds
-use Rattle.xr_defs.specs.Values.{present}
-use Rattle.xr_building.specs.declared.puts.Put.{Put}
-use Rattle.xr_building.specs.Puts.{put_fits}
 
 pub present_in : (k : DType) (cells : List (Option ℤ)) → All (IsCell k) cells → All (InRange k) (present cells)
 present_in k [] all = All-nil (InRange k)

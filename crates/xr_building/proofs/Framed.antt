@@ -1,54 +1,17 @@
 -- Axes and coordinates stay as they have to be while entries are put in.
-use Rattle.std.proofs.Common.{◌≡◌, ◌==◌, ◌||◌, ℕ, ℤ, Bool, true, false, not, cond, List, [], ◌∷◌, ◌++◌, length, map, All, Some, Result, Ok, Err, refl, sym, ap, subst, ◌∙◌, arith, append_assoc}
-use Rattle.std.proofs.lemmas.Bool.{or_parts, not-true, and_parts}
-use Rattle.std.proofs.lemmas.Bool.Decides.{nat_tests}
-use Rattle.std.proofs.lemmas.List.{append-nil, length-map}
-use Rattle.std.proofs.lemmas.List.Elements.{All-nil, All-cons, All-head, All-tail}
-use Rattle.std.specs.Prelude.{if◌then◌else◌, ⊤, is_some}
-use Rattle.std.specs.Str.{bytes_eq}
-use Rattle.std.specs.List.{AllByRecursion, list_all}
-use Rattle.xr_types.specs.Kinds.{in_range}
-use Rattle.xr_types.specs.declared.attr.Attr.{Attr}
-use Rattle.xr_types.specs.declared.axis.Axis.{Axis}
-use Rattle.xr_types.specs.declared.axis.Labels.{Labels}
-use Rattle.xr_types.specs.declared.axis.LabelList.{LabelList}
-use Rattle.xr_types.specs.declared.axis.LabelList.TheVariants.{Numbers, Times, Texts}
+use Rattle.xr_building.proofs.Common.{Absent, All, All-cons, All-head, All-nil, All-tail, AllByRecursion, AreAttributes, AreCells, AreLabels, Array, Attr, Axis, Bool, CallFault, Coord, DoesNotFit, DuplicateName, Err, Fault, Frame, GroupedArray, GroupedSet, Held, IsCell, IsCoordinate, IsDataArray, IsEntryIn, IsFrame, IsIndex, IsLayerIn, IsOpenAxis, IsValueIn, LabelList, Labels, List, Missing, NoDimension, Node, Number, Numbers, Ok, Result, Sequence, Set, SizeConflict, Slice, Some, Table, Text, TextBytes, Texts, Truth, Value, Value-F, WrongKind, [], absent_both, absent_parts, all_of, among, and_parts, ap, append-nil, append_assoc, are_distinct, arith, as_labels, axis_called, axis_names, bytes_eq, bytes_eq_swap, called_cons, check_axis, check_coordinate, check_entry, check_labels, check_numbers, check_place, computed, cond, coord_kept, coord_relabelled, coordinate_given, distinct_cons, distinct_parts, each_map, entries_in, entry_in, false, frame_labelled, if◌then◌else◌, in_range, is_dimension, is_integer_kind, is_name, is_number, is_some, is_text, is_there, kept_absent, label_count, label_total, labelled, labels_given, layer, length, length-map, list_all, map, meaning, meaning_out, names_kept, nat_tests, not, not-true, number_coord, numbers_in, or_parts, out-Value, over, over_called, present, refl, refused, relabelled, same_text, shape_over, subst, sym, texts_in, true, unless, value_out, with_coord, with_coordinate, with_entry, with_key, with_labels, ℕ, ℤ, ⊤, ◌++◌, ◌==◌, ◌>>=◌, ◌||◌, ◌∙◌, ◌∷◌, ◌≡◌}
+use Rattle.xr_types.specs.declared.axis.LabelList.TheVariants.{Times}
 use Rattle.xr_types.specs.declared.kind.DType.TheVariants as kinds
-use Rattle.xr_types.specs.declared.text.TextBytes.{TextBytes}
-use Rattle.xr_types.specs.declared.fault.Fault.{Fault}
-use Rattle.xr_types.specs.declared.fault.Fault.TheVariants.{WrongKind, NoDimension, SizeConflict, DoesNotFit, DuplicateName}
-use Rattle.xr_types.specs.declared.fault.CallFault.{CallFault}
-use Rattle.xr_types.specs.Results.{◌>>=◌, unless, all_of}
-use Rattle.xr_types.specs.Names.{among, are_distinct, axis_names, shape_over}
-use Rattle.xr_files.specs.Classic.{is_name}
-use Rattle.xr_arrays.specs.declared.node.Node.{Node}
-use Rattle.xr_arrays.specs.Arrays.{IsCell}
 use Rattle.xr_arrays.specs.Labels.{labels_of}
 use Rattle.xr_defs.specs.declared.value.Content.TheVariants as contents
-use Rattle.xr_defs.specs.declared.value.Coord.{Coord}
 use Rattle.xr_defs.specs.Values as of
-use Rattle.xr_defs.specs.Values.{label_count, present}
-use Rattle.xr_defs.specs.Selecting.{axis_called}
-use Rattle.xr_defs.specs.Meanings.{Value, Absent, Missing, Truth, Number, Text, Sequence, Table, Slice, Array, Set, GroupedArray, GroupedSet}
 use Rattle.xr_defs.specs.Meanings as meanings
-use Rattle.xr_defs.specs.Building.{Frame, all_values, as_labels, check_axis, check_entry, check_labels, check_coordinate, check_numbers, check_place, coord_relabelled, coordinate_given, frame_labelled, is_dimension, is_integer_kind, is_number, is_text, label_total, labels_given, numbers_in, relabelled, with_coord, with_coordinate, with_entry, with_labels}
-use Rattle.xr_defs.specs.Parts.{texts_in}
-use Rattle.xr_defs.specs.WellFormed.{AreAttributes, AreCells, AreLabels, IsContent, IsCoordinate, IsDataArray, IsIndex, labelled, names_of}
-use Rattle.xr_values.specs.declared.value.Value.{Value as Held}
+use Rattle.xr_defs.specs.Building.{all_values}
+use Rattle.xr_defs.specs.WellFormed.{names_of}
 use Rattle.xr_values.specs.declared.value.Value.TheOpen as held
-use Rattle.xr_values.specs.declared.value.Value.TheOpen.{Value-F}
-use Rattle.xr_values.specs.declared.value.Value.TheViews.{out-Value}
-use Rattle.xr_values.specs.Meaning.{meaning, layer, with_key, IsEntryIn, IsLayerIn, IsValueIn}
-use Rattle.xr_values.proofs.Meaning.{meaning_out, value_out}
-use Rattle.xr_values.proofs.Named.{bytes_eq_swap}
-use Rattle.xr_building.specs.Entries.{computed, entries_in, entry_in, refused}
-use Rattle.xr_building.specs.Frames.{IsOpenAxis, IsFrame}
-use Rattle.xr_building.specs.Places.{is_there}
-use Rattle.xr_building.specs.Puts.{number_coord, over, over_called}
 use Rattle.xr_building.proofs.After.{label_name, label_size}
-use Rattle.xr_building.proofs.Idle.{kept_absent}
-use Rattle.xr_building.proofs.Names.{absent_behind, absent_both, absent_parts, distinct_cons, distinct_parts, distinct_with, same_text}
-use Rattle.xr_building.proofs.Called.{called_cons, called_kept, called_name, dimension_named, names_kept, sizes_kept}
+use Rattle.xr_building.proofs.Names.{absent_behind, distinct_with}
+use Rattle.xr_building.proofs.Called.{called_name, dimension_named}
 use Rattle.xr_building.proofs.Fitting.{fits_in_range, fit_in_range, present_in}
 
 -- ---- labels of one axis
@@ -76,31 +39,8 @@ module _ (name : List ℕ) (l : Labels) where
           let later : axis_called (x ∷ axes) name ≡ axis_called axes name = called_cons x axes name ∙ ap (λ b. if b then x else axis_called axes name) other in
           (all.0, rest (subst (λ (y : Axis). IsIndex y.size l) later index))
 
-  over_on : (axes xs : List Axis) → AllByRecursion (λ (x : Axis). (among (axis_names axes) x.name ≡ true) × (axis_called axes x.name ≡ x)) xs
-      → AllByRecursion (λ (x : Axis). (among (axis_names (map (relabelled name l) axes)) x.name ≡ true) × (axis_called (map (relabelled name l) axes) x.name ≡ x)) (map (relabelled name l) xs)
-  over_on axes [] all = tt
-  over_on axes (x ∷ xs) all =
-      let there = dimension_named axes x.name ∙ all.0.0 in (
-        (
-          ap (λ n. among (axis_names (map (relabelled name l) axes)) n) (label_name name l x) ∙ ap (λ ns. among ns x.name) (names_kept (relabelled name l) (label_name name l) (label_size name l) axes) ∙ all.0.0,
-          ap (axis_called (map (relabelled name l) axes)) (label_name name l x) ∙ called_kept (relabelled name l) (label_name name l) (label_size name l) axes x.name there ∙ ap (relabelled name l) all.0.1,
-        ),
-        over_on axes xs all.1,
-      )
-
-  coord_on : (axes : List Axis) (c : Coord) → IsCoordinate axes c → IsCoordinate (map (relabelled name l) axes) (coord_relabelled name l c)
-  coord_on axes c is =
-      record {
-        name = is.name;
-        over = over_on axes c.axes is.over;
-        distinct = ap are_distinct (names_kept (relabelled name l) (label_name name l) (label_size name l) c.axes) ∙ is.distinct;
-        attrs = is.attrs;
-        content = subst (λ s. IsContent s c.content) (sym (sizes_kept (relabelled name l) (label_name name l) (label_size name l) c.axes)) is.content;
-      }
-
   coords_on : (axes : List Axis) (coords : List Coord) → AllByRecursion (IsCoordinate axes) coords → AllByRecursion (IsCoordinate (map (relabelled name l) axes)) (map (coord_relabelled name l) coords)
-  coords_on axes [] all = tt
-  coords_on axes (c ∷ coords) all = (coord_on axes c all.0, coords_on axes coords all.1)
+  coords_on axes coords all = each_map (IsCoordinate axes) (IsCoordinate (map (relabelled name l) axes)) (coord_relabelled name l) coords (coord_kept (relabelled name l) (label_name name l) (label_size name l) axes) all
 
   pub names_on : (coords : List Coord) → names_of (map (coord_relabelled name l) coords) ≡ names_of coords
   names_on [] = refl

@@ -1,28 +1,5 @@
 -- An array with the axes and the coordinates that a call leaves stands in the plan.
-use Rattle.std.proofs.Common.{◌≡◌, ◌≤◌, ◌==◌, ℕ, Bool, true, List, [], ◌∷◌, map, length, Result, Ok, Err, refl, sym, ap, subst}
-use Rattle.std.specs.List.{AllByRecursion, list_all}
-use Rattle.xr_types.specs.declared.axis.Axis.{Axis}
-use Rattle.xr_types.specs.declared.text.TextBytes.{TextBytes}
-use Rattle.xr_types.specs.declared.fault.Fault.{Fault}
-use Rattle.xr_types.specs.declared.fault.Fault.TheVariants.{BadArgument}
-use Rattle.xr_types.specs.declared.fault.CallFault.{CallFault}
-use Rattle.xr_types.specs.Names.{shape_over}
-use Rattle.xr_types.specs.Results.{◌>>=◌, unless, all_of}
-use Rattle.xr_files.specs.Classic.{is_name}
-use Rattle.xr_arrays.specs.declared.node.Node.{Node}
-use Rattle.xr_defs.specs.declared.value.Coord.{Coord}
-use Rattle.xr_defs.specs.Meanings.{Value}
-use Rattle.xr_defs.specs.Building.{Frame, check_entry, check_numbers, check_place}
-use Rattle.xr_defs.specs.WellFormed.{AreCells, IsDimension}
-use Rattle.xr_values.specs.declared.data_array.DataArray.{DataArray}
-use Rattle.xr_values.specs.declared.args.Args.{Args}
-use Rattle.xr_values.specs.declared.value.Value.{Value as Held}
-use Rattle.xr_values.specs.Meaning.{with_key, AreArgsIn}
-use Rattle.xr_values.specs.Stands.{array_in, IsArrayIn, IsNodeOf}
-use Rattle.xr_building.specs.declared.puts.Put.{Put}
-use Rattle.xr_building.specs.Entries.{array_assigned, entries_in, frame_in, refused}
-use Rattle.xr_building.specs.Frames.{IsFrame, IsOpenAxis}
-use Rattle.xr_building.specs.Puts.{after, over}
+use Rattle.xr_building.proofs.Common.{AllByRecursion, AreArgsIn, AreCells, Args, Axis, BadArgument, Bool, CallFault, Coord, DataArray, Err, Fault, Frame, Held, IsArrayIn, IsDimension, IsFrame, IsNodeOf, IsOpenAxis, List, Node, Ok, Put, Result, TextBytes, Value, [], after, all_of, ap, array_assigned, array_in, check_entry, check_numbers, check_place, entries_in, frame_in, is_name, length, list_all, map, over, refl, refused, shape_over, subst, sym, true, unless, with_key, ℕ, ◌==◌, ◌>>=◌, ◌∷◌, ◌≡◌, ◌≤◌}
 use Rattle.xr_building.proofs.After.{after_sizes}
 use Rattle.xr_building.proofs.Framed.{entries_frame, Holds}
 

@@ -1,33 +1,13 @@
 -- Items and elements of lists of values.
-use Rattle.std.proofs.Common.{◌≡◌, ◌<◌, ◌≤◌, ◌+◌, ◌-◌, ◌==◌, ℕ, ℤ, zero, suc, arith, drop, Bool, true, false, ◌&&◌, ◌||◌, List, [], ◌∷◌, ◌++◌, length, map, take, get_or, Option, Some, None, Result, Ok, Err, if◌then◌else◌, refl, sym, ap, ◌∙◌, append_assoc}
-use Rattle.std.proofs.Math.Bool.{and_assoc, or_assoc, and-true, or-false}
-use Rattle.std.proofs.lemmas.Bool.{and_parts}
+use Rattle.xr_building.proofs.Common.{Absent, Bool, Elements, Err, Fault, Held as Value, LabelList, Labels, List, MatchOption, NoValue, Node, None, Numbers, Ok, Option, Result, Sequence, Some, Texts, Values, With, WrongKind, [], all_more, all_values as listed, and-true, and_assoc, and_parts, ap, append-nil, append_assoc, arith, as_labels, drop, drop_all, element_cell, elements, elements_of, false, first_item, fits_whole, get_or, is_missing, is_nested, is_number, is_regular, is_text, is_truth_cell, is_whole_cell, item_count, items, labels_given, length, length-map, list_all, list_all-append, list_all-map, list_all_at, list_any, list_any-append, map, map-append, meaning, nat_tests, nested_shape, nil_from_length, numbers_in, or-false, or_assoc, refl, suc, sym, take, take_all, texts_in, texts_put, true, with_elements, zero, ℕ, ℤ, ◌&&◌, ◌++◌, ◌+◌, ◌-◌, ◌<◌, ◌==◌, ◌>>=◌, ◌||◌, ◌∙◌, ◌∷◌, ◌≡◌, ◌≤◌}
+use Rattle.std.proofs.Common.{if◌then◌else◌}
 use Rattle.std.proofs.Math.Seq.{drop-cons}
-use Rattle.std.proofs.lemmas.List.{map-append, append-nil, length-map, nil_from_length, drop_all, take_all}
-use Rattle.std.proofs.lemmas.Bool.Decides.{nat_tests}
-use Rattle.std.proofs.lemmas.List.Folds.{list_all-append, list_all-map, list_all_at, list_any-append}
-use Rattle.std.specs.List.{list_all, list_any}
-use Rattle.std.specs.Prelude.{MatchOption}
-use Rattle.xr_types.specs.declared.fault.Fault.TheVariants.{WrongKind}
-use Rattle.xr_types.specs.declared.fault.Fault.{Fault}
-use Rattle.xr_types.specs.declared.axis.LabelList.{LabelList}
-use Rattle.xr_types.specs.declared.axis.LabelList.TheVariants.{Numbers, Texts}
-use Rattle.xr_types.specs.declared.axis.Labels.{Labels}
-use Rattle.xr_arrays.specs.declared.node.Node.{Node}
-use Rattle.xr_types.specs.Results.{◌>>=◌}
 use Rattle.xr_defs.specs.Arguments.{as_text}
-use Rattle.xr_defs.specs.Parts.{texts_in}
 use Rattle.xr_defs.specs.Meanings as of
-use Rattle.xr_defs.specs.Meanings.{Values, NoValue, With, Absent, Sequence}
 use Rattle.xr_types.specs.declared.kind.DType.TheVariants as kinds
-use Rattle.xr_building.specs.Puts.{fits_whole, texts_put}
-use Rattle.xr_defs.specs.Building.{elements, elements_of, items, item_count, first_item, all_values, numbers_in, is_number, is_text, as_labels, labels_given, is_nested, is_regular, nested_shape, is_whole_cell, is_truth_cell, is_missing, element_cell}
-use Rattle.xr_values.specs.declared.value.Value.{Value}
-use Rattle.xr_values.specs.Meaning.{meaning, values, all_values as listed}
-use Rattle.xr_values.proofs.Meaning.{all_more}
+use Rattle.xr_defs.specs.Building.{all_values}
+use Rattle.xr_values.specs.Meaning.{values}
 use Rattle.xr_arguments.proofs.Listed.{take_one}
-use Rattle.xr_building.specs.declared.elements.Elements.{Elements}
-use Rattle.xr_building.specs.Gathered.{with_elements}
 
 -- ---- items
 

@@ -1,19 +1,10 @@
 -- Cells as they are kept: numbers of their kind, and a mask.
-use Rattle.std.proofs.Common.{◌≡◌, ◌<◌, ℕ, ℤ, pos, Bool, true, false, List, [], ◌∷◌, map, All, Option, Some, None, refl, sym, ap, ◌∙◌, arith}
-use Rattle.std.proofs.lemmas.Bool.{and_parts}
-use Rattle.std.proofs.lemmas.List.Elements.{All-nil, All-cons, All-head, All-tail}
-use Rattle.std.proofs.lemmas.Int.{ints}
-use Rattle.std.specs.List.{list_all}
-use Rattle.std.specs.Prelude.{is_some, IfOk, Result, Ok, Err}
-use Rattle.xr_types.specs.Kinds.{in_range, wrap_to, InRange}
-use Rattle.xr_types.specs.declared.kind.DType.{DType}
+use Rattle.xr_building.proofs.Common.{All, All-cons, All-head, All-nil, All-tail, AreSeen, Bool, DType, IfOk, InRange, IsCell, List, None, Option, Some, [], and_parts, ap, arith, cell, false, fits_kind, hidden, in_range, ints, is_some, kind_of, list_all, map, mask_byte, number_or_zero, pos, refl, sym, true, wide, wrap_to, ℕ, ℤ, ◌<◌, ◌∙◌, ◌∷◌, ◌≡◌}
+use Rattle.std.specs.Prelude.{Result, Ok, Err}
 use Rattle.xr_types.specs.declared.kind.DType.TheVariants as kinds
 use Rattle.xr_types.proofs.Wrapping.{wrapped_only}
 use Rattle.xr_arrays.specs.declared.typed.Cells.{Cells}
-use Rattle.xr_arrays.specs.Arrays.{Array, IsCell, hidden, cell, kind_of, wide}
-use Rattle.xr_defs.specs.Building.{fits_kind}
-use Rattle.xr_defs.specs.WellFormed.{AreSeen}
-use Rattle.xr_building.specs.Gathered.{number_or_zero, mask_byte}
+use Rattle.xr_arrays.specs.Arrays.{Array}
 use Rattle.xr_building.proofs.Fitting.{fits_in_range}
 
 -- ---- a number of a kind is left as it is

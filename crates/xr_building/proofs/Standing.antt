@@ -1,31 +1,9 @@
 -- Arrays whose cells are written out stand in the plan.
-use Rattle.std.proofs.Common.{◌≡◌, ◌≤◌, ◌&&◌, ℕ, ℤ, true, List, [], ◌∷◌, length, Option, Ok, All, refl, sym, ap, subst, ◌∙◌, arith}
-use Rattle.std.proofs.lemmas.Bool.{and_parts, leb-true, le-leb}
-use Rattle.std.specs.List.{AllByRecursion, list_all}
-use Rattle.std.specs.Prelude.{nat_le, MatchOption, ⊤}
-use Rattle.xr_types.specs.declared.attr.Attr.{Attr}
-use Rattle.xr_types.specs.declared.axis.Axis.{Axis}
-use Rattle.xr_arrays.specs.declared.node.Node.{Node}
-use Rattle.xr_arrays.specs.declared.node.Node.TheVariants.{Source}
-use Rattle.xr_defs.specs.declared.value.Coord.{Coord}
-use Rattle.xr_files.specs.Classic.{is_name}
-use Rattle.xr_types.specs.Points.{size}
-use Rattle.xr_arrays.specs.Arrays.{Array, IsCell}
-use Rattle.xr_defs.specs.Limits.{most_cells, most_dimensions}
-use Rattle.xr_arrays.specs.Nodes.{IsNode, Pushes, values, node_value}
-use Rattle.xr_defs.specs.Selecting.{is_within, are_within, check_array}
+use Rattle.xr_building.proofs.Common.{All, AllByRecursion, Attr, Axis, Coord, DataArray, IsArrayIn, IsCell, IsDataArray, IsDimension, IsFilled, IsNode, IsOpenAxis, List, Node, Ok, Option, Outline, Pushes, Source, [], and_parts, ap, are_within, arith, array_in, check_array, is_within, leb-true, length, limited, list_all, most_cells, most_dimensions, nat_le, node_value, refl, shape_over, size, subst, sym, true, unless, values, with_cells, with_written, ℕ, ℤ, ◌&&◌, ◌∙◌, ◌∷◌, ◌≡◌, ◌≤◌}
+use Rattle.xr_arrays.specs.Arrays.{Array}
 use Rattle.xr_defs.specs.Room.{AddsForAny}
-use Rattle.xr_types.specs.Results.{unless}
-use Rattle.xr_types.specs.Names.{shape_over}
-use Rattle.xr_values.specs.declared.data_array.DataArray.{DataArray}
-use Rattle.xr_defs.specs.WellFormed.{AreSeen, IsDimension, IsDataArray}
-use Rattle.xr_values.specs.Stands.{array_in, with_cells, IsArrayIn}
 use Rattle.xr_values.proofs.Grown.{pushed_cells, pushed_array}
 use Rattle.xr_values.proofs.Rooms.{array_added}
-use Rattle.xr_building.specs.declared.placed.Outline.{Outline}
-use Rattle.xr_building.specs.Placed.{with_written, limited}
-use Rattle.xr_building.specs.Frames.{IsOpenAxis, IsFrame}
-use Rattle.xr_building.proofs.Called.{rank as rank_of}
 
 small_shape : (shape : List ℕ) → is_within shape ≡ true → (list_all (λ n. nat_le n most_cells) shape && nat_le (size shape) most_cells) ≡ true
 small_shape shape within = (and_parts (nat_le (length shape) most_dimensions) (list_all (λ n. nat_le n most_cells) shape && nat_le (size shape) most_cells) within).1
@@ -42,29 +20,31 @@ short_axes (x ∷ axes) short all =
 abbrev pub written : Outline → ℕ → DataArray
 written a n = record { name = a.name; axes = a.axes; kind = a.kind; masked = a.masked; attrs = []; coords = a.coords; node = n }
 
-module _ (a : Outline) (cells : List (Option ℤ)) (frame : IsFrame a.axes a.coords) (name : MatchOption a.name ⊤ (λ n. is_name n ≡ true)) (whole : length cells ≡ size (shape_over a.axes)) (range : All (IsCell a.kind) cells) (seen : AreSeen a.masked cells)
-    (rank : length a.axes ≤ most_dimensions) (within : (is_within (shape_over a.axes) && are_within a.coords) ≡ true) where
+module _ (a : Outline) (cells : List (Option ℤ)) (is : IsFilled a cells) (range : All (IsCell a.kind) cells) (within : (is_within (shape_over a.axes) && are_within a.coords) ≡ true) where
   abbrev value : Array
   value = record { kind = a.kind; shape = shape_over a.axes; cells = cells }
 
   inside : is_within (shape_over a.axes) ≡ true
   inside = (and_parts (is_within (shape_over a.axes)) (are_within a.coords) within).0
 
+  rank : length (shape_over a.axes) ≤ most_dimensions
+  rank = leb-true (length (shape_over a.axes)) most_dimensions (and_parts (nat_le (length (shape_over a.axes)) most_dimensions) (list_all (λ n. nat_le n most_cells) (shape_over a.axes) && nat_le (size (shape_over a.axes)) most_cells) inside).0
+
   short : list_all (λ n. nat_le n most_cells) (shape_over a.axes) ≡ true
   short = (and_parts (list_all (λ n. nat_le n most_cells) (shape_over a.axes)) (nat_le (size (shape_over a.axes)) most_cells) (small_shape (shape_over a.axes) inside)).0
 
   pub fits : (old : List Node) → IsNode (values old) (Source value)
   unfolding node_value
-  fits old = record { fits = record { whole = whole; range = range }; small = (let few = few_cells (shape_over a.axes) inside in omega arith); low_rank = (let r = rank_of a.axes in omega arith) }
+  fits old = record { fits = record { whole = is.whole; range = range }; small = (let few = few_cells (shape_over a.axes) inside in omega arith); low_rank = rank }
 
   formed : (n : ℕ) → IsDataArray (with_cells (written a n) cells)
   formed n = record {
-    name = name;
-    axes = record { each = short_axes a.axes short frame.each; distinct = frame.axes_distinct };
-    coords = frame.over;
-    distinct = frame.distinct;
+    name = is.name;
+    axes = record { each = short_axes a.axes short is.frame.each; distinct = is.frame.axes_distinct };
+    coords = is.frame.over;
+    distinct = is.frame.distinct;
     attrs = record { each = tt; distinct = refl };
-    cells = record { whole = whole; range = range; seen = seen; low_rank = (let r = rank_of a.axes in omega arith); few = few_cells (shape_over a.axes) inside };
+    cells = record { whole = is.whole; range = range; seen = is.seen; low_rank = rank; few = few_cells (shape_over a.axes) inside };
   }
 
   pub stands : (old new : List Node) (n : ℕ) → Pushes old new (Source value) n → (array_in new (written a n) ≡ with_cells (written a n) cells) × IsArrayIn new (written a n)
@@ -81,9 +61,9 @@ cells_of a shape cells = record { kind = a.kind; shape = shape; cells = cells }
 pub value_is : (a : Outline) (cells : List (Option ℤ)) (v : Array) (shape : List ℕ) (seen : List Axis) → v ≡ cells_of a shape cells → shape ≡ shape_over seen → seen ≡ a.axes → v ≡ cells_of a (shape_over a.axes) cells
 value_is a cells v shape seen is sizes same = is ∙ ap (λ s. cells_of a s cells) (sizes ∙ ap shape_over same)
 
-pub limits_hold : (a : Outline) (cells : List (Option ℤ)) → length a.axes ≤ most_dimensions → (is_within (shape_over a.axes) && are_within a.coords) ≡ true → limited (with_written a cells) ≡ Ok (with_written a cells)
+pub limits_hold : (a : Outline) (cells : List (Option ℤ)) → (is_within (shape_over a.axes) && are_within a.coords) ≡ true → limited (with_written a cells) ≡ Ok (with_written a cells)
 unfolding check_array unless
-limits_hold a cells rank within = let few : nat_le (length a.axes) most_dimensions ≡ true = le-leb (length a.axes) most_dimensions rank in rw (few, within) refl
+limits_hold a cells within = rw within refl
 
 pub answered : (a : Outline) (cells : List (Option ℤ)) (new : List Node) (n : ℕ) (attrs : List Attr) → attrs ≡ [] → limited (with_written a cells) ≡ Ok (with_written a cells) → (array_in new (written a n) ≡ with_cells (written a n) cells) × IsArrayIn new (written a n)
     → (limited (with_written a cells) ≡ Ok (array_in new (record (written a n) { attrs = attrs }))) × IsArrayIn new (record (written a n) { attrs = attrs })

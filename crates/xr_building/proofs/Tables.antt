@@ -1,31 +1,10 @@
 -- The entries of the argument `coords`.
-use Rattle.std.proofs.Common.{Bor, All, subst, ◌≡◌, ℕ, Bool, true, false, List, [], ◌∷◌, ◌++◌, length, map, drop, get_or, Option, Some, None, Result, Ok, Err, refl, sym, ap, ◌∙◌, append_assoc}
-use Rattle.std.proofs.lemmas.List.{append-nil}
-use Rattle.std.specs.Prelude.{option_map, find, codes, if◌then◌else◌, Vec, MatchOption, ⊤}
-use Rattle.std.specs.declared.alloc.Global.{Global}
-use Rattle.std.proofs.lemmas.List.Elements.{All-head, All-tail}
-use Rattle.std.specs.Str.{bytes_eq}
-use Rattle.xr_types.specs.declared.text.TextBytes.{TextBytes}
-use Rattle.xr_types.specs.declared.axis.Axis.{Axis}
-use Rattle.xr_types.specs.declared.fault.Fault.{Fault}
-use Rattle.xr_types.specs.declared.fault.Fault.TheVariants.{BadArgument}
-use Rattle.xr_types.specs.declared.fault.CallFault.{CallFault}
-use Rattle.xr_types.specs.declared.fault.CallFault.TheVariants.{Refused, Declined, NoMemory}
-use Rattle.xr_arrays.specs.declared.node.Node.{Node}
-use Rattle.xr_defs.specs.Meanings.{Value, Entries, NoEntry, Entry, Absent, Missing, Truth, Number, Text, Sequence, Table, Slice, Array, Set, Times, GroupedArray, GroupedSet}
-use Rattle.xr_types.specs.Results.{◌>>=◌, unless, all_of, Answers}
-use Rattle.xr_defs.specs.Building.{argument, bound, check_entry, check_table_entry, entries_given, entries_in, given_value, is_named_entry, keyword, parameters}
-use Rattle.xr_values.specs.declared.value.Value.{Value as Held}
+use Rattle.xr_building.proofs.Common.{All, All-head, All-tail, Answers, AreArgsIn, Args, Axis, BadArgument, Bool, Bor, CallFault, Declined, Entries, Entry, Err, Fault, Global, Held, IsEntryIn, IsLayerIn, IsValueIn, List, MatchOption, NoEntry, NoMemory, Node, None, Ok, Option, Refused, Result, Some, TextBytes, Value, Value-F, Vec, [], all_entries, all_of, ap, append-nil, append_assoc, argument, bound, bytes_eq, check_entry, check_table_entry, codes, coords_held, drop, entries, entries_given, entries_held, entries_of, false, find, get_or, given, given_value, if◌then◌else◌, is_named_entry, is_table, keyword, keyword_held, layer, length, map, meaning, meaning_out, out-Value, out-roll-Value, parameters, refl, roll-Value, subst, sym, true, unless, value_out, with_key, ℕ, ⊤, ◌++◌, ◌>>=◌, ◌∙◌, ◌∷◌, ◌≡◌}
+use Rattle.std.specs.Prelude.{option_map}
+use Rattle.xr_defs.specs.Building.{entries_in}
 use Rattle.xr_values.specs.declared.value.Value.TheVariants as variants
 use Rattle.xr_values.specs.declared.value.Value.TheOpen as held
-use Rattle.xr_values.specs.declared.value.Value.TheOpen.{Value-F}
-use Rattle.xr_values.specs.declared.value.Value.TheViews.{out-Value, roll-Value, out-roll-Value}
-use Rattle.xr_values.specs.declared.args.Args.{Args}
-use Rattle.xr_values.specs.Meaning.{meaning, layer, with_key, entries, all_entries, given, AreArgsIn, IsEntryIn, IsLayerIn, IsValueIn}
-use Rattle.xr_values.proofs.Meaning.{meaning_out, value_out}
-use Rattle.xr_arguments.proofs.Variants.{is_table}
 use Rattle.xr_building.proofs.Framed.{first_passes}
-use Rattle.xr_building.specs.Written.{coords_held, entries_held, entries_of, keyword_held}
 
 listed_on : (es : Entries) (kvs : List (List ℕ × Value)) → entries_in (entries es kvs) ≡ entries_in es ++ kvs
 listed_on es [] = sym (append-nil (entries_in es))
@@ -64,35 +43,13 @@ module _ (nodes : List Node) (axes : List Axis) (es : List (List ℕ × Value)) 
   entries_same (Some v) told = by_layer (out-Value v) (ap (λ w. entries_given axes (given_value (Some w))) (sym (meaning_out nodes v)) ∙ told)
 
 -- an entry that a table may have is labels or a coordinate
-each_passes : (axes : List Axis) (es : List (List ℕ × Value)) → all_of (check_table_entry axes) es ≡ Ok (tt {0}) → all_of (check_entry axes) es ≡ Ok (tt {0})
+pub each_passes : (axes : List Axis) (es : List (List ℕ × Value)) → all_of (check_table_entry axes) es ≡ Ok (tt {0}) → all_of (check_entry axes) es ≡ Ok (tt {0})
 unfolding check_table_entry
 each_passes axes [] is = refl
 each_passes axes (kv ∷ kvs) is =
     let p = first_passes (check_table_entry axes kv) (all_of (check_table_entry axes) kvs) tt is in
     let q = first_passes (check_entry axes kv) (unless (is_named_entry kv) BadArgument) tt p.0 in
     ap (λ r. r >>= λ u. all_of (check_entry axes) kvs) q.0 ∙ each_passes axes kvs p.1
-
--- and each of them is labels or a coordinate
-pub entries_checked : (axes : List Axis) (o : Option Value) (es : List (List ℕ × Value)) → entries_given axes o ≡ Ok es → all_of (check_entry axes) es ≡ Ok (tt {0})
-unfolding entries_given
-entries_checked axes None es is = ap (all_of (check_entry axes)) (let same : es ≡ [] = cc in same)
-entries_checked axes (Some (Table t)) es is = by (all_of (check_table_entry axes) (entries_in t)) refl is
-  where
-    by : (a : Result (Unit {0}) Fault) → all_of (check_table_entry axes) (entries_in t) ≡ a → (a >>= λ u. Ok (entries_in t)) ≡ Ok es → all_of (check_entry axes) es ≡ Ok tt
-    by (Ok u) passed told = ap (all_of (check_entry axes)) (let same : es ≡ entries_in t = cc in same) ∙ each_passes axes (entries_in t) passed
-    by (Err e) passed told = absurd cc
-entries_checked axes (Some Absent) es is = absurd cc
-entries_checked axes (Some Missing) es is = absurd cc
-entries_checked axes (Some (Truth b)) es is = absurd cc
-entries_checked axes (Some (Number n)) es is = absurd cc
-entries_checked axes (Some (Text t)) es is = absurd cc
-entries_checked axes (Some (Sequence vs)) es is = absurd cc
-entries_checked axes (Some (Slice start stop step)) es is = absurd cc
-entries_checked axes (Some (Array a)) es is = absurd cc
-entries_checked axes (Some (Set s)) es is = absurd cc
-entries_checked axes (Some (Times coding times)) es is = absurd cc
-entries_checked axes (Some (GroupedArray a by)) es is = absurd cc
-entries_checked axes (Some (GroupedSet s by)) es is = absurd cc
 
 abbrev given_table : List Axis → List (List ℕ × Value) → Result (List (List ℕ × Value)) Fault
 given_table axes es = all_of (check_table_entry axes) es >>= λ u. Ok es

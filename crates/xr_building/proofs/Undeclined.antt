@@ -1,32 +1,8 @@
 -- Where no node is declined, calls answer as the definitions say.
-use Rattle.std.proofs.Common.{◌≡◌, ℕ, Bool, false, not, List, [], ◌∷◌, map, length, Option, Some, None, Result, Ok, Err, refl, sym, ap, ◌∙◌}
-use Rattle.std.specs.Prelude.{◌==◌, nat_le, option_map}
-use Rattle.std.specs.List.{list_all}
-use Rattle.std.proofs.lemmas.List.{length-map}
-use Rattle.xr_types.specs.declared.axis.Axis.{Axis}
-use Rattle.xr_types.specs.declared.text.TextBytes.{TextBytes}
-use Rattle.xr_types.specs.declared.fault.Fault.{Fault}
-use Rattle.xr_types.specs.declared.fault.Fault.TheVariants.{WrongKind, BadArgument, SizeConflict, DoesNotFit, TooLarge}
-use Rattle.xr_types.specs.declared.fault.CallFault.{CallFault}
-use Rattle.xr_types.specs.declared.fault.CallFault.TheVariants.{Refused, Declined, NoMemory}
-use Rattle.xr_types.specs.Results.{◌>>=◌, unless, all_of}
-use Rattle.xr_arrays.specs.declared.node.Node.{Node}
-use Rattle.xr_defs.specs.Limits.{most_dimensions}
-use Rattle.xr_defs.specs.Meanings.{Value as Meant}
-use Rattle.xr_defs.specs.Parts.{without_idle}
-use Rattle.xr_defs.specs.Selecting.{check_array, check_set}
+use Rattle.xr_building.proofs.Common.{AnswersArray, AnswersSet, Args, Axis, BadArgument, Bool, CallFault, DType, DataArray, Dataset, Declined, DoesNotFit, Err, Fault, FollowsArray, FollowsSet, Frame, Held as Value, List, NoMemory, Node, None, Ok, Option, Refused, Result, SizeConflict, Some, TextBytes, TooLarge, Value as Meant, WrongKind, [], all_of, ap, argument, array_assigned, array_built, array_in, array_written, assigned_to_array, assigned_to_set, bare_axes, bound, check_elements, check_entry, check_fit, check_numbers, check_place, check_set, computed, coords_assigned, coords_held, data_array, dataset_in, dims_given, element_cell, elements, entries_assigned, entries_given, entries_held, entries_in, entry_in, false, fits_kind, frame_in, frame_of_array, framed, given, given_value, header_of, is_nested, is_regular, kind_for, kind_given, length, length-map, limited, list_all, list_all-map, map, meaning, most_dimensions, name_given, nat_le, nested_shape, node_of, not, option, out-Value, over, parameters, plain_array, plain_given, plain_over, refl, refused, required, set_assigned, suits, sym, unless, variable_names, with_entries, with_entry, with_key, without_idle, ℕ, ◌>>=◌, ◌∙◌, ◌∷◌, ◌≡◌}
+use Rattle.std.specs.Prelude.{◌==◌}
 use Rattle.xr_defs.specs.Values as of
-use Rattle.xr_defs.specs.Building.{Frame, argument, array_built, assigned_to_array, assigned_to_set, bare_axes, bound, check_elements, check_entry, check_numbers, check_place, coords_assigned, data_array, dims_given, element_cell, elements, entries_assigned, entries_given, fits_kind, frame_of_array, given_value, is_nested, is_regular, kind_for, kind_given, name_given, nested_shape, option, parameters, plain_array, required, suits, variable_names, with_entries, with_entry}
-use Rattle.xr_values.specs.declared.data_array.DataArray.{DataArray}
-use Rattle.xr_values.specs.declared.dataset.Dataset.{Dataset}
-use Rattle.xr_values.specs.declared.value.Value.{Value}
-use Rattle.xr_values.specs.declared.value.Value.TheViews.{out-Value}
-use Rattle.xr_values.specs.declared.args.Args.{Args}
-use Rattle.xr_values.specs.Answers.{AnswersArray, AnswersSet}
-use Rattle.xr_values.specs.Meaning.{meaning, with_key, given}
-use Rattle.xr_values.specs.Stands.{array_in, dataset_in}
-use Rattle.xr_building.specs.Entries.{refused, node_of, computed, entry_in, entries_in, frame_in, array_assigned, set_assigned, FollowsArray, FollowsSet}
-use Rattle.xr_building.specs.Written.{array_written, built_in, coords_held, entries_held, values_written}
+use Rattle.xr_building.proofs.Described.{bare_rank}
 use Rattle.xr_building.proofs.Tables.{coords_same, entries_same}
 
 -- a step of the definitions, and what comes behind it
@@ -96,46 +72,58 @@ set_all declines nodes s args none =
 
 -- ---- arrays that are written out
 
-module _ (declines : ℕ → Bool) (none : (n : ℕ) → declines n ≡ false) (nodes : List Node) (coords : Option Value) (vs : List (Option Meant)) (is : option_map (meaning nodes) coords ≡ argument vs 2) where
-  built_all : (content : Meant) (dims : List (List ℕ)) (axes : List Axis) → built_in declines nodes content dims axes vs (entries_held coords) ≡ refused (array_built content dims axes vs)
-  unfolding built_in array_built
-  built_all content dims axes =
-      lift (entries_given axes (option vs 2)) _ _ (λ es told. lift (name_given (option vs 3)) _ _ (λ name a. lift (kind_given (option vs 4)) _ _ (λ dtype b.
-      lift (unless (suits (kind_for (elements content) dtype) (elements content)) WrongKind) _ _ (λ u c. lift (all_of (check_place axes) es) _ _ (λ v d. lift (unless (is_regular (nested_shape (length dims) content) content) SizeConflict) _ _ (λ w e.
-      ap (λ r. r >>= λ f. refused (unless (list_all (λ v. fits_kind (kind_for (elements content) dtype) (element_cell v)) (elements content)) DoesNotFit) >>= λ d. refused (all_of check_numbers es) >>= λ e. refused (unless (nat_le (length dims) most_dimensions) TooLarge) >>= λ g.
-      Ok (record (plain_array f.axes name (kind_for (elements content) dtype) (elements content)) { coords = f.coords })) (put es told)
-      ∙ last (with_entries [] start es) (unless (list_all (λ v. fits_kind (kind_for (elements content) dtype) (element_cell v)) (elements content)) DoesNotFit) (all_of check_numbers es) (unless (nat_le (length dims) most_dimensions) TooLarge)
-      (λ f. record (plain_array f.axes name (kind_for (elements content) dtype) (elements content)) { coords = f.coords })))))))
-    where
-      start : Frame
-      start = record { axes = axes; coords = [] }
+-- a step of the definitions before an array is plain, and the same step of all
+through : {A B C : Type 0} (r : Result A Fault) (f : A → Result B Fault) (k : B → Result C CallFault) (h : A → Result C Fault) → ((a : A) → r ≡ Ok a → (refused (f a) >>= k) ≡ refused (h a)) → (refused (r >>= f) >>= k) ≡ refused (r >>= h)
+through (Ok a) f k h each = each a refl
+through (Err e) f k h each = refl
 
-      last : (w : Result Frame Fault) (p q r : Result (Unit {0}) Fault) (x : Frame → of.DataArray) → (refused w >>= λ f. refused p >>= λ d. refused q >>= λ e. refused r >>= λ g. Ok (x f)) ≡ refused (w >>= λ f. p >>= λ d. q >>= λ e. r >>= λ g. Ok (x f))
-      last (Err e) p q r x = refl
-      last (Ok f) (Err e) q r x = refl
-      last (Ok f) (Ok u) (Err e) r x = refl
-      last (Ok f) (Ok u) (Ok v) (Err e) x = refl
-      last (Ok f) (Ok u) (Ok v) (Ok w) x = refl
+-- with more behind all
+through_to : {A B C D : Type 0} (r : Result A Fault) (f : A → Result B Fault) (k : B → Result D CallFault) (h : A → Result C Fault) (last : C → Result D Fault) → ((a : A) → r ≡ Ok a → (refused (f a) >>= k) ≡ refused (h a >>= last)) → (refused (r >>= f) >>= k) ≡ refused ((r >>= h) >>= last)
+through_to (Ok a) f k h last each = each a refl
+through_to (Err e) f k h last each = refl
 
-      put : (es : List (List ℕ × Meant)) → entries_given axes (option vs 2) ≡ Ok es → entries_in declines nodes [] start (entries_held coords) ≡ refused (with_entries [] start es)
-      put es told = entries_all declines none nodes [] start (entries_held coords) ∙ ap (λ x. refused (with_entries [] start x)) (sym (entries_same nodes axes es coords (ap (λ o. entries_given axes (given_value o)) is ∙ told)))
-
-  values_all : values_written declines nodes vs (entries_held coords)
-      ≡ refused (required (argument vs 0) >>= λ content. required (argument vs 1) >>= λ dimensions. check_elements (elements content) >>= λ a. dims_given (Some dimensions) >>= λ dims. unless (is_nested (length dims) content) BadArgument >>= λ b.
-      array_built content dims (bare_axes dims (nested_shape (length dims) content)) vs >>= λ x. check_array x >>= λ c. Ok x)
-  unfolding values_written
-  values_all =
-      lift (required (argument vs 0)) _ _ (λ content a. lift (required (argument vs 1)) _ _ (λ dimensions b. lift (check_elements (elements content)) _ _ (λ u c. lift (dims_given (Some dimensions)) _ _ (λ dims d. lift (unless (is_nested (length dims) content) BadArgument) _ _ (λ v e.
-      ap (λ r. r >>= λ x. refused (check_array x) >>= λ c. Ok x) (built_all content dims (bare_axes dims (nested_shape (length dims) content)))
-      ∙ checked (array_built content dims (bare_axes dims (nested_shape (length dims) content)) vs))))))
-    where
-      checked : (r : Result of.DataArray Fault) → (refused r >>= λ x. refused (check_array x) >>= λ c. Ok x) ≡ refused (r >>= λ x. check_array x >>= λ c. Ok x)
-      checked (Ok x) = with_check (check_array x) x
-      checked (Err e) = refl
+-- and as the first step of several
+through_in : {A B C D E : Type 0} (r : Result A Fault) (f : A → Result B Fault) (g : B → Result C Fault) (k : C → Result E CallFault) (h : A → Result D Fault) (last : D → Result E Fault)
+    → ((a : A) → r ≡ Ok a → (refused (f a >>= g) >>= k) ≡ refused (h a >>= last)) → (refused ((r >>= f) >>= g) >>= k) ≡ refused ((r >>= h) >>= last)
+through_in (Ok a) f g k h last each = each a refl
+through_in (Err e) f g k h last each = refl
 
 pub written_all : (declines : ℕ → Bool) (nodes : List Node) (args : Args) → ((n : ℕ) → declines n ≡ false) → array_written declines nodes args ≡ refused (data_array (given nodes args))
-unfolding array_written data_array
-written_all declines nodes args none = lift (bound parameters (given nodes args)) _ _ (λ vs told. values_all declines none nodes (coords_held args) vs (coords_same nodes args vs told))
+unfolding array_written data_array plain_given plain_over header_of array_built check_fit
+written_all declines nodes args none =
+    through (bound parameters (given nodes args)) _ _ _ (λ vs told. through (required (argument vs 0)) _ _ _ (λ content a. through (required (argument vs 1)) _ _ _ (λ dimensions b. through (check_elements (elements content)) _ _ _ (λ u c.
+    through (dims_given (Some dimensions)) _ _ _ (λ dims d. through (unless (is_nested (length dims) content) BadArgument) _ _ _ (λ v e.
+    through_to (entries_given (axes content dims) (option vs 2)) _ _ _ limited (λ es given. through_in (name_given (option vs 3)) _ _ _ _ limited (λ name f. through_in (kind_given (option vs 4)) _ _ _ _ limited (λ dtype g.
+    through_in (unless (suits (kind_for (elements content) dtype) (elements content)) WrongKind) _ _ _ _ limited (λ w h. through_to (all_of (check_place (axes content dims)) es) _ _ _ limited (λ x i.
+    through_to (unless (is_regular (nested_shape (length dims) content) content) SizeConflict) _ _ _ limited (λ y j.
+    put content dims name (kind_for (elements content) dtype) es (entries_same nodes (axes content dims) es (coords_held args) (ap (λ o. entries_given (axes content dims) (given_value o)) (coords_same nodes args vs told) ∙ given))))))))))))))
+  where
+    kvs : List (TextBytes × Value)
+    kvs = entries_held (coords_held args)
+
+    axes : Meant → List (List ℕ) → List Axis
+    axes content dims = bare_axes dims (nested_shape (length dims) content)
+
+    last : (w : Result Frame Fault) (p q r : Result (Unit {0}) Fault) (x : Frame → of.DataArray) → (refused w >>= λ f. refused (p >>= λ u. q >>= λ v. r) >>= λ u. refused (limited (x f))) ≡ refused ((w >>= λ f. p >>= λ d. q >>= λ e. r >>= λ g. Ok (x f)) >>= limited)
+    last (Err e) p q r x = refl
+    last (Ok f) (Err e) q r x = refl
+    last (Ok f) (Ok u) (Err e) r x = refl
+    last (Ok f) (Ok u) (Ok v) (Err e) x = refl
+    last (Ok f) (Ok u) (Ok v) (Ok w) x = refl
+
+    put : (content : Meant) (dims : List (List ℕ)) (name : Option (List ℕ)) (kind : DType) (es : List (List ℕ × Meant)) → es ≡ map (with_key nodes) kvs
+        → (entries_in declines nodes [] (over (axes content dims) []) kvs >>= λ f. refused (check_fit (plain_array (axes content dims) name kind (elements content)) (map (with_key nodes) kvs)) >>= λ u.
+        refused (limited (framed (plain_array (axes content dims) name kind (elements content)) f)))
+        ≡ refused ((with_entries [] (over (axes content dims) []) es >>= λ f. unless (list_all (λ v. fits_kind kind (element_cell v)) (elements content)) DoesNotFit >>= λ d. all_of check_numbers es >>= λ e.
+        unless (nat_le (length dims) most_dimensions) TooLarge >>= λ g. Ok (record (plain_array f.axes name kind (elements content)) { coords = f.coords })) >>= limited)
+    put content dims name kind es same =
+        let start : Frame = over (axes content dims) [] in
+        let a : of.DataArray = plain_array (axes content dims) name kind (elements content) in
+        let ends = λ (p : Bool) (n : ℕ). refused ((with_entries [] start es >>= λ f. unless p DoesNotFit >>= λ d. all_of check_numbers es >>= λ e. unless (nat_le n most_dimensions) TooLarge >>= λ g. Ok (framed a f)) >>= limited) in
+        ap (λ r. r >>= λ f. refused (check_fit a (map (with_key nodes) kvs)) >>= λ u. refused (limited (framed a f))) (entries_all declines none nodes [] start kvs)
+        ∙ ap (λ ws. refused (with_entries [] start ws) >>= λ f. refused (check_fit a ws) >>= λ u. refused (limited (framed a f))) (sym same)
+        ∙ last (with_entries [] start es) (unless (list_all (fits_kind kind) a.cells) DoesNotFit) (all_of check_numbers es) (unless (nat_le (length a.axes) most_dimensions) TooLarge) (framed a)
+        ∙ ap (λ p. ends p (length a.axes)) (list_all-map (fits_kind kind) element_cell (elements content)) ∙ ap (ends (list_all (λ v. fits_kind kind (element_cell v)) (elements content))) (bare_rank dims content)
 
 -- ---- what a call answers
 

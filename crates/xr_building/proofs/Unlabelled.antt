@@ -1,12 +1,5 @@
 -- Axes without labels.
-use Rattle.std.proofs.Common.{◌≡◌, ℕ, true, List, [], ◌∷◌, length, refl, ap, ◌∙◌, arith}
-use Rattle.std.proofs.lemmas.Bool.{and_parts}
-use Rattle.std.proofs.lemmas.List.{append-nil}
-use Rattle.std.specs.List.{AllByRecursion, list_all}
-use Rattle.xr_files.specs.Classic.{is_name}
-use Rattle.xr_types.specs.Names.{are_distinct, axis_names, shape_over}
-use Rattle.xr_defs.specs.Building.{bare_axes}
-use Rattle.xr_building.specs.Frames.{IsOpenAxis, IsFrame}
+use Rattle.xr_building.proofs.Common.{AllByRecursion, IsFrame, IsOpenAxis, List, [], and_parts, ap, append-nil, are_distinct, arith, axis_names, bare_axes, is_name, length, list_all, refl, shape_over, true, ℕ, ◌∙◌, ◌∷◌, ◌≡◌}
 
 pub bare_names : (dims : List (List ℕ)) (shape : List ℕ) → length dims ≡ length shape → axis_names (bare_axes dims shape) ≡ dims
 bare_names [] shape long = refl

@@ -1,12 +1,6 @@
-pub mod Aligned
 pub mod Entries
 pub mod Frames
 pub mod Gathered
-pub mod Idle
-pub mod Nested
-pub mod Outlined
-pub mod Placed
-pub mod Places
 pub mod Placing
 pub mod Puts
 pub mod Written

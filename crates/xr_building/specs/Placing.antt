@@ -1,21 +1,48 @@
--- Arrays in their places.
-use Rattle.std.specs.Prelude.{◌≡◌, ◌==◌, ℕ, Bool, false, not, List, length, Result, Ok, if◌then◌else◌}
+-- What labels, axes and arrays have to be for their places.
+use Rattle.std.specs.Prelude.{◌≡◌, ◌==◌, ℕ, Bool, true, false, not, List, length, Option, Some, None, Result, Ok, if◌then◌else◌}
+use Rattle.xr_types.specs.declared.axis.Axis.{Axis}
+use Rattle.xr_types.specs.declared.axis.Labels.{Labels}
 use Rattle.xr_types.specs.declared.axis.LabelList.TheVariants.{Numbers}
 use Rattle.xr_types.specs.declared.fault.Fault.{Fault}
-use Rattle.xr_types.specs.declared.fault.Fault.TheVariants.{SizeConflict, DuplicateName}
-use Rattle.xr_types.specs.Names.{among}
-use Rattle.xr_types.specs.Results.{◌>>=◌, unless, all_of}
-use Rattle.xr_defs.specs.declared.value.Content.TheVariants as contents
-use Rattle.xr_defs.specs.Selecting.{axis_called}
-use Rattle.xr_defs.specs.Values.{DataArray, array_of, present}
-use Rattle.xr_defs.specs.Building.{Frame, check_axis, frame_labelled, is_dimension, label_total, with_coord}
+use Rattle.xr_types.specs.declared.fault.Fault.TheVariants.{SizeConflict, DuplicateName, NoDimension, NotAligned}
 use Rattle.xr_types.specs.declared.fault.CallFault.{CallFault}
 use Rattle.xr_types.specs.declared.fault.CallFault.TheVariants.{Declined}
+use Rattle.xr_types.specs.Names.{among}
+use Rattle.xr_types.specs.Results.{◌>>=◌, unless, all_of}
 use Rattle.xr_arrays.specs.declared.node.Node.{Node}
+use Rattle.xr_defs.specs.declared.value.Content.TheVariants as contents
+use Rattle.xr_defs.specs.Meanings.{Values}
+use Rattle.xr_defs.specs.Selecting.{axis_called}
+use Rattle.xr_defs.specs.Values.{DataArray, array_of, no_axis, present}
+use Rattle.xr_defs.specs.Building.{Frame, as_labels, check_axis, equal_labels, frame_labelled, is_dimension, label_total, with_coord}
 use Rattle.xr_values.specs.declared.data_array.DataArray.{DataArray as Held}
 use Rattle.xr_values.specs.Stands.{array_in}
 use Rattle.xr_building.specs.Entries.{refused}
 use Rattle.xr_building.specs.Puts.{over_called}
+
+-- an axis of this name is there
+abbrev pub is_there : List Axis → Axis → Result (Unit {0}) Fault
+is_there axes x = unless (is_dimension axes x.name) (NoDimension x.name)
+
+abbrev pub listed_labels : Values → Result (Unit {0}) Fault
+listed_labels vs = as_labels vs >>= λ l. Ok tt
+
+-- ---- an axis that stands for another
+
+abbrev pub axis_or_none : Option Axis → Axis
+axis_or_none None = no_axis
+axis_or_none (Some x) = x
+
+abbrev pub are_aligned : Option Labels → Option Labels → Bool
+are_aligned None own = true
+are_aligned (Some l) None = false
+are_aligned (Some l) (Some m) = equal_labels l.list m.list
+
+-- one of this size with these labels
+abbrev pub checked_axis : Axis → ℕ → Option Labels → Result (Unit {0}) Fault
+checked_axis given size own = unless (given.size == size) SizeConflict >>= λ u. unless (are_aligned given.labels own) NotAligned
+
+-- ---- arrays
 
 -- as labels of its dimension, or as a coordinate
 abbrev pub array_checks : Frame → List ℕ → DataArray → Result (Unit {0}) Fault

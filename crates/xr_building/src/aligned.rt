@@ -1,133 +1,22 @@
 //! Whether an array's axis has the size and the labels of the one that it stands for.
 ghost use Rattle.std.specs.Prelude.{◌≡◌, ◌<◌, ◌&&◌, ◌==◌, length, pos, map, get_or, None};
 ghost use Rattle.xr_types.specs.declared.axis.Label.TheVariants as label;
-ghost use Rattle.xr_arrays.specs.Labels.{labels_of, same};
+ghost use Rattle.xr_arrays.specs.Labels.{same};
 ghost use Rattle.xr_types.specs.Results.{Answers};
 ghost use Rattle.xr_defs.specs.Building as of;
 ghost use Rattle.xr_types.specs.declared.axis.LabelList.TheVariants as lists;
 ghost use Rattle.xr_types.specs.declared.kind.DType.TheVariants as kinds;
-ghost use Rattle.xr_building.specs.Aligned.{are_aligned, checked_axis};
+ghost use Rattle.xr_building.specs.Placing.{are_aligned, checked_axis};
 ghost use Rattle.xr_building.specs.Puts.{labels_of as labels_put, labels_or, last_labels};
 
 use crate::puts::{NewLabels, Put, last_labels};
+use align_join::equal_labels;
 use xr_types::{Axis, CallFault, Fault, Integers, LabelList, Labels, TextBytes};
-use xr_values::same_calendar;
-
-fn same_number(a: &Integers, b: &Integers, at: usize) -> bool
-    ensures { result ≡ same (label.Int (get_or a.now at (pos 0))) (label.Int (get_or b.now at (pos 0))) }
-{
-    a.get(at).cmp(&b.get(at)).is_eq()
-}
-
-#[tactic(auto, using(crate::proofs::Same::other_length, crate::proofs::Same::each_by, crate::proofs::Same::one_by))]
-fn same_numbers(a: &Integers, b: &Integers) -> bool
-    ensures { result ≡ of.same_labels (map label.Int a.now) (map label.Int b.now) }
-{
-    if a.len() != b.len() {
-        return false;
-    }
-    for at in 0..a.len() {
-        if !same_number(a, b, at) {
-            return false;
-        }
-    }
-    true
-}
-
-fn same_times(a: &[i64], b: &[i64]) -> bool
-    ensures { result ≡ of.same_labels (map label.Time a.now) (map label.Time b.now) }
-{
-    if a.len() != b.len() {
-        return false;
-    }
-    for i in 0..a.len() {
-        if a[i] != b[i] {
-            return false;
-        }
-    }
-    true
-}
-
-#[tactic(auto, using(crate::proofs::Same::text_same))]
-fn same_texts(a: &[TextBytes], b: &[TextBytes]) -> bool
-    ensures { result ≡ of.same_labels (map label.Text a.now) (map label.Text b.now) }
-{
-    if a.len() != b.len() {
-        return false;
-    }
-    for i in 0..a.len() {
-        if !a[i].is(&b[i]) {
-            return false;
-        }
-    }
-    true
-}
 
 fn are_none(a: usize, b: usize) -> bool
     ensures { result ≡ ((a == 0) && (b == 0)) }
 {
     a == 0 && b == 0
-}
-
-// Labels of two kinds are the same where there are none.
-#[tactic(auto, using(crate::proofs::Same::int_time, crate::proofs::Same::int_text))]
-fn same_as_numbers(a: &Integers, b: &LabelList) -> bool
-    ensures { result ≡ of.same_labels (map label.Int a.now) (labels_of b.now) }
-{
-    match b {
-        LabelList::Numbers(_, b) => same_numbers(a, b),
-        LabelList::Times(_, b) => are_none(a.len(), b.as_slice().len()),
-        LabelList::Texts(b) => are_none(a.len(), b.as_slice().len()),
-    }
-}
-
-#[tactic(auto, using(crate::proofs::Same::time_int, crate::proofs::Same::time_text))]
-fn same_as_times(a: &[i64], b: &LabelList) -> bool
-    ensures { result ≡ of.same_labels (map label.Time a.now) (labels_of b.now) }
-{
-    match b {
-        LabelList::Numbers(_, b) => are_none(a.len(), b.len()),
-        LabelList::Times(_, b) => same_times(a, b.as_slice()),
-        LabelList::Texts(b) => are_none(a.len(), b.as_slice().len()),
-    }
-}
-
-#[tactic(auto, using(crate::proofs::Same::text_int, crate::proofs::Same::text_time))]
-fn same_as_texts(a: &[TextBytes], b: &LabelList) -> bool
-    ensures { result ≡ of.same_labels (map label.Text a.now) (labels_of b.now) }
-{
-    match b {
-        LabelList::Numbers(_, b) => are_none(a.len(), b.len()),
-        LabelList::Times(_, b) => are_none(a.len(), b.as_slice().len()),
-        LabelList::Texts(b) => same_texts(a, b.as_slice()),
-    }
-}
-
-fn same_labels(a: &LabelList, b: &LabelList) -> bool
-    ensures { result ≡ of.same_labels (labels_of a.now) (labels_of b.now) }
-{
-    match a {
-        LabelList::Numbers(_, a) => same_as_numbers(a, b),
-        LabelList::Times(_, a) => same_as_times(a.as_slice(), b),
-        LabelList::Texts(a) => same_as_texts(a.as_slice(), b),
-    }
-}
-
-fn have_one_calendar(a: &LabelList, b: &LabelList) -> bool
-    ensures { result ≡ of.have_one_calendar a.now b.now }
-{
-    match (a, b) {
-        (LabelList::Times(a, _), LabelList::Times(b, _)) => {
-            same_calendar(a.units.calendar, b.units.calendar)
-        }
-        _ => true,
-    }
-}
-
-fn equal_labels(a: &LabelList, b: &LabelList) -> bool
-    ensures { result ≡ of.equal_labels a.now b.now }
-{
-    have_one_calendar(a, b) && same_labels(a, b)
 }
 
 fn same_as_wide(a: &Integers, b: &[i128], at: usize) -> bool
@@ -137,7 +26,7 @@ fn same_as_wide(a: &Integers, b: &[i128], at: usize) -> bool
     a.get(at).cmp(&b[at]).is_eq()
 }
 
-#[tactic(auto, using(crate::proofs::Same::other_length, crate::proofs::Same::each_by, crate::proofs::Same::one_by))]
+#[tactic(auto, using(align_join::proofs::Same::lengths_by, align_join::proofs::Same::each_by, align_join::proofs::Same::one_by))]
 fn same_wide(a: &Integers, b: &[i128]) -> bool
     ensures { result ≡ of.same_labels (map label.Int a.now) (map label.Int b.now) }
 {
@@ -153,7 +42,7 @@ fn same_wide(a: &Integers, b: &[i128]) -> bool
 }
 
 // Numbers that 64 bits needn't hold.
-#[tactic(auto, using(crate::proofs::Same::time_int, crate::proofs::Same::text_int))]
+#[tactic(auto, using(align_join::proofs::Same::time_int, align_join::proofs::Same::text_int))]
 fn is_as_numbers(given: &LabelList, numbers: &[i128]) -> bool
     ensures { result ≡ of.equal_labels given.now (lists.Numbers kinds.Int64 numbers.now) }
 {

@@ -1,5 +1,5 @@
 //! `assign_coords(name=value)` of datasets.
-ghost use Rattle.std.specs.Prelude.{◌≡◌, ◌+◌, false, ℕ, List, length, nat_le, IfOk};
+ghost use Rattle.std.specs.Prelude.{◌≡◌, ◌+◌, false, ℕ, List, filter, length, nat_le, IfOk};
 ghost use denote.Param.Send.{IsSync};
 ghost use Rattle.xr_types.specs.declared.fault.Fault.TheVariants.{TooLarge};
 ghost use Rattle.xr_arrays.specs.declared.node.Node.{Node};
@@ -9,15 +9,16 @@ ghost use Rattle.xr_types.specs.Results.{unless, Answers};
 ghost use Rattle.xr_values.specs.Answers.{AnswersSet};
 ghost use Rattle.xr_values.specs.Meaning.{given, AreArgsIn};
 ghost use Rattle.xr_values.specs.Stands.{dataset_in, IsDatasetIn};
+ghost use Rattle.xr_parts.specs.Kept.{is_held};
 ghost use Rattle.xr_building.specs.Entries.{set_assigned, FollowsSet};
 
 use crate::assigned::assigned;
-use crate::busy::busy_axes;
 use crate::draft::{Draft, draft_of, with_puts};
 use plan_core::Compute;
-use std::alloc::Global;
+use std::alloc::{AllocError, Global};
 use std::thread::Threads;
-use xr_types::{CallFault, DeepCopy, Fault, MOST_VARIABLES};
+use xr_parts::axes_kept;
+use xr_types::{Axis, CallFault, DeepCopy, Fault, Items, MOST_VARIABLES};
 use xr_values::{Args, Cx, Dataset};
 
 // Refuses more coordinates and variables together than a dataset may have.
@@ -31,6 +32,14 @@ fn check_few(draft: &Draft, set: &Dataset) -> Result<(), CallFault>
     } else {
         Err(CallFault::Refused(Fault::TooLarge))
     }
+}
+
+// The axes without the bare ones that no coordinate has, and no variable of the dataset.
+fn busy_axes(alloc: Global, draft: &Draft, set: &Dataset) -> Result<Items<Axis>, AllocError>
+    ensures { IfOk result (λ xs. xs ≡ filter (is_held draft.now.coords set.now.vars) draft.now.axes) }
+{
+    let coords = draft.coords.as_slice();
+    axes_kept(alloc, coords, set.vars.as_slice(), draft.axes.as_slice())
 }
 
 /// A dataset with these labels and coordinates, as an array has them. A coordinate that is replaced may have been the last along a bare

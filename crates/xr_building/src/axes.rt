@@ -2,7 +2,7 @@
 ghost use Rattle.std.specs.Prelude.{◌≡◌, is_some, option_map, IfOk};
 ghost use Rattle.xr_defs.specs.Selecting.{axis_called};
 ghost use Rattle.xr_defs.specs.Building.{is_dimension};
-ghost use Rattle.xr_building.specs.Aligned.{axis_or_none};
+ghost use Rattle.xr_building.specs.Placing.{axis_or_none};
 
 use std::alloc::{AllocError, Global};
 use xr_types::{Axis, DeepCopy, TextBytes};

@@ -1,35 +1,21 @@
 //! Cells of a kind from numbers and holes.
 ghost use Rattle.std.specs.Prelude.{◌≡◌, ◌≢◌, List, map, length, All, IfOk, MatchOption, ⊤};
 ghost use Rattle.std.specs.List.{list_all};
-ghost use Rattle.xr_types.specs.Kinds.{in_range, wrap_to};
+ghost use Rattle.xr_types.specs.Kinds.{wrap_to};
 ghost use Rattle.xr_types.specs.declared.kind.DType.TheVariants as kinds;
 ghost use Rattle.xr_arrays.specs.Arrays.{IsCell, InKind, kind_of, wide};
+ghost use Rattle.xr_defs.specs.Building as of;
 ghost use Rattle.xr_defs.specs.Building.{fits_kind};
+ghost use Rattle.xr_defs.specs.Meanings.{Value};
 ghost use Rattle.xr_types.specs.Points.{size};
 ghost use Rattle.xr_defs.specs.WellFormed.{AreSeen};
-ghost use Rattle.xr_building.specs.Gathered.{number_or_zero, mask_byte, kind_of_all, suits_all};
+ghost use Rattle.xr_building.specs.Gathered.{gathered, number_or_zero, mask_byte};
 
 use crate::elements::Elements;
 use std::alloc::{AllocError, Global};
 use xr_arrays::{ArrayValue, Cells};
+use xr_formulas::fits;
 use xr_types::{DType, Elem, Items};
-
-/// Whether a number is one of the kind.
-pub fn fits(kind: DType, n: i128) -> bool
-    ensures { result ≡ in_range kind n }
-{
-    match kind {
-        DType::Bool => 0 <= n && n <= 1,
-        DType::Char | DType::UInt8 => 0 <= n && n <= 255,
-        DType::Int8 => -128 <= n && n <= 127,
-        DType::Int16 => -32_768 <= n && n <= 32_767,
-        DType::Int32 => -2_147_483_648 <= n && n <= 2_147_483_647,
-        DType::Int64 => -9_223_372_036_854_775_808 <= n && n <= 9_223_372_036_854_775_807,
-        DType::UInt16 => 0 <= n && n <= 65_535,
-        DType::UInt32 => 0 <= n && n <= 4_294_967_295,
-        DType::UInt64 => 0 <= n && n <= 18_446_744_073_709_551_615,
-    }
-}
 
 fn cell_fits(kind: DType, cell: Option<i128>) -> bool
     ensures { result ≡ fits_kind kind cell }
@@ -50,7 +36,7 @@ pub fn all_fit(kind: DType, cells: &[Option<i128>]) -> bool
 /// The kind that is given, or that of the elements.
 pub fn kind_for(elements: &Elements, given: Option<DType>) -> DType
     requires { MatchOption given ⊤ (λ k. k ≢ kinds.Char) }
-    ensures kind { result ≡ kind_of_all elements.now given }
+    ensures kind { (vs : List Value) → elements.now ≡ gathered vs → result ≡ of.kind_for vs given }
     ensures number { result ≢ kinds.Char }
 {
     match given {
@@ -67,7 +53,7 @@ pub fn kind_for(elements: &Elements, given: Option<DType>) -> DType
 
 /// Whether the elements can have the kind.
 pub fn suits(kind: DType, elements: &Elements) -> bool
-    ensures { result ≡ suits_all kind elements.now }
+    ensures { (vs : List Value) → elements.now ≡ gathered vs → result ≡ of.suits kind vs }
 {
     match kind {
         DType::Bool => elements.truths,

@@ -8,11 +8,13 @@ ghost use Rattle.xr_defs.specs.Building as of;
 ghost use Rattle.xr_defs.specs.Meanings.{Array};
 ghost use Rattle.xr_values.specs.Meaning.{meaning, all_values, with_key};
 ghost use Rattle.xr_values.specs.Stands.{array_in};
-ghost use Rattle.xr_building.specs.Places.{is_there, listed_labels};
+ghost use Rattle.xr_building.specs.Placing.{is_there, listed_labels};
 
 use crate::axes::is_dimension;
 use std::alloc::Global;
-use xr_types::{Axis, CallFault, DType, DeepCopy, Fault, TextBytes};
+use xr_formulas::is_integer_kind;
+use xr_parts::has_axis;
+use xr_types::{Axis, CallFault, DeepCopy, Fault, TextBytes};
 use xr_values::{DataArray, Value};
 
 #[tactic(auto, using(xr_arguments::proofs::Variants::is_number, xr_values::proofs::Meaning::meaning_out))]
@@ -57,28 +59,6 @@ pub fn are_texts(list: &[Value]) -> bool
         }
     }
     true
-}
-
-fn is_integer_kind(kind: DType) -> bool
-    ensures { result ≡ of.is_integer_kind kind }
-{
-    match kind {
-        DType::Bool | DType::Char => false,
-        DType::Int8 | DType::Int16 | DType::Int32 | DType::Int64 => true,
-        DType::UInt8 | DType::UInt16 | DType::UInt32 | DType::UInt64 => true,
-    }
-}
-
-/// Whether one of the axes has this name.
-pub fn has_axis(axes: &[Axis], name: &TextBytes) -> bool
-    ensures { result ≡ among (axis_names axes.now) name.now }
-{
-    for axis in axes {
-        if name.is(&axis.name) {
-            return true;
-        }
-    }
-    false
 }
 
 // Whether the array lies along this dimension alone.

@@ -1,7 +1,7 @@
 //! The elements of nested lists.
-ghost use Rattle.std.specs.Prelude.{◌≡◌, ◌&&◌, ◌||◌, ◌∷◌, [], ◌++◌, List, OnOk, IfOk};
+ghost use Rattle.std.specs.Prelude.{◌≡◌, List, OnOk, IfOk};
 ghost use Rattle.xr_arrays.specs.declared.node.Node.{Node};
-ghost use Rattle.xr_defs.specs.Building.{elements, is_whole_cell, is_truth_cell, is_missing, element_cell};
+ghost use Rattle.xr_defs.specs.Building.{elements};
 ghost use Rattle.xr_values.specs.Meaning.{meaning, all_values};
 ghost use Rattle.xr_building.specs.Gathered.{with_elements, gathered};
 
@@ -22,48 +22,6 @@ pub struct Elements {
     pub missing: bool,
 }
 
-// What one element says of all.
-#[derive(Clone, Copy)]
-struct Traits {
-    whole: bool,
-    truth: bool,
-    missing: bool,
-}
-
-const WHOLE: Traits = Traits {
-    whole: true,
-    truth: false,
-    missing: false,
-};
-
-const TRUTH: Traits = Traits {
-    whole: false,
-    truth: true,
-    missing: false,
-};
-
-const MISSING: Traits = Traits {
-    whole: true,
-    truth: true,
-    missing: true,
-};
-
-const OTHER: Traits = Traits {
-    whole: false,
-    truth: false,
-    missing: false,
-};
-
-fn add(out: &mut Elements, cell: Option<i128>, traits: Traits) -> Result<(), AllocError>
-    ensures { OnOk result (out.new ≡ record { cells = out.old.cells ++ cell ∷ []; whole = out.old.whole && traits.whole; truths = out.old.truths && traits.truth; missing = out.old.missing || traits.missing }) }
-{
-    out.cells.push(cell)?;
-    out.whole = out.whole && traits.whole;
-    out.truths = out.truths && traits.truth;
-    out.missing = out.missing || traits.missing;
-    Ok(())
-}
-
 #[tactic(auto, using(xr_arguments::proofs::Variants::is_missing, xr_arguments::proofs::Variants::is_truth, xr_arguments::proofs::Variants::is_number, xr_arguments::proofs::Variants::is_list, xr_values::proofs::Meaning::meaning_out), unfolding(xr_defs::specs::Building::elements))]
 fn gather(value: &Value, out: &mut Elements) -> Result<(), AllocError>
     ensures { (nodes : List Node) → OnOk result (out.new ≡ with_elements out.old (elements (meaning nodes value.now))) }
@@ -75,10 +33,23 @@ fn gather(value: &Value, out: &mut Elements) -> Result<(), AllocError>
             }
             Ok(())
         }
-        Value::Missing => add(out, None, MISSING),
-        Value::Truth(b) => add(out, Some(i128::from(*b)), TRUTH),
-        Value::Number(n) => add(out, Some(*n), WHOLE),
-        _ => add(out, None, OTHER),
+        Value::Missing => {
+            out.missing = true;
+            out.cells.push(None)
+        }
+        Value::Truth(b) => {
+            out.whole = false;
+            out.cells.push(Some(i128::from(*b)))
+        }
+        Value::Number(n) => {
+            out.truths = false;
+            out.cells.push(Some(*n))
+        }
+        _ => {
+            out.whole = false;
+            out.truths = false;
+            out.cells.push(None)
+        }
     }
 }
 

@@ -1,5 +1,5 @@
 //! The entries of the argument `coords`.
-ghost use Rattle.std.specs.Prelude.{◌≡◌, List, Some, All, map, option_map, IfOk, MatchOption, ⊤};
+ghost use Rattle.std.specs.Prelude.{◌≡◌, List, Some, Ok, All, map, option_map, IfOk, MatchOption, ⊤};
 ghost use Rattle.xr_arrays.specs.declared.node.Node.{Node};
 ghost use Rattle.xr_types.specs.Results.{Answers, all_of};
 ghost use Rattle.xr_defs.specs.Building as of;
@@ -62,6 +62,7 @@ fn table_given<'a>(axes: &[Axis], value: &'a Value) -> Result<&'a [(TextBytes, V
     ensures answers { (nodes : List Node) → Answers (λ es. map (with_key nodes) es.now) result (of.entries_given axes.now (of.given_value (Some (meaning nodes value.now)))) }
     ensures held { IfOk result (λ es. es.now ≡ entries_held (Some value.now)) }
     ensures inside { (nodes : List Node) → IsValueIn nodes value.now → IfOk result (λ es. All (IsEntryIn nodes) es.now) }
+    ensures checked { (nodes : List Node) → IfOk result (λ es. all_of (of.check_entry axes.now) (map (with_key nodes) es.now) ≡ Ok tt) }
 {
     match value {
         Value::Absent => Ok(&[]),
@@ -88,6 +89,7 @@ pub fn entries_given<'a>(
     ensures answers { (nodes : List Node) → Answers (λ es. map (with_key nodes) es.now) result (of.entries_given axes.now (of.given_value (option_map (λ v. meaning nodes v.now) coords.entry))) }
     ensures held { IfOk result (λ es. es.now ≡ entries_held (option_map (λ v. v.now) coords.entry)) }
     ensures inside { (nodes : List Node) → MatchOption coords.entry ⊤ (λ v. IsValueIn nodes v.now) → IfOk result (λ es. All (IsEntryIn nodes) es.now) }
+    ensures checked { (nodes : List Node) → IfOk result (λ es. all_of (of.check_entry axes.now) (map (with_key nodes) es.now) ≡ Ok tt) }
 {
     match coords {
         None => Ok(&[]),

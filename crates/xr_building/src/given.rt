@@ -7,11 +7,12 @@ ghost use Rattle.xr_types.specs.Results.{Answers};
 ghost use Rattle.xr_types.specs.Names.{among, are_distinct};
 ghost use Rattle.xr_files.specs.Classic.{is_name};
 ghost use Rattle.xr_defs.specs.Building as of;
-ghost use Rattle.xr_defs.specs.Parts as parts;
 ghost use Rattle.xr_values.specs.Meaning.{meaning};
 
 use std::alloc::Global;
 use xr_arguments::{as_text, texts_in};
+use xr_formulas::kind_named;
+use xr_parts::{is_among, new_name};
 use xr_types::{CallFault, DType, DeepCopy, Fault, Items, Name, TextBytes};
 use xr_values::Value;
 
@@ -28,13 +29,6 @@ fn are_named(names: &[TextBytes]) -> bool
     ensures names { result ≡ list_all is_name names.now }
 {
     names.iter().all(|name| is_named(name))
-}
-
-/// Whether the name is one of these.
-pub fn is_among(names: &[TextBytes], name: &TextBytes) -> bool
-    ensures { result ≡ among names.now name.now }
-{
-    names.iter().any(|other| name.is(other))
 }
 
 fn are_distinct(names: &[TextBytes]) -> bool
@@ -72,19 +66,6 @@ pub fn dims_given(alloc: Global, value: &Value) -> Result<Items<Name>, CallFault
     }
 }
 
-#[tactic(auto, unfolding(xr_defs::specs::Parts::new_name, xr_types::specs::Results::unless))]
-fn new_name(alloc: Global, value: &Value) -> Result<Name, CallFault>
-    ensures answers { (nodes : List Node) → Answers (λ t. t) result (parts.new_name (meaning nodes value.now)) }
-    ensures name { IfOk result (λ t. is_name t ≡ true) }
-{
-    let text = as_text(value)?;
-    if is_named(text) {
-        Ok(text.deep_copy(alloc)?)
-    } else {
-        Err(CallFault::Refused(Fault::BadArgument))
-    }
-}
-
 /// The name, where one is given.
 ///
 /// # Errors
@@ -96,34 +77,7 @@ pub fn name_given(alloc: Global, value: Option<&Value>) -> Result<Option<Name>, 
 {
     match value {
         None => Ok(None),
-        Some(value) => Ok(Some(new_name(alloc, value)?)),
-    }
-}
-
-fn kind_named(text: &str) -> Option<DType>
-    ensures value { result ≡ of.kind_named text.now of.kinds_named }
-    ensures number { MatchOption result ⊤ (λ k. k ≢ kinds.Char) }
-{
-    if "bool" == text {
-        Some(DType::Bool)
-    } else if "int8" == text {
-        Some(DType::Int8)
-    } else if "int16" == text {
-        Some(DType::Int16)
-    } else if "int32" == text {
-        Some(DType::Int32)
-    } else if "int64" == text {
-        Some(DType::Int64)
-    } else if "uint8" == text {
-        Some(DType::UInt8)
-    } else if "uint16" == text {
-        Some(DType::UInt16)
-    } else if "uint32" == text {
-        Some(DType::UInt32)
-    } else if "uint64" == text {
-        Some(DType::UInt64)
-    } else {
-        None
+        Some(value) => Ok(Some(new_name(value)?.deep_copy(alloc)?)),
     }
 }
 

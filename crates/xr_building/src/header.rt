@@ -5,8 +5,9 @@ ghost use Rattle.xr_arrays.specs.declared.node.Node.{Node};
 ghost use Rattle.xr_files.specs.Classic.{is_name};
 ghost use Rattle.xr_types.specs.Results.{Answers};
 ghost use Rattle.xr_values.specs.Meaning.{meaning};
-ghost use Rattle.xr_building.specs.Gathered.{suits_all};
-ghost use Rattle.xr_building.specs.Outlined.{header_of};
+ghost use Rattle.xr_defs.specs.Meanings as of;
+ghost use Rattle.xr_building.specs.Gathered.{gathered};
+ghost use Rattle.xr_building.specs.Written.{header_of};
 
 use crate::cells::{kind_for, suits};
 use crate::elements::Elements;
@@ -26,17 +27,16 @@ pub struct Header {
 ///
 /// # Errors
 /// Those of the name and of the kind; then `WrongKind` for elements of another kind.
-#[tactic(auto, unfolding(crate::specs::Outlined::header_of, xr_types::specs::Results::unless))]
+#[tactic(auto, unfolding(crate::specs::Written::header_of, xr_types::specs::Results::unless))]
 pub fn header_of(
     alloc: Global,
     elements: &Elements,
     name: Option<&Value>,
     dtype: Option<&Value>,
 ) -> Result<Header, CallFault>
-    ensures answers { (nodes : List Node) → Answers (λ h. h) result (header_of elements.now (option_map (λ v. meaning nodes v.now) name.entry) (option_map (λ v. meaning nodes v.now) dtype.entry)) }
+    ensures answers { (nodes : List Node) (vs : List of.Value) → elements.now ≡ gathered vs → Answers (λ h. h) result (header_of vs (option_map (λ v. meaning nodes v.now) name.entry) (option_map (λ v. meaning nodes v.now) dtype.entry)) }
     ensures name { IfOk result (λ h. MatchOption h.name ⊤ (λ n. is_name n ≡ true)) }
     ensures number { IfOk result (λ h. h.kind ≢ kinds.Char) }
-    ensures suits { IfOk result (λ h. suits_all h.kind elements.now ≡ true) }
 {
     let name = name_given(alloc, name)?;
     let kind = kind_for(elements, kind_given(dtype)?);

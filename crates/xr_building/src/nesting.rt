@@ -3,7 +3,7 @@ ghost use Rattle.std.specs.Prelude.{◌≡◌, List, option_map, length, IfOk};
 ghost use Rattle.xr_arrays.specs.declared.node.Node.{Node};
 ghost use Rattle.xr_defs.specs.Building as of;
 ghost use Rattle.xr_values.specs.Meaning.{meaning};
-ghost use Rattle.xr_building.specs.Nested.{or_absent};
+ghost use Rattle.xr_building.specs.Gathered.{or_absent};
 
 use std::alloc::{AllocError, Global};
 use xr_types::Items;

@@ -1,11 +1,12 @@
 //! Arrays whose cells are written out.
-ghost use Rattle.std.specs.Prelude.{◌≡◌, IfOk};
+ghost use Rattle.std.specs.Prelude.{◌≡◌, All, IfOk};
+ghost use Rattle.xr_arrays.specs.Arrays.{IsCell};
 ghost use Rattle.xr_defs.specs.Room.{AddsForAny};
 ghost use Rattle.xr_types.specs.Names.{shape_over};
 ghost use Rattle.plan_core.specs.Plans.{Grows};
 ghost use Rattle.xr_values.specs.Answers.{AnswersArray};
 ghost use Rattle.xr_values.specs.Stands.{array_in};
-ghost use Rattle.xr_building.specs.Placed.{limited, with_written, IsFilled};
+ghost use Rattle.xr_building.specs.Written.{limited, with_written, IsFilled};
 
 use crate::cells::array_value;
 use crate::limits::is_frame_within;
@@ -13,7 +14,7 @@ use plan_core::Plan;
 use std::alloc::{AllocError, Global};
 use xr_arrays::Node;
 use xr_defs::Coord;
-use xr_types::{Axis, CallFault, DType, Fault, Items, MOST_DIMENSIONS, Name};
+use xr_types::{Axis, CallFault, DType, Fault, Items, Name};
 use xr_values::DataArray;
 
 /// An array without its cells.
@@ -40,7 +41,7 @@ fn shape_of(alloc: Global, axes: &[Axis]) -> Result<Items<u64>, AllocError>
 /// The array of these cells, which are those of a node that is added to the plan.
 ///
 /// # Errors
-/// `TooLarge` for more dimensions, positions or cells than an array may have.
+/// `TooLarge` for more positions or cells than an array may have.
 #[tactic(auto, unfolding(xr_defs::specs::Selecting::check_array, xr_types::specs::Results::unless))]
 pub fn place(
     alloc: Global,
@@ -48,15 +49,13 @@ pub fn place(
     outline: Outline,
     cells: &[Option<i128>],
 ) -> Result<DataArray, CallFault>
-    requires { IsFilled outline cells.now }
+    requires filled { IsFilled outline cells.now }
+    requires range { All (IsCell outline.kind) cells.now }
     ensures answers { AnswersArray plan.new result (limited (with_written outline cells.now)) }
     ensures grows { Grows plan.old plan.new }
     ensures room { IfOk result (λ b. AddsForAny plan.old plan.new (array_in plan.new b)) }
 {
     let axes = outline.axes.as_slice();
-    if axes.len() > MOST_DIMENSIONS {
-        return Err(CallFault::Refused(Fault::TooLarge));
-    }
     if !is_frame_within(axes, outline.coords.as_slice()) {
         return Err(CallFault::Refused(Fault::TooLarge));
     }

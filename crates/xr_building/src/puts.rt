@@ -7,8 +7,8 @@ ghost use Rattle.xr_types.specs.declared.fault.Fault.TheVariants.{DoesNotFit};
 ghost use Rattle.xr_types.specs.Results.{unless, Answers};
 ghost use Rattle.xr_building.specs.Puts.{labels_at, labels_fit, last_labels, put_fits};
 
-use crate::cells::fits;
 use xr_defs::Coord;
+use xr_formulas::fits;
 use xr_types::{CallFault, DType, Fault, Items, Labels, Name, TextBytes};
 
 /// The labels that an entry gives.

@@ -23,7 +23,7 @@ use Rattle.xr_defs.specs.Values.{Dataset, Variable}
 use Rattle.xr_defs.specs.WellFormed.{variable_names}
 use Rattle.xr_defs.specs.declared.value.Coord.{Coord}
 use Rattle.xr_parts.proofs.Axes.{called_cons}
-use Rattle.xr_reducing.proofs.Idle.{has_axis, has_dim, vars_have}
+use Rattle.xr_parts.proofs.Idle.{has_axis, has_dim, vars_have}
 use Rattle.xr_relations.specs.Aligning.{check_size}
 use Rattle.xr_stacking.specs.Members.{dims_after, dims_called}
 use Rattle.xr_concat.proofs.Sized.{shape_same}

@@ -1,5 +1,6 @@
 //! The kinds of cells by what they hold, and by their names.
-ghost use Rattle.std.specs.Prelude.{◌≡◌};
+ghost use Rattle.std.specs.Prelude.{◌≡◌, ◌≢◌, MatchOption, ⊤};
+ghost use Rattle.xr_types.specs.declared.kind.DType.TheVariants as kinds;
 ghost use Rattle.xr_types.specs.Kinds.{high, in_range, low};
 ghost use Rattle.xr_defs.specs.Building.{is_chars as of_chars, is_integer_kind as of_integers, kind_named as named, kinds_named, truth_number as number_of_truth};
 ghost use Rattle.xr_operations.specs.Arithmetic.{is_truths as of_truths, number_kind as kind_of_numbers};
@@ -45,7 +46,8 @@ pub fn number_kind(kind: DType) -> DType
 
 /// The kind of numbers or truth values of this name.
 pub fn kind_named(text: &str) -> Option<DType>
-    ensures { result ≡ named text.now kinds_named }
+    ensures value { result ≡ named text.now kinds_named }
+    ensures number { MatchOption result ⊤ (λ k. k ≢ kinds.Char) }
 {
     if "bool" == text {
         Some(DType::Bool)

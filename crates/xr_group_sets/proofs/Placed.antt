@@ -35,7 +35,7 @@ use Rattle.xr_parts.proofs.Words.{AreAmong, same_text, split}
 use Rattle.xr_reducing.specs.declared.chars.Frame.{Frame}
 use Rattle.xr_reducing.specs.Reduced.{framed_in, is_busy}
 use Rattle.xr_reducing.specs.Sets.{AddsForAnySet, IsSetOf}
-use Rattle.xr_reducing.proofs.Idle.{dim_left, has_axis, has_dim, idle_formed, left, sizes_left, vars_have, IsLoose}
+use Rattle.xr_parts.proofs.Idle.{dim_left, has_axis, has_dim, idle_formed, left, sizes_left, vars_have, IsLoose}
 use Rattle.xr_reducing.proofs.Reduced.{attrs_left}
 use Rattle.xr_reducing.proofs.Staying.{fewer}
 use Rattle.xr_groups.specs.declared.change.Change.{Change}

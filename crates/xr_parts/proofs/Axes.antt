@@ -1,22 +1,6 @@
 -- Axes by their names, and the coordinates over them.
-use Rattle.std.proofs.Common.{◌≡◌, ◌+◌, ℕ, Bool, true, false, ◌||◌, cond, List, [], ◌∷◌, ◌++◌, map, get_or, Option, Some, None, refl, sym, ap, subst, ◌∙◌, add-one, inl, inr}
-use Rattle.std.specs.Prelude.{option_map, if◌then◌else◌}
-use Rattle.std.specs.Str.{bytes_eq}
-use Rattle.std.specs.List.{AllByRecursion}
-use Rattle.std.proofs.lemmas.Bool.{and_parts, or_parts, cases_Bool, cond-true, cond-false}
-use Rattle.xr_types.specs.declared.axis.Axis.{Axis}
-use Rattle.xr_defs.specs.declared.value.Coord.{Coord}
-use Rattle.xr_types.specs.Names.{among}
-use Rattle.xr_types.specs.Names.{are_distinct}
-use Rattle.xr_types.specs.Names.{axis_names, shape_over}
-use Rattle.xr_defs.specs.Values.{axis_position, no_axis}
-use Rattle.xr_defs.specs.Selecting.{axis_called}
-use Rattle.xr_defs.specs.Encoding.{coords_over, all_among}
-use Rattle.xr_defs.specs.Parts.{axes_called}
-use Rattle.xr_defs.specs.WellFormed.{IsCoordinate, IsDimension, names_of}
-use Rattle.xr_values.proofs.Named.{bytes_eq_swap}
-use Rattle.xr_parts.specs.Frames.{IsThere, IsFrame}
-use Rattle.xr_parts.proofs.Words.{AreAmong, AreAbsent, absent_among, distinct_left, distinct_parts, each_left, each_named_left, each_weaker, itself, join, same_text, split}
+use Rattle.xr_parts.proofs.Common.{AllByRecursion, Axis, Bool, Coord, IsCoordinate, IsDimension, IsFrame, IsThere, List, None, Option, Some, [], add-one, all_among, among, and_parts, ap, are_distinct, axes_called, axis_called, axis_names, axis_position, bytes_eq, bytes_eq_swap, cases_Bool, cond, cond-false, cond-true, coords_over, false, get_or, if◌then◌else◌, inl, inr, map, names_of, no_axis, option_map, or_parts, refl, shape_over, subst, sym, true, ℕ, ◌++◌, ◌+◌, ◌||◌, ◌∙◌, ◌∷◌, ◌≡◌}
+use Rattle.xr_parts.proofs.Words.{AreAmong, AreAbsent, absent_among, anything, distinct_left, distinct_parts, each_left, each_named_left, each_weaker, itself, join, same_text, split}
 
 -- ---- the axis of a name
 
@@ -48,10 +32,6 @@ module _ (P : Axis → Type 0) (name : List ℕ) where
             let other : bytes_eq name x.name ≡ false = bytes_eq_swap name x.name ∙ e in
             subst Called (sym (called_on x xs name e)) (called_holds xs all.1 (ap (λ b. b || among (axis_names xs) name) (sym other) ∙ has))
       ]
-
-anything : (axes : List Axis) → AllByRecursion (λ (x : Axis). Unit {0}) axes
-anything [] = tt
-anything (x ∷ xs) = (tt, anything xs)
 
 pub called_name : (axes : List Axis) (name : List ℕ) → among (axis_names axes) name ≡ true → (axis_called axes name).name ≡ name
 called_name axes name has = (called_holds (λ x. Unit {0}) name axes (anything axes) has).1

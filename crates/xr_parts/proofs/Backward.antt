@@ -1,31 +1,18 @@
 -- The numbers of the axes from the last to the first.
-use Rattle.std.proofs.Common.{◌≡◌, ◌<◌, ◌≤◌, ◌-◌, ◌==◌, ℕ, suc, true, false, not, List, [], ◌∷◌, ◌++◌, length, drop, All, refl, sym, ap, subst, ◌∙◌, arith, append_assoc, drop-cons, length-drop}
-use Rattle.std.specs.List.{list_any}
-use Rattle.std.proofs.lemmas.Bool.{and_from, ne_eqb, not_from_false}
-use Rattle.std.proofs.lemmas.List.{append-nil}
-use Rattle.std.proofs.Math.Seq.{drop-length}
-use Rattle.std.proofs.lemmas.List.Elements.{All-nil, All-cons, All-weaker}
-use Rattle.xr_types.specs.declared.axis.Axis.{Axis}
-use Rattle.xr_defs.specs.Values.{no_axis}
-use Rattle.xr_defs.specs.Parts.{backwards, is_once}
-use Rattle.xr_parts.specs.Orders.{IsArrangement}
+use Rattle.xr_parts.proofs.Common.{All, All-cons, All-nil, All-weaker, Axis, IsArrangement, List, [], and_from, ap, append_assoc, arith, backwards, drop, drop_more, false, is_once, length, length-drop, list_any, ne_eqb, no_axis, not, not_from_false, refl, subst, suc, sym, true, ℕ, ◌++◌, ◌+◌, ◌-◌, ◌<◌, ◌==◌, ◌∙◌, ◌∷◌, ◌≡◌, ◌≤◌}
 use Rattle.xr_parts.proofs.Words.{neither}
 
 -- ---- one more number
 
-opened : (axes : List Axis) (k : ℕ) → 0 < k → k ≤ length axes → backwards (drop (length axes - k) axes) ≡ (k - 1) ∷ backwards (drop (length axes - (k - 1)) axes)
-opened axes k some within =
-    let i = length axes - k in
-    let lt : i < length axes = omega arith in
-    let next : suc i ≡ length axes - (k - 1) = omega arith in
-    let left : length (drop (suc i) axes) ≡ k - 1 = length-drop (suc i) axes ∙ omega arith in
-    ap backwards (drop-cons axes i no_axis lt) ∙ ap (λ n. n ∷ backwards (drop (suc i) axes)) left ∙ ap (λ j. (k - 1) ∷ backwards (drop j axes)) next
+opened : (axes : List Axis) (at : ℕ) → at < length axes → backwards (drop at axes) ≡ (length axes - 1 - at) ∷ backwards (drop (at + 1) axes)
+opened axes at lt =
+    let left : length (drop (at + 1) axes) ≡ length axes - 1 - at = length-drop (at + 1) axes ∙ omega arith in
+    ap backwards (drop_more axes at no_axis lt) ∙ ap (λ n. n ∷ backwards (drop (at + 1) axes)) left
 
-pub back_on : (axes : List Axis) (order new : List ℕ) (k : ℕ) → 0 < k → k ≤ length axes → new ≡ order ++ (k - 1) ∷ [] → order ++ backwards (drop (length axes - k) axes) ≡ backwards axes
-    → new ++ backwards (drop (length axes - (k - 1)) axes) ≡ backwards axes
-back_on axes order new k some within pushed so_far =
-    let rest = backwards (drop (length axes - (k - 1)) axes) in
-    ap (λ ns. ns ++ rest) pushed ∙ append_assoc order ((k - 1) ∷ []) rest ∙ ap (λ ns. order ++ ns) (sym (opened axes k some within)) ∙ so_far
+pub back_on : (axes : List Axis) (order new : List ℕ) (at : ℕ) → at < length axes → new ≡ order ++ (length axes - 1 - at) ∷ [] → order ++ backwards (drop at axes) ≡ backwards axes → new ++ backwards (drop (at + 1) axes) ≡ backwards axes
+back_on axes order new at lt pushed so_far =
+    let rest = backwards (drop (at + 1) axes) in
+    ap (λ ns. ns ++ rest) pushed ∙ append_assoc order ((length axes - 1 - at) ∷ []) rest ∙ ap (λ ns. order ++ ns) (sym (opened axes at lt)) ∙ so_far
 
 -- ---- each number once
 
@@ -49,9 +36,3 @@ back_once (x ∷ xs) =
 
 pub back_fits : (axes : List Axis) (order : List ℕ) → order ≡ backwards axes → IsArrangement (length axes) order
 back_fits axes order is = subst (IsArrangement (length axes)) (sym is) (record { long = back_long axes; once = back_once axes; below = back_below axes })
-
-pub back_end : (axes : List Axis) (order : List ℕ) (k : ℕ) → k ≤ 0 → order ++ backwards (drop (length axes - k) axes) ≡ backwards axes → IsArrangement (length axes) order
-back_end axes order k none so_far =
-    let whole : length axes - k ≡ length axes = omega arith in
-    let gone : drop (length axes - k) axes ≡ [] = ap (λ n. drop n axes) whole ∙ drop-length axes in
-    back_fits axes order (sym (append-nil order) ∙ ap (λ xs. order ++ backwards xs) (sym gone) ∙ so_far)

@@ -1,35 +1,12 @@
 -- Attributes that are put in the place of those of their name, or behind.
-use Rattle.std.proofs.Common.{◌≡◌, ◌<◌, ◌+◌, ◌/◌, ℕ, get_or, drop, Bool, true, false, List, [], ◌∷◌, ◌++◌, ℤ, length, map, set, Option, Some, None, Result, Ok, Err, refl, sym, ap, subst, ◌∙◌, arith}
-use Rattle.std.specs.Prelude.{if◌then◌else◌, IfOk}
-use Rattle.std.specs.Str.{bytes_eq}
-use Rattle.std.specs.List.{AllByRecursion}
+use Rattle.xr_parts.proofs.Common.{AllByRecursion, AreAttributes, Bool, DataArray, Dataset, DoesNotFit, Err, Fault, IsArrayIn, IsAttribute, IsDatasetIn, List, Node, None, Ok, Option, Result, Some, TextBytes, Value, [], among, ap, are_distinct, arith, attr_given, attr_names, bytes_eq, drop, each_attr, false, get_or, holds, if◌then◌else◌, is_name, is_number, length, map, meaning, or_parts, refl, set, subst, sym, true, unless, value_bytes, with_attr, with_key, ℕ, ℤ, ◌++◌, ◌+◌, ◌/◌, ◌<◌, ◌>>=◌, ◌∙◌, ◌∷◌, ◌≡◌}
 use Rattle.xr_types.specs.declared.attr.Attr.{Attr}
-use Rattle.xr_arrays.specs.declared.node.Node.{Node}
 use Rattle.xr_types.specs.declared.attr.NcType.TheVariants.{Char, Int}
-use Rattle.xr_types.specs.declared.fault.Fault.{Fault}
-use Rattle.xr_types.specs.declared.fault.Fault.TheVariants.{DoesNotFit}
-use Rattle.xr_types.specs.declared.fault.CallFault.{CallFault}
-use Rattle.xr_defs.specs.Meanings as of
-use Rattle.xr_defs.specs.Encoding.{holds, value_bytes}
-use Rattle.xr_types.specs.Results.{◌>>=◌, unless, Answers}
-use Rattle.xr_types.specs.Names.{among}
-use Rattle.xr_files.specs.Classic.{attr_names, is_name}
-use Rattle.xr_types.specs.Names.{are_distinct}
-use Rattle.xr_defs.specs.Parts.{attr_given, each_attr, with_attr}
-use Rattle.xr_values.specs.declared.data_array.DataArray.{DataArray}
-use Rattle.xr_values.specs.declared.dataset.Dataset.{Dataset}
-use Rattle.xr_types.specs.declared.text.TextBytes.{TextBytes}
-use Rattle.xr_values.specs.declared.value.Value.{Value}
 use Rattle.xr_values.specs.declared.value.Value.TheVariants as variants
-use Rattle.xr_values.specs.Meaning.{meaning, with_key}
-use Rattle.xr_arguments.proofs.Variants.{is_number}
-use Rattle.xr_defs.specs.WellFormed.{AreAttributes, IsAttribute}
-use Rattle.xr_values.specs.Stands.{IsArrayIn, IsDatasetIn}
 use Rattle.xr_values.proofs.Places as places
 use Rattle.xr_values.proofs.Places.{put_over}
 use Rattle.xr_parts.specs.Numbered.{attr_place, in_four_bytes, number_attr}
 use Rattle.xr_parts.proofs.Words.{distinct_cons, distinct_parts, neither, same_text}
-use Rattle.std.proofs.lemmas.Bool.{or_parts}
 
 -- ---- by its place
 
@@ -58,51 +35,20 @@ number_attr_is name n o e = by (holds Int n) ∙ ap (λ o. elim o as (λ o. Resu
     by true = refl
     by false = refl
 
--- one answer is one value
-same_answer : (a b : Attr) (r : Result Attr Fault) → r ≡ Ok a → r ≡ Ok b → a ≡ b
-same_answer a b r e f = cc
+pub text_formed : (name text : List ℕ) → is_name name ≡ true → IsAttribute (record { name = name; kind = Char; raw = text })
+text_formed name text named = record { name = named; whole = let one : length text / 1 ≡ length text = omega arith in omega (arith, one) }
 
-abbrev text_attr : List ℕ → List ℕ → Attr
-text_attr name text = record { name = name; kind = Char; raw = text }
-
-abbrev int_attr : List ℕ → ℤ → Attr
-int_attr name n = record { name = name; kind = Int; raw = value_bytes Int n }
-
-text_formed : (name text : List ℕ) (a : Attr) → is_name name ≡ true → a ≡ text_attr name text → IsAttribute a
-text_formed name text a named is =
-    subst IsAttribute (sym is) (record { name = named; whole = let one : length text / 1 ≡ length text = omega arith in omega (arith, one) })
-
-number_formed : (name : List ℕ) (n : ℤ) (a : Attr) → is_name name ≡ true → a ≡ int_attr name n → IsAttribute a
-number_formed name n a named is = subst IsAttribute (sym is) (record { name = named; whole = refl })
+pub number_formed : (name : List ℕ) (n : ℤ) (raw : List ℕ) → is_name name ≡ true → Some raw ≡ in_four_bytes n → IsAttribute (record { name = name; kind = Int; raw = raw })
+number_formed name n raw named is = by (holds Int n) is
+  where
+    by : (b : Bool) → Some raw ≡ (if b then Some (value_bytes Int n) else None) → IsAttribute (record { name = name; kind = Int; raw = raw })
+    by true e = let same : value_bytes Int n ≡ raw = cc in subst (λ r. IsAttribute (record { name = name; kind = Int; raw = r })) same (record { name = named; whole = refl })
+    by false e = absurd cc
 
 -- a number has the attribute of its four bytes
 pub number_given : (nodes : List Node) (name : List ℕ) (v : Value) (n : ℤ) → v ≡ variants.Number n → attr_given (name, meaning nodes v) ≡ number_attr name n
 unfolding attr_given number_attr
 number_given nodes name v n is = ap (λ m. attr_given (name, m)) (is_number nodes v n is)
-
-pub attr_formed : (name : List ℕ) (v : of.Value) (a : Attr) → attr_given (name, v) ≡ Ok a → is_name name ≡ true → IsAttribute a
-unfolding attr_given unless
-attr_formed name (of.Text t) a e named = text_formed name t a named (same_answer a (text_attr name t) (Ok (text_attr name t)) e refl)
-attr_formed name (of.Number n) a e named = by (holds Int n) e
-  where
-    by : (b : Bool) → (unless b DoesNotFit >>= λ u. Ok (record { name = name; kind = Int; raw = value_bytes Int n })) ≡ Ok a → IsAttribute a
-    by true e = number_formed name n a named (same_answer a (int_attr name n) (Ok (int_attr name n)) e refl)
-    by false e = absurd cc
-attr_formed name of.Absent a e named = absurd cc
-attr_formed name of.Missing a e named = absurd cc
-attr_formed name (of.Truth b) a e named = absurd cc
-attr_formed name (of.Sequence vs) a e named = absurd cc
-attr_formed name (of.Table es) a e named = absurd cc
-attr_formed name (of.Slice s t k) a e named = absurd cc
-attr_formed name (of.Array b) a e named = absurd cc
-attr_formed name (of.Set s) a e named = absurd cc
-attr_formed name (of.Times coding ts) a e named = absurd cc
-attr_formed name (of.GroupedArray b g) a e named = absurd cc
-attr_formed name (of.GroupedSet s g) a e named = absurd cc
-
-pub answer_formed : (name : List ℕ) (v : of.Value) (r : Result Attr CallFault) → Answers (λ a. a) r (attr_given (name, v)) → is_name name ≡ true → IfOk r IsAttribute
-answer_formed name v (Ok a) e named = attr_formed name v a e named
-answer_formed name v (Err f) e named = tt
 
 -- ---- well formed
 

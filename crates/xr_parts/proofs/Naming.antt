@@ -1,25 +1,10 @@
 -- Names that aren't empty, and an array under another name.
-use Rattle.std.proofs.Common.{◌≡◌, ◌==◌, ◌≢◌, ℕ, true, false, not, List, length, Option, Some, None, Result, Ok, sym, ap, subst}
-use Rattle.std.specs.Prelude.{codes}
-use Rattle.std.specs.Str.{is_utf8, IsUtf8}
-use Rattle.std.proofs.lemmas.Bool.{and_from, cond-false, cond-true, ne_eqb, not_from_false}
+use Rattle.xr_parts.proofs.Common.{DataArray, Fault, Given, IsArrayIn, IsUtf8, List, Node, None, Ok, Option, Result, Some, Value, and_from, ap, array_in, codes, cond-false, cond-true, false, is_absent, is_bare, is_name, is_utf8, length, meaning, name_given, ne_eqb, not, not_from_false, own_name, set_name, subst, sym, true, ℕ, ◌==◌, ◌>>=◌, ◌≡◌, ◌≢◌}
 use Rattle.std.proofs.lemmas.Str.{is_utf8-from_IsUtf8}
-use Rattle.xr_types.specs.declared.fault.Fault.{Fault}
-use Rattle.xr_arrays.specs.declared.node.Node.{Node}
 use Rattle.xr_defs.specs.Arguments.{unfit}
-use Rattle.xr_files.specs.Classic.{is_name}
 use Rattle.xr_defs.specs.Arguments.{only}
-use Rattle.xr_defs.specs.Meanings.{Given}
-use Rattle.xr_types.specs.Results.{◌>>=◌}
 use Rattle.xr_defs.specs.Values as of
-use Rattle.xr_defs.specs.Parts.{name_given, own_name, set_name}
-use Rattle.xr_arguments.proofs.Variants.{is_absent}
-use Rattle.xr_values.specs.declared.value.Value.{Value}
 use Rattle.xr_values.specs.declared.value.Value.TheVariants as variants
-use Rattle.xr_values.specs.Meaning.{meaning}
-use Rattle.xr_values.specs.declared.data_array.DataArray.{DataArray}
-use Rattle.xr_values.specs.Stands.{array_in, IsArrayIn}
-use Rattle.xr_parts.specs.Single.{is_bare}
 
 pub named_text : (t : List ℕ) → IsUtf8 t → length t ≢ 0 → is_name t ≡ true
 named_text t text some = and_from (not (length t == 0)) (is_utf8 t) (not_from_false (length t == 0) (ne_eqb (length t) 0 some)) (is_utf8-from_IsUtf8 t text)

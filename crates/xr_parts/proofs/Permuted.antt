@@ -1,22 +1,5 @@
 -- Names that are as many as those of the axes and differ are all of them.
-use Rattle.std.proofs.Common.{◌≡◌, ◌⊎◌, ◌<◌, ◌*◌, ◌==◌, ℕ, zero, suc, Bool, true, false, not, ◌||◌, cond, List, [], ◌∷◌, length, map, get_or, All, refl, sym, ap, ◌∙◌, arith, inl, inr}
-use Rattle.std.specs.Str.{bytes_eq}
-use Rattle.std.specs.List.{AllByRecursion, list_any}
-use Rattle.std.proofs.lemmas.Bool.{and_parts, or_parts, not-true, cases_Bool, cond-true, cond-false, eq-eqb}
-use Rattle.std.proofs.lemmas.List.{length-map}
-use Rattle.std.proofs.lemmas.List.Elements.{All-head, All-tail}
-use Rattle.xr_types.specs.declared.axis.Axis.{Axis}
-use Rattle.xr_types.specs.Names.{among}
-use Rattle.xr_types.specs.Names.{are_distinct}
-use Rattle.xr_arrays.specs.Nodes.{IsOrder}
-use Rattle.xr_types.specs.Points.{size}
-use Rattle.xr_types.specs.Names.{axis_names, shape_over}
-use Rattle.xr_defs.specs.Values.{no_axis}
-use Rattle.xr_defs.specs.Selecting.{axis_called}
-use Rattle.xr_defs.specs.Parts.{axes_called, is_once}
-use Rattle.xr_values.proofs.Named.{bytes_eq_swap}
-use Rattle.xr_parts.specs.Frames.{IsThere}
-use Rattle.xr_parts.specs.Orders.{IsArrangement}
+use Rattle.xr_parts.proofs.Common.{All, All-head, All-tail, AllByRecursion, Axis, Bool, IsArrangement, IsOrder, IsThere, List, [], among, and_parts, ap, are_distinct, arith, axes_called, axis_called, axis_names, bytes_eq, bytes_eq_swap, cases_Bool, cond, cond-false, cond-true, eq-eqb, false, get_or, inl, inr, is_once, length, length-map, list_any, map, no_axis, not, not-true, or_parts, refl, shape_over, size, suc, sym, true, zero, ℕ, ◌*◌, ◌<◌, ◌==◌, ◌||◌, ◌∙◌, ◌∷◌, ◌≡◌, ◌⊎◌}
 use Rattle.xr_parts.proofs.Words.{AreAmong, distinct_cons, distinct_parts, neither, same_text}
 use Rattle.xr_parts.proofs.Axes.{called_here, called_on, own_axes}
 

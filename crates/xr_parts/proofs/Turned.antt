@@ -1,32 +1,9 @@
 -- The node that reorders the axes has the array with its dimensions in that order.
-use Rattle.std.proofs.Common.{◌≡◌, ◌<◌, ◌≤◌, ◌^◌, ℕ, ℤ, zero, suc, Bool, true, List, [], ◌∷◌, length, map, get_or, Option, None, is_some, refl, sym, ap, subst, ◌∙◌, arith}
-use Rattle.std.specs.List.{AllByRecursion}
-use Rattle.std.proofs.lemmas.Bool.{and_from, cond-true}
-use Rattle.std.proofs.lemmas.List.{length-map}
-use Rattle.xr_types.specs.declared.axis.Axis.{Axis}
-use Rattle.xr_types.specs.declared.kind.DType.{DType}
-use Rattle.xr_arrays.specs.declared.node.Node.{Node}
-use Rattle.xr_arrays.specs.declared.node.Node.TheVariants.{Reorder}
-use Rattle.xr_defs.specs.declared.value.Coord.{Coord}
-use Rattle.xr_arrays.specs.Arrays.{Array, at, IsCell}
-use Rattle.xr_types.specs.Names.{among}
-use Rattle.xr_types.specs.Names.{are_distinct}
-use Rattle.xr_defs.specs.Encoding.{all_among, coords_over}
-use Rattle.xr_arrays.specs.Nodes.{IsNode, IsOrder, Pushes, moved, node_value, reordered, values}
-use Rattle.xr_types.specs.Points.{IsPoint, place, size}
+use Rattle.xr_parts.proofs.Common.{AllByRecursion, AreCells, Array, Axis, Bool, Coord, DType, DataArray, IsArrangement, IsArrayIn, IsCell, IsCoordinate, IsDataArray, IsFrame, IsMovedTo, IsNode, IsOrder, IsPoint, IsThere, List, Node, None, Option, Pushes, Reorder, [], all_among, among, and_from, ap, are_distinct, arith, array_in, array_of, array_value, at, axes_called, axis_names, cond-true, coords_over, get_or, in_order, is_some, length, length-map, map, moved, no_axis, node_value, node_valued, place, pushed_array, pushed_cells, refl, reordered, shape_over, size, subst, suc, sym, true, values, zero, ℕ, ℤ, ◌<◌, ◌^◌, ◌∙◌, ◌∷◌, ◌≡◌, ◌≤◌}
 use Rattle.xr_defs.specs.Values as of
-use Rattle.xr_types.specs.Names.{axis_names, shape_over}
-use Rattle.xr_defs.specs.Values.{array_of, no_axis}
-use Rattle.xr_defs.specs.Parts.{axes_called, in_order}
 use Rattle.plan_core.specs.Strides.{moved_sizes}
 use Rattle.plan_core.proofs.Moves.{moving_inside}
 use Rattle.plan_core.proofs.Tabs.{All-tab, place_below, tab-length}
-use Rattle.xr_values.specs.declared.data_array.DataArray.{DataArray}
-use Rattle.xr_defs.specs.WellFormed.{AreCells, IsCoordinate, IsDataArray}
-use Rattle.xr_values.specs.Stands.{array_in, IsArrayIn}
-use Rattle.xr_values.proofs.Grown.{array_value, node_valued, pushed_array, pushed_cells}
-use Rattle.xr_parts.specs.Frames.{IsFrame, IsThere}
-use Rattle.xr_parts.specs.Orders.{IsArrangement, IsMovedTo}
 use Rattle.xr_parts.proofs.Words.{AreAmong}
 use Rattle.xr_parts.proofs.Axes.{frame_over, sizes_again}
 use Rattle.xr_parts.proofs.Permuted.{all_named, called_names, names_among, names_differ, named_at, order_from, same_size}

@@ -1,19 +1,19 @@
 -- Variables of the program by their names, and the axes that something has.
-use Rattle.std.specs.Prelude.{◌||◌, ℕ, Bool, not, List, [], filter, map, is_some, Result, if◌then◌else◌}
+use Rattle.std.specs.Prelude.{◌||◌, ℕ, Bool, not, List, [], filter, map, is_some, Result, Ok}
 use Rattle.std.specs.Str.{bytes_eq}
 use Rattle.std.specs.List.{list_any}
 use Rattle.xr_types.specs.declared.axis.Axis.{Axis}
 use Rattle.xr_defs.specs.declared.value.Coord.{Coord}
 use Rattle.xr_types.specs.Names.{among}
 use Rattle.xr_types.specs.Names.{axis_names}
-use Rattle.xr_defs.specs.Parts.{coords_left, has_coordinate, unlabelled}
-use Rattle.xr_types.specs.Results.{all_of, unless}
+use Rattle.xr_defs.specs.Parts.{coords_left, has_coordinate, names_given, unlabelled}
+use Rattle.xr_defs.specs.Meanings.{Given}
+use Rattle.xr_types.specs.Results.{◌>>=◌, all_of, unless}
 use Rattle.xr_types.specs.declared.fault.Fault.{Fault}
 use Rattle.xr_types.specs.declared.fault.Fault.TheVariants.{NoVariable}
 use Rattle.xr_values.specs.declared.data_array.DataArray.{DataArray}
 use Rattle.xr_values.specs.declared.variable.Variable.{Variable}
 use Rattle.xr_values.specs.declared.dataset.Dataset.{Dataset}
-use Rattle.xr_values.specs.Variables.{with_variable}
 
 abbrev pub has_variable : List Variable → List ℕ → Bool
 has_variable vs name = list_any (λ (v : Variable). bytes_eq v.name name) vs
@@ -21,19 +21,20 @@ has_variable vs name = list_any (λ (v : Variable). bytes_eq v.name name) vs
 abbrev pub vars_left : List (List ℕ) → List Variable → List Variable
 vars_left names vs = filter (λ (v : Variable). not (among names v.name)) vs
 
-abbrev pub left_with : List (List ℕ) → List Variable → Variable → List Variable
-left_with names vs v = if among names v.name then vs else with_variable vs v
-
 -- an axis that has labels, or that a coordinate or a variable has
 unfoldable pub is_held : List Coord → List Variable → Axis → Bool
 is_held coords vs x = is_some x.labels || list_any (λ (c : Coord). among (axis_names c.axes) x.name) coords || list_any (λ (v : Variable). among v.dims x.name) vs
 
 -- each name is one that can be dropped
-unfoldable pub check_coordinates : DataArray → List (List ℕ) → Result (Unit {0}) Fault
-check_coordinates a names = all_of (λ n. unless (has_coordinate a.axes a.coords n) (NoVariable n)) names
+abbrev pub check_names : List Variable → List Axis → List Coord → List (List ℕ) → Result (Unit {0}) Fault
+check_names vs axes coords names = all_of (λ n. unless (has_variable vs n || has_coordinate axes coords n) (NoVariable n)) names
 
-unfoldable pub check_names : Dataset → List (List ℕ) → Result (Unit {0}) Fault
-check_names s names = all_of (λ n. unless (has_variable s.vars n || has_coordinate s.axes s.coords n) (NoVariable n)) names
+-- the names of a call, each one that can be dropped
+unfoldable pub names_checked : List Variable → List Axis → List Coord → Given → Result (List (List ℕ)) Fault
+names_checked vs axes coords g = names_given g >>= λ names. check_names vs axes coords names >>= λ u. Ok names
+
+abbrev pub array_without : List (List ℕ) → DataArray → DataArray
+array_without names a = record a { axes = map (unlabelled names) a.axes; coords = coords_left names [] a.coords }
 
 abbrev pub set_without : List (List ℕ) → Dataset → Dataset
 set_without names s =

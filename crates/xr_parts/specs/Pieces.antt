@@ -1,5 +1,5 @@
 -- A variable or a coordinate of a name, as an array.
-use Rattle.std.specs.Prelude.{◌≡◌, ℕ, ℤ, ⊤, false, List, [], ◌∷◌, map, find, Bool, Option, Some, None, Result, Ok, Err, if◌then◌else◌}
+use Rattle.std.specs.Prelude.{◌≡◌, ℕ, ℤ, ⊤, false, List, [], ◌∷◌, length, map, find, Option, Some, None, Result, Ok, Err, if◌then◌else◌}
 use Rattle.xr_types.specs.declared.attr.Attr.{Attr}
 use Rattle.xr_types.specs.declared.axis.Axis.{Axis}
 use Rattle.xr_types.specs.declared.kind.DType.{DType}
@@ -7,8 +7,8 @@ use Rattle.xr_types.specs.declared.fault.Fault.{Fault}
 use Rattle.xr_types.specs.declared.fault.CallFault.{CallFault}
 use Rattle.xr_types.specs.declared.fault.CallFault.TheVariants.{Refused, Declined, NoMemory}
 use Rattle.xr_arrays.specs.declared.node.Node.{Node}
+use Rattle.xr_defs.specs.declared.value.Content.TheVariants.{Cells}
 use Rattle.xr_defs.specs.declared.value.Coord.{Coord}
-use Rattle.xr_arrays.specs.Arrays.{Array}
 use Rattle.xr_defs.specs.Encoding.{coords_over}
 use Rattle.xr_defs.specs.Parts.{axes_called, coordinate_of, index_as_array, is_labelled_as}
 use Rattle.xr_types.specs.Names.{among}
@@ -38,15 +38,9 @@ array_over s v =
 abbrev pub IsMade : List Node → of.DataArray → DataArray → Type 0
 IsMade nodes a b = (array_in nodes b ≡ a) × IsArrayIn nodes b
 
--- a coordinate of these cells
-abbrev pub cells_array : List Coord → Coord → Array → Bool → of.DataArray
-cells_array coords c a masked =
-    record { name = Some c.name; axes = c.axes; kind = a.kind; masked = masked; attrs = c.attrs; coords = coords_over (axis_names c.axes) coords; cells = a.cells }
-
--- an axis of these labels
-abbrev pub labels_array : List Coord → Axis → List Attr → DType → List ℤ → of.DataArray
-labels_array coords x attrs kind ns =
-    record { name = Some x.name; axes = x ∷ []; kind = kind; masked = false; attrs = attrs; coords = coords_over (x.name ∷ []) coords; cells = map Some ns }
+-- the labels of an axis as a coordinate
+abbrev pub label_coord : Axis → List Attr → DType → List ℤ → Coord
+label_coord x attrs kind ns = record { name = x.name; axes = x ∷ []; attrs = attrs; content = Cells (record { kind = kind; shape = length ns ∷ []; cells = map Some ns }) false }
 
 -- the index of a name
 abbrev pub index_found : List Axis → List Coord → List ℕ → Option (Result of.DataArray Fault)

@@ -1,7 +1,8 @@
 //! `assign_attrs(name=value)`: attributes of arrays and datasets.
-ghost use Rattle.std.specs.Prelude.{◌≡◌, ◌<◌, List, length, map, IfOk, IfSome, OnOk};
+ghost use Rattle.std.specs.Prelude.{◌≡◌, ◌<◌, List, length, map, true, IfOk, IfSome, OnOk};
 ghost use Rattle.xr_arrays.specs.declared.node.Node.{Node};
 ghost use Rattle.xr_types.specs.Results.{Answers, all_of};
+ghost use Rattle.xr_files.specs.Classic.{is_name};
 ghost use Rattle.xr_defs.specs.Parts as of;
 ghost use Rattle.xr_values.specs.Answers.{AnswersArray, AnswersSet};
 ghost use Rattle.xr_values.specs.Meaning.{given, meaning, with_key};
@@ -44,9 +45,11 @@ fn int_bytes(alloc: Global, n: i128) -> Result<Option<Items<u8>>, AllocError>
     Ok(Some(Items::from_slice(alloc, &bytes)?))
 }
 
-#[tactic(auto, using(crate::proofs::Described::number_attr_is))]
+#[tactic(auto, using(crate::proofs::Described::number_attr_is, crate::proofs::Described::number_formed))]
 fn number_attr(alloc: Global, name: &TextBytes, n: &i128) -> Result<Attr, CallFault>
-    ensures { Answers (λ a. a) result (number_attr name.now n.now) }
+    requires { is_name name.now ≡ true }
+    ensures answers { Answers (λ a. a) result (number_attr name.now n.now) }
+    ensures formed { IfOk result IsAttribute }
 {
     match int_bytes(alloc, *n)? {
         Some(raw) => Ok(Attr {
@@ -59,9 +62,11 @@ fn number_attr(alloc: Global, name: &TextBytes, n: &i128) -> Result<Attr, CallFa
 }
 
 // The attribute of a keyword and its value.
-#[tactic(auto, using(xr_arguments::proofs::Variants::is_text, xr_arguments::proofs::Variants::is_number, xr_values::proofs::Meaning::meaning_out), unfolding(xr_defs::specs::Parts::attr_given, crate::specs::Numbered::number_attr))]
+#[tactic(auto, using(crate::proofs::Described::number_given, crate::proofs::Described::text_formed, xr_arguments::proofs::Variants::is_text, xr_arguments::proofs::Variants::is_number, xr_values::proofs::Meaning::meaning_out), unfolding(xr_defs::specs::Parts::attr_given, crate::specs::Numbered::number_attr))]
 fn attr_of(alloc: Global, name: &TextBytes, value: &Value) -> Result<Attr, CallFault>
-    ensures { (nodes : List Node) → Answers (λ a. a) result (of.attr_given (name.now, meaning nodes value.now)) }
+    requires { is_name name.now ≡ true }
+    ensures answers { (nodes : List Node) → Answers (λ a. a) result (of.attr_given (name.now, meaning nodes value.now)) }
+    ensures formed { IfOk result IsAttribute }
 {
     match value {
         Value::Text(text) => Ok(Attr {
@@ -74,7 +79,7 @@ fn attr_of(alloc: Global, name: &TextBytes, value: &Value) -> Result<Attr, CallF
     }
 }
 
-#[tactic(auto, using(crate::proofs::Described::answer_formed))]
+#[tactic(auto, using(crate::proofs::Naming::named_text))]
 fn attr_given(alloc: Global, argument: &(TextBytes, Value)) -> Result<Attr, CallFault>
     ensures answers { (nodes : List Node) → Answers (λ a. a) result (of.attr_given (with_key nodes argument.now)) }
     ensures formed { IfOk result IsAttribute }

@@ -1,11 +1,12 @@
 //! Arrays as datasets of one variable: `to_dataset(name)`.
-ghost use Rattle.std.specs.Prelude.{◌≡◌, ◌||◌, List, length, nat_le, true, codes, IfOk};
+ghost use Rattle.std.specs.Prelude.{◌≡◌, ◌+◌, ◌||◌, List, length, nat_le, true, codes, IfOk};
 ghost use Rattle.std.specs.Str.{bytes_eq};
 ghost use Rattle.std.specs.List.{list_any};
 ghost use Rattle.xr_arrays.specs.declared.node.Node.{Node};
 ghost use Rattle.xr_defs.specs.declared.value.Coord.{Coord as Other};
 ghost use Rattle.xr_types.specs.Names.{among};
 ghost use Rattle.xr_files.specs.Classic.{is_name};
+ghost use Rattle.xr_defs.specs.Limits.{most_variables};
 ghost use Rattle.xr_types.specs.Results.{Answers};
 ghost use Rattle.xr_types.specs.Names.{axis_names};
 ghost use Rattle.xr_defs.specs.Parts as of;
@@ -22,27 +23,20 @@ use xr_types::{Axis, CallFault, DeepCopy, Fault, Items, MOST_VARIABLES, Name, Te
 use xr_values::{Args, DataArray, Dataset, Value, Variable, Variables, copy_coords};
 
 /// Whether an axis has this name.
-pub(crate) fn has_axis(axes: &[Axis], name: &TextBytes) -> bool
+pub fn has_axis(axes: &[Axis], name: &TextBytes) -> bool
     ensures { result ≡ among (axis_names axes.now) name.now }
 {
-    for axis in axes {
-        if name.is(&axis.name) {
-            return true;
-        }
+    match axes {
+        [] => false,
+        [axis, rest @ ..] => name.is(&axis.name) || has_axis(rest, name),
     }
-    false
 }
 
 /// Whether a coordinate has this name.
 pub(crate) fn has_coord(coords: &[Coord], name: &TextBytes) -> bool
     ensures { result ≡ list_any (λ (c : Other). bytes_eq c.name name.now) coords.now }
 {
-    for coord in coords {
-        if coord.name.is(name) {
-            return true;
-        }
-    }
-    false
+    coords.iter().any(|coord| coord.name.is(name))
 }
 
 fn names_of(alloc: Global, axes: &[Axis]) -> Result<Items<Name>, AllocError>
@@ -75,11 +69,11 @@ fn is_taken(on: &DataArray, name: &TextBytes) -> bool
     has_axis(on.axes.as_slice(), name) || has_coord(on.coords.as_slice(), name)
 }
 
-// Whether there is no place for a variable beside the coordinates.
-fn is_full(on: &DataArray) -> bool
-    ensures { result ≡ nat_le 1024 (length on.now.coords) }
+// Whether there is a place for a variable beside the coordinates.
+fn has_room(on: &DataArray) -> bool
+    ensures { result ≡ nat_le (length on.now.coords + 1) most_variables }
 {
-    on.coords.as_slice().len() >= MOST_VARIABLES
+    on.coords.as_slice().len() + 1 <= MOST_VARIABLES
 }
 
 fn set_of(alloc: Global, name: &TextBytes, on: &DataArray) -> Result<Dataset, AllocError>
@@ -101,13 +95,14 @@ fn set_of(alloc: Global, name: &TextBytes, on: &DataArray) -> Result<Dataset, Al
 /// # Errors
 /// `DuplicateName` where a dimension or a coordinate has the name; then `TooLarge` where its coordinates and the variable
 /// are more than a dataset may have. The rest of an array is within the limits.
+#[tactic(auto, using(crate::proofs::Alone::taken_name, crate::proofs::Alone::too_many))]
 pub fn as_set(alloc: Global, name: &TextBytes, on: &DataArray) -> Result<Dataset, CallFault>
     ensures { (nodes : List Node) → IsArrayIn nodes on.now → is_name name.now ≡ true → AnswersSet nodes result (of.as_set name.now (array_in nodes on.now)) }
 {
     if is_taken(on, name) {
         return Err(CallFault::Refused(Fault::DuplicateName));
     }
-    if is_full(on) {
+    if !has_room(on) {
         return Err(CallFault::Refused(Fault::TooLarge));
     }
     Ok(set_of(alloc, name, on)?)

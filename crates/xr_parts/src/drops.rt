@@ -14,8 +14,8 @@ ghost use Rattle.xr_values.specs.declared.variable.Variable.{Variable as Var};
 ghost use Rattle.xr_values.specs.Answers.{AnswersArray, AnswersSet};
 ghost use Rattle.xr_values.specs.Meaning.{given};
 ghost use Rattle.xr_values.specs.Stands.{array_in, dataset_in, IsArrayIn, IsDatasetIn};
-ghost use Rattle.xr_values.specs.Variables.{names_of};
-ghost use Rattle.xr_parts.specs.Kept.{check_coordinates, check_names, has_variable, is_held, left_with, set_without, vars_left};
+ghost use Rattle.xr_values.specs.Variables.{names_of, with_variables};
+ghost use Rattle.xr_parts.specs.Kept.{array_without, check_names, has_variable, is_held, names_checked, set_without, vars_left};
 
 use crate::dataset_of::{has_axis, has_coord};
 use crate::texts::{is_among, names_given};
@@ -84,12 +84,8 @@ fn coords_left(
 fn has_index(axes: &[Axis], name: &TextBytes) -> bool
     ensures { result ≡ list_any (of.is_labelled_as name.now) axes.now }
 {
-    for axis in axes {
-        if axis.name.is(name) && axis.labels.is_some() {
-            return true;
-        }
-    }
-    false
+    axes.iter()
+        .any(|axis| axis.name.is(name) && axis.labels.is_some())
 }
 
 fn has_coordinate(axes: &[Axis], coords: &[Coord], name: &TextBytes) -> bool
@@ -98,39 +94,67 @@ fn has_coordinate(axes: &[Axis], coords: &[Coord], name: &TextBytes) -> bool
     has_coord(coords, name) || has_index(axes, name)
 }
 
-#[tactic(auto, unfolding(xr_types::specs::Results::unless))]
-fn check_coordinate(alloc: Global, on: &DataArray, name: &TextBytes) -> Result<(), CallFault>
-    ensures { Answers (λ u. u) result (unless (of.has_coordinate on.now.axes on.now.coords name.now) (NoVariable name.now)) }
+fn has_variable(vars: &[Variable], name: &TextBytes) -> bool
+    ensures { result ≡ has_variable vars.now name.now }
 {
-    if has_coordinate(on.axes.as_slice(), on.coords.as_slice(), name) {
+    vars.iter().any(|variable| variable.name.is(name))
+}
+
+#[tactic(auto, unfolding(xr_types::specs::Results::unless))]
+fn check_name(
+    alloc: Global,
+    vars: &[Variable],
+    axes: &[Axis],
+    coords: &[Coord],
+    name: &TextBytes,
+) -> Result<(), CallFault>
+    ensures { Answers (λ u. u) result (unless (has_variable vars.now name.now || of.has_coordinate axes.now coords.now name.now) (NoVariable name.now)) }
+{
+    if has_variable(vars, name) || has_coordinate(axes, coords, name) {
         Ok(())
     } else {
         Err(CallFault::Refused(Fault::NoVariable(name.deep_copy(alloc)?)))
     }
 }
 
-#[tactic(auto, unfolding(crate::specs::Kept::check_coordinates))]
-fn check_coordinates(alloc: Global, on: &DataArray, names: &[TextBytes]) -> Result<(), CallFault>
-    ensures { Answers (λ u. u) result (check_coordinates on.now names.now) }
+fn check_names(
+    alloc: Global,
+    vars: &[Variable],
+    axes: &[Axis],
+    coords: &[Coord],
+    names: &[TextBytes],
+) -> Result<(), CallFault>
+    ensures { Answers (λ u. u) result (check_names vars.now axes.now coords.now names.now) }
 {
     for name in names {
-        check_coordinate(alloc, on, name)?;
+        check_name(alloc, vars, axes, coords, name)?;
     }
     Ok(())
 }
 
-/// An array without the coordinates and the labels of these names.
-///
-/// # Errors
-/// `BadArgument` unless there is one argument, without a keyword; then `WrongKind` unless it is a text or a list of texts;
-/// then `NoVariable` for the first name that is neither a coordinate nor an index.
-#[tactic(auto, using(crate::proofs::Dropped::array_unnamed, crate::proofs::Dropped::array_refused, crate::proofs::Dropped::array_passed, crate::proofs::Dropped::array_dropped))]
-pub fn dropped_of_array(alloc: Global, on: &DataArray, args: &Args) -> Result<DataArray, CallFault>
-    ensures { (nodes : List Node) → IsArrayIn nodes on.now → AnswersArray nodes result (of.dropped_of_array (array_in nodes on.now) (given nodes args.now)) }
+// The names that a call gives, each of something that is there.
+#[tactic(auto, unfolding(crate::specs::Kept::names_checked))]
+fn names_checked(
+    alloc: Global,
+    vars: &[Variable],
+    axes: &[Axis],
+    coords: &[Coord],
+    args: &Args,
+) -> Result<Items<TextBytes>, CallFault>
+    ensures { (nodes : List Node) → Answers (λ ns. ns) result (names_checked vars.now axes.now coords.now (given nodes args.now)) }
 {
     let names = names_given(alloc, args)?;
-    let names = names.as_slice();
-    check_coordinates(alloc, on, names)?;
+    check_names(alloc, vars, axes, coords, names.as_slice())?;
+    Ok(names)
+}
+
+fn array_without(
+    alloc: Global,
+    names: &[TextBytes],
+    on: &DataArray,
+) -> Result<DataArray, AllocError>
+    ensures { IfOk result (λ a. a ≡ array_without names.now on.now) }
+{
     let axes = all_unlabelled(alloc, names, on.axes.as_slice())?;
     let coords = coords_left(alloc, names, on.coords.as_slice())?;
     let mut array = on.deep_copy(alloc)?;
@@ -139,87 +163,59 @@ pub fn dropped_of_array(alloc: Global, on: &DataArray, args: &Args) -> Result<Da
     Ok(array)
 }
 
-fn has_variable(vars: &[Variable], name: &TextBytes) -> bool
-    ensures { result ≡ has_variable vars.now name.now }
+/// An array without the coordinates and the labels of these names.
+///
+/// # Errors
+/// `BadArgument` unless there is one argument, without a keyword; then `WrongKind` unless it is a text or a list of texts;
+/// then `NoVariable` for the first name that is neither a coordinate nor an index.
+#[tactic(auto, using(crate::proofs::Dropped::array_dropped, crate::proofs::Dropped::array_dropped_is))]
+pub fn dropped_of_array(alloc: Global, on: &DataArray, args: &Args) -> Result<DataArray, CallFault>
+    ensures { (nodes : List Node) → IsArrayIn nodes on.now → AnswersArray nodes result (of.dropped_of_array (array_in nodes on.now) (given nodes args.now)) }
 {
-    for variable in vars {
-        if variable.name.is(name) {
-            return true;
-        }
-    }
-    false
+    let names = names_checked(alloc, &[], on.axes.as_slice(), on.coords.as_slice(), args)?;
+    Ok(array_without(alloc, names.as_slice(), on)?)
 }
 
-#[tactic(auto, unfolding(xr_types::specs::Results::unless))]
-fn check_name(alloc: Global, on: &Dataset, name: &TextBytes) -> Result<(), CallFault>
-    ensures { Answers (λ u. u) result (unless (has_variable on.now.vars name.now || of.has_coordinate on.now.axes on.now.coords name.now) (NoVariable name.now)) }
-{
-    if has_variable(on.vars.as_slice(), name)
-        || has_coordinate(on.axes.as_slice(), on.coords.as_slice(), name)
-    {
-        Ok(())
-    } else {
-        Err(CallFault::Refused(Fault::NoVariable(name.deep_copy(alloc)?)))
-    }
-}
-
-#[tactic(auto, unfolding(crate::specs::Kept::check_names))]
-fn check_names(alloc: Global, on: &Dataset, names: &[TextBytes]) -> Result<(), CallFault>
-    ensures { Answers (λ u. u) result (check_names on.now names.now) }
-{
-    for name in names {
-        check_name(alloc, on, name)?;
-    }
-    Ok(())
-}
-
-// Puts a variable that isn't named.
+// Puts the variables that aren't named.
 fn put_left(
     alloc: Global,
     left: &mut Variables,
     names: &[TextBytes],
-    variable: &Variable,
+    vars: &[Variable],
 ) -> Result<(), AllocError>
-    ensures { OnOk result (left.new ≡ left_with names.now left.old variable.now) }
+    ensures { OnOk result (left.new ≡ with_variables left.old (vars_left names.now vars.now)) }
 {
-    if !is_among(names, &variable.name) {
-        left.put(alloc, variable.deep_copy(alloc)?)?;
+    for variable in vars {
+        if !is_among(names, &variable.name) {
+            left.put(alloc, variable.deep_copy(alloc)?)?;
+        }
     }
     Ok(())
 }
 
-// The variables that aren't named.
+#[tactic(auto, using(crate::proofs::Dropped::put_apart))]
 fn vars_left(alloc: Global, names: &[TextBytes], vars: &[Variable]) -> Result<Variables, AllocError>
     requires { are_distinct (names_of vars.now) ≡ true }
     ensures { IfOk result (λ vs. vs ≡ vars_left names.now vars.now) }
 {
     let mut left = Variables::new(alloc);
-    for variable in vars {
-        put_left(alloc, &mut left, names, variable)?;
-    }
+    put_left(alloc, &mut left, names, vars)?;
     Ok(left)
 }
 
 fn have_axis(coords: &[Coord], name: &TextBytes) -> bool
     ensures { result ≡ list_any (λ (c : Other). among (axis_names c.axes) name.now) coords.now }
 {
-    for coord in coords {
-        if has_axis(coord.axes.as_slice(), name) {
-            return true;
-        }
-    }
-    false
+    coords
+        .iter()
+        .any(|coord| has_axis(coord.axes.as_slice(), name))
 }
 
 fn have_dim(vars: &[Variable], name: &TextBytes) -> bool
     ensures { result ≡ list_any (λ (v : Var). among v.dims name.now) vars.now }
 {
-    for variable in vars {
-        if is_among(variable.dims.as_slice(), name) {
-            return true;
-        }
-    }
-    false
+    vars.iter()
+        .any(|variable| is_among(variable.dims.as_slice(), name))
 }
 
 #[tactic(auto, unfolding(crate::specs::Kept::is_held))]
@@ -229,8 +225,8 @@ fn is_held(coords: &[Coord], vars: &[Variable], axis: &Axis) -> bool
     axis.labels.is_some() || have_axis(coords, &axis.name) || have_dim(vars, &axis.name)
 }
 
-// The axes with labels, and those that a coordinate or a variable has.
-fn axes_kept(
+/// The axes with labels, and those that a coordinate or a variable has.
+pub fn axes_kept(
     alloc: Global,
     coords: &[Coord],
     vars: &[Variable],
@@ -269,11 +265,16 @@ fn set_without(alloc: Global, names: &[TextBytes], on: &Dataset) -> Result<Datas
 /// # Errors
 /// `BadArgument` unless there is one argument, without a keyword; then `WrongKind` unless it is a text or a list of texts;
 /// then `NoVariable` for the first name that is neither a data variable nor a coordinate or an index.
-#[tactic(auto, using(crate::proofs::Left::drop_unnamed, crate::proofs::Left::drop_passed, crate::proofs::Left::drop_refused, crate::proofs::Left::set_dropped_value, crate::proofs::Left::set_dropped_formed))]
+#[tactic(auto, using(crate::proofs::Left::set_dropped_is))]
 pub fn dropped_of_set(alloc: Global, on: &Dataset, args: &Args) -> Result<Dataset, CallFault>
     ensures { (nodes : List Node) → IsDatasetIn nodes on.now → AnswersSet nodes result (of.dropped_of_set (dataset_in nodes on.now) (given nodes args.now)) }
 {
-    let names = names_given(alloc, args)?;
-    check_names(alloc, on, names.as_slice())?;
+    let names = names_checked(
+        alloc,
+        on.vars.as_slice(),
+        on.axes.as_slice(),
+        on.coords.as_slice(),
+        args,
+    )?;
     Ok(set_without(alloc, names.as_slice(), on)?)
 }

@@ -13,9 +13,12 @@ use xr_arguments::{as_text, only};
 use xr_types::{CallFault, DeepCopy, Fault, TextBytes};
 use xr_values::{Args, DataArray, Value};
 
-/// The name that a value gives, which isn't empty.
-#[tactic(auto, unfolding(xr_defs::specs::Parts::new_name, xr_types::specs::Results::unless))]
-pub(crate) fn new_name(value: &Value) -> Result<&TextBytes, CallFault>
+/// The name that a value gives.
+///
+/// # Errors
+/// `WrongKind` unless it is a text; then `BadArgument` for the empty text.
+#[tactic(auto, using(crate::proofs::Naming::named_text), unfolding(xr_defs::specs::Parts::new_name, xr_types::specs::Results::unless))]
+pub fn new_name(value: &Value) -> Result<&TextBytes, CallFault>
     ensures answers { (nodes : List Node) → Answers (λ t. t.now) result (of.new_name (meaning nodes value.now)) }
     ensures named { IfOk result (λ t. is_name t.now ≡ true) }
 {

@@ -65,12 +65,7 @@ fn dimensions_at(alloc: Global, axes: &[Axis], names: &[TextBytes]) -> Result<It
 fn has_number(numbers: &[u64], k: u64) -> bool
     ensures { result ≡ list_any (λ j. j == k) numbers.now }
 {
-    for j in numbers {
-        if *j == k {
-            return true;
-        }
-    }
-    false
+    numbers.iter().any(|j| *j == k)
 }
 
 fn is_once(order: &[u64]) -> bool
@@ -83,20 +78,18 @@ fn is_once(order: &[u64]) -> bool
 }
 
 // The axes' numbers from the last to the first.
+#[tactic(auto, using(crate::proofs::Backward::back_on))]
 fn backwards(alloc: Global, axes: &[Axis]) -> Result<Items<u64>, AllocError>
-    ensures order { IfOk result (λ order. order ≡ of.backwards axes.now) }
-    ensures fits { IfOk result (IsArrangement (length axes.now)) }
+    ensures { IfOk result (λ order. order ≡ of.backwards axes.now) }
 {
     let mut order = Items::new(alloc);
-    let mut k = axes.len();
-    'down: while k > 0 {
-        k -= 1;
-        order.push(k as u64)?;
+    for at in 0..axes.len() {
+        order.push((axes.len() - 1 - at) as u64)?;
     }
     Ok(order)
 }
 
-#[tactic(auto, unfolding(xr_defs::specs::Parts::order_given, xr_types::specs::Results::unless))]
+#[tactic(auto, using(crate::proofs::Backward::back_fits), unfolding(xr_defs::specs::Parts::order_given, xr_types::specs::Results::unless))]
 fn order_given(alloc: Global, axes: &[Axis], names: &[TextBytes]) -> Result<Items<u64>, CallFault>
     ensures answers { Answers (λ order. order) result (of.order_given axes.now names.now) }
     ensures fits { IfOk result (λ order. IsArrangement (length axes.now) order) }

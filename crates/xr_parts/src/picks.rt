@@ -22,7 +22,7 @@ ghost use Rattle.xr_values.specs.Answers.{AnswersArray};
 ghost use Rattle.xr_values.specs.Stands.{array_in, dataset_in, IsArrayIn, IsDatasetIn};
 ghost use Rattle.xr_defs.specs.WellFormed.{AreAttributes, AreLabels, IsCoordinate, IsDimension, IsIndex};
 ghost use Rattle.xr_parts.specs.Frames.{IsFrame, IsThere};
-ghost use Rattle.xr_parts.specs.Pieces.{array_over, cells_array, index_found, labels_array, other_part, AnswersFound, IsMade};
+ghost use Rattle.xr_parts.specs.Pieces.{array_over, index_found, label_coord, other_part, AnswersFound, IsMade};
 
 use crate::dataset_of::has_axis;
 use crate::orders::axis_place;
@@ -47,12 +47,10 @@ pub(crate) struct Frame<'a> {
 fn have_axes(axes: &[Axis], some: &[Axis]) -> bool
     ensures { result ≡ all_among (axis_names axes.now) (axis_names some.now) }
 {
-    for axis in some {
-        if !has_axis(axes, &axis.name) {
-            return false;
-        }
+    match some {
+        [] => true,
+        [axis, rest @ ..] => has_axis(axes, &axis.name) && have_axes(axes, rest),
     }
-    true
 }
 
 // The coordinates whose dimensions are all among these axes.
@@ -157,57 +155,42 @@ fn numbers_array(alloc: Global, kind: DType, numbers: &Integers) -> Result<Array
     Ok(ArrayValue::of(shape, cells, None))
 }
 
-// The cells of a coordinate, with those beside it.
-fn cells_as_array(
-    alloc: Global,
-    plan: &mut Plan,
-    frame: &Frame<'_>,
-    coord: &Coord,
-    cells: &ArrayValue,
-    masked: bool,
-) -> Result<DataArray, NoMemory>
-    requires frame { IsFrame frame.now.axes.now frame.now.coords.now }
-    requires formed { IsCoordinate frame.now.axes.now coord.now }
-    requires content { coord.now.content ≡ contents.Cells cells.now masked }
-    ensures array { IfOk result (IsMade plan.new (cells_array frame.now.coords.now coord.now cells.now masked)) }
-    ensures grows { Grows plan.old plan.new }
-    ensures room { IfOk result (λ b. AddsForAny plan.old plan.new (array_in plan.new b)) }
-{
-    let name = coord.name.deep_copy(alloc)?;
-    let axes = coord.axes.deep_copy(alloc)?;
-    let attrs = coord.attrs.deep_copy(alloc)?;
-    let coords = coords_over(alloc, coord.axes.as_slice(), frame.coords)?;
-    let source = cells.copy(alloc)?;
-    let node = plan.push(Node::Source { cells: source })?;
-    Ok(DataArray {
-        name: Some(name),
-        axes,
-        kind: cells.kind(),
-        masked,
-        attrs,
-        coords,
-        node,
-    })
-}
-
-// Texts and times have no cells.
+// A coordinate with those beside it. Texts and times have no cells.
 fn coord_as_array(
     alloc: Global,
     plan: &mut Plan,
     frame: &Frame<'_>,
-    coord: &Coord,
+    coord: Coord,
 ) -> Result<DataArray, CallFault>
     requires frame { IsFrame frame.now.axes.now frame.now.coords.now }
-    requires formed { IsCoordinate frame.now.axes.now coord.now }
-    ensures answers { AnswersArray plan.new result (of.coord_as_array frame.now.coords.now coord.now) }
+    requires formed { IsCoordinate frame.now.axes.now coord }
+    ensures answers { AnswersArray plan.new result (of.coord_as_array frame.now.coords.now coord) }
     ensures grows { Grows plan.old plan.new }
     ensures room { IfOk result (λ b. AddsForAny plan.old plan.new (array_in plan.new b)) }
 {
-    match &coord.content {
+    let Coord {
+        name,
+        axes,
+        attrs,
+        content,
+    } = coord;
+    match content {
         Content::Cells(cells, masked) => {
-            Ok(cells_as_array(alloc, plan, frame, coord, cells, *masked)?)
+            let coords = coords_over(alloc, axes.as_slice(), frame.coords)?;
+            let kind = cells.kind();
+            let node = plan.push(Node::Source { cells })?;
+            Ok(DataArray {
+                name: Some(name),
+                axes,
+                kind,
+                masked,
+                attrs,
+                coords,
+                node,
+            })
         }
-        _ => Err(CallFault::Refused(Fault::WrongKind)),
+        Content::Text(_text) => Err(CallFault::Refused(Fault::WrongKind)),
+        Content::Time(_coding, _seconds) => Err(CallFault::Refused(Fault::WrongKind)),
     }
 }
 
@@ -219,43 +202,27 @@ fn alone(alloc: Global, axis: &Axis) -> Result<Items<Axis>, AllocError>
     Ok(axes)
 }
 
-// The labels of an axis, with the coordinates along it.
-fn numbers_as_array(
+// The labels of an axis as a coordinate.
+fn label_coord(
     alloc: Global,
-    plan: &mut Plan,
-    frame: &Frame<'_>,
     axis: &Axis,
     attrs: &Items<Attr>,
     kind: DType,
     numbers: &Integers,
-) -> Result<DataArray, NoMemory>
-    requires frame { IsFrame frame.now.axes.now frame.now.coords.now }
-    requires there { IsThere frame.now.axes.now axis.now }
-    requires formed { IsDimension axis.now }
-    requires whole { length numbers.now ≡ axis.now.size }
-    requires labels { AreLabels (Numbers kind numbers.now) }
-    requires attrs { AreAttributes attrs.now }
-    ensures array { IfOk result (IsMade plan.new (labels_array frame.now.coords.now axis.now attrs.now kind numbers.now)) }
-    ensures grows { Grows plan.old plan.new }
-    ensures room { IfOk result (λ b. AddsForAny plan.old plan.new (array_in plan.new b)) }
+) -> Result<Coord, AllocError>
+    requires integer { is_integer_kind kind ≡ true }
+    requires range { All (InRange kind) numbers.now }
+    ensures { IfOk result (λ c. c ≡ label_coord axis.now attrs.now kind numbers.now) }
 {
-    let name = axis.name.deep_copy(alloc)?;
-    let axes = alone(alloc, axis)?;
-    let attrs = attrs.deep_copy(alloc)?;
-    let coords = coords_over(alloc, axes.as_slice(), frame.coords)?;
-    let source = numbers_array(alloc, kind, numbers)?;
-    let node = plan.push(Node::Source { cells: source })?;
-    Ok(DataArray {
-        name: Some(name),
-        axes,
-        kind,
-        masked: false,
-        attrs,
-        coords,
-        node,
+    Ok(Coord {
+        name: axis.name.deep_copy(alloc)?,
+        axes: alone(alloc, axis)?,
+        attrs: attrs.deep_copy(alloc)?,
+        content: Content::Cells(numbers_array(alloc, kind, numbers)?, false),
     })
 }
 
+#[tactic(auto, using(crate::proofs::Picked::label_coordinate))]
 fn list_as_array(
     alloc: Global,
     plan: &mut Plan,
@@ -273,7 +240,8 @@ fn list_as_array(
 {
     match &labels.list {
         LabelList::Numbers(kind, numbers) => {
-            Ok(numbers_as_array(alloc, plan, frame, axis, &labels.attrs, *kind, numbers)?)
+            let coord = label_coord(alloc, axis, &labels.attrs, *kind, numbers)?;
+            coord_as_array(alloc, plan, frame, coord)
         }
         _ => Err(CallFault::Refused(Fault::WrongKind)),
     }
@@ -342,7 +310,10 @@ fn coordinate_of(
     ensures room { IfOk result (λ found. IfSome found (λ b. AddsForAny plan.old plan.new (array_in plan.new b))) }
 {
     match find_coord(frame.coords, name) {
-        Some(coord) => Ok(Some(coord_as_array(alloc, plan, frame, coord)?)),
+        Some(coord) => {
+            let coord = copy_coord(alloc, coord)?;
+            Ok(Some(coord_as_array(alloc, plan, frame, coord)?))
+        }
         None => index_of(alloc, plan, frame, name),
     }
 }
@@ -387,7 +358,7 @@ fn other_of_set(
 /// # Errors
 /// `WrongKind` for a coordinate or an index of texts or times; `NotLoaded` for a variable that wasn't loaded, and
 /// `NoVariable` for any other name.
-#[tactic(auto, using(plan_core::proofs::Added::adds_none))]
+#[tactic(auto, using(crate::proofs::Picked::not_called, plan_core::proofs::Added::adds_none))]
 pub fn pick_of_set(
     alloc: Global,
     plan: &mut Plan,

@@ -7,20 +7,15 @@ ghost use Rattle.xr_defs.specs.Parts as of;
 ghost use Rattle.xr_values.specs.Meaning.{meaning, given};
 
 use std::alloc::Global;
-use xr_arguments::as_text;
+use xr_arguments::{as_text, texts_in};
 use xr_types::{CallFault, DeepCopy, Fault, Items, TextBytes};
 use xr_values::{Args, Value};
 
 /// Whether a name is one of these.
-pub(crate) fn is_among(names: &[TextBytes], name: &TextBytes) -> bool
+pub fn is_among(names: &[TextBytes], name: &TextBytes) -> bool
     ensures { result ≡ among names.now name.now }
 {
-    for other in names {
-        if name.is(other) {
-            return true;
-        }
-    }
-    false
+    names.iter().any(|other| name.is(other))
 }
 
 /// The texts of values.
@@ -36,7 +31,7 @@ pub(crate) fn as_texts(alloc: Global, values: &[Value]) -> Result<Items<TextByte
 }
 
 // The names that a text or a list of texts gives.
-#[tactic(auto, using(xr_arguments::proofs::Variants::is_text, xr_arguments::proofs::Variants::is_list, xr_values::proofs::Meaning::meaning_out, crate::proofs::Behind::names_listed), unfolding(xr_defs::specs::Parts::as_names))]
+#[tactic(auto, using(xr_arguments::proofs::Variants::is_text, xr_arguments::proofs::Variants::is_list, xr_values::proofs::Meaning::meaning_out), unfolding(xr_defs::specs::Parts::as_names))]
 fn as_names(alloc: Global, value: &Value) -> Result<Items<TextBytes>, CallFault>
     ensures { (nodes : List Node) → Answers (λ ts. ts) result (of.as_names (meaning nodes value.now)) }
 {
@@ -46,7 +41,7 @@ fn as_names(alloc: Global, value: &Value) -> Result<Items<TextBytes>, CallFault>
             names.push(text.deep_copy(alloc)?)?;
             Ok(names)
         }
-        Value::List(values) => as_texts(alloc, values.as_slice()),
+        Value::List(values) => texts_in(alloc, values.as_slice()),
         _ => Err(CallFault::Refused(Fault::WrongKind)),
     }
 }

@@ -29,7 +29,7 @@ use Rattle.xr_reducing.specs.declared.realized.SetMade.{SetMade}
 use Rattle.xr_reducing.specs.declared.realized.VarMade.{VarMade}
 use Rattle.xr_reducing.specs.Reduced.{charless, chars_out, check_each, check_each_size, check_over, framed_in, is_busy, is_made_busy, set_made, var_made, IsFrameIn}
 use Rattle.xr_reducing.specs.Sets.{set_made_in, var_made_in, IsSetMade, IsVarFit}
-use Rattle.xr_reducing.proofs.Idle.{has_axis, has_dim, idle_formed, labelled_left, left, sizes_left, vars_have, IsLoose}
+use Rattle.xr_parts.proofs.Idle.{has_axis, has_dim, idle_formed, labelled_left, left, sizes_left, vars_have, IsLoose}
 use Rattle.xr_reducing.proofs.OneVariable.{var_makes, within_span, IsVarReduced}
 use Rattle.xr_reducing.proofs.Reduced.{attrs_left, cells_passed, size_passed}
 use Rattle.xr_reducing.proofs.Staying.{fewer, frame_left}

@@ -2,7 +2,6 @@ pub mod Products
 pub mod Folded
 pub mod Staying
 pub mod Reduced
-pub mod Idle
 pub mod Growing
 pub mod Placing
 pub mod OneVariable

@@ -2,14 +2,13 @@
 ghost use Rattle.std.specs.Prelude.{◌≡◌, ◌++◌, map, filter, IfOk, OnOk};
 ghost use Rattle.std.specs.List.{list_all};
 ghost use Rattle.xr_types.specs.Names.{axis_names};
-ghost use Rattle.xr_defs.specs.Building.{equal_labels, have_one_calendar};
+ghost use Rattle.xr_defs.specs.Building.{equal_labels};
 ghost use Rattle.xr_combination.specs.Combine as calls;
 
 use crate::lookup::list_called;
-use align_join::same_labels;
+use align_join::equal_labels;
 use std::alloc::{AllocError, Global};
 use xr_types::{Axis, DeepCopy, Items, LabelList, Name};
-use xr_values::same_calendar;
 
 /// The labels along a dimension, of each that has an index there.
 pub(crate) fn lists_along<'a>(
@@ -29,23 +28,6 @@ pub(crate) fn lists_along<'a>(
 }
 
 // ---- lists that differ
-
-fn have_one_calendar(a: &LabelList, b: &LabelList) -> bool
-    ensures { result ≡ have_one_calendar a.now b.now }
-{
-    match (a, b) {
-        (LabelList::Times(a, _), LabelList::Times(b, _)) => {
-            same_calendar(a.units.calendar, b.units.calendar)
-        }
-        _ => true,
-    }
-}
-
-fn equal_labels(a: &LabelList, b: &LabelList) -> bool
-    ensures { result ≡ equal_labels a.now b.now }
-{
-    have_one_calendar(a, b) && same_labels(a, b)
-}
 
 fn all_equal(first: &LabelList, others: &[&LabelList]) -> bool
     ensures { result ≡ list_all (equal_labels first.now) (map (λ l. l.now) others.now) }

@@ -1,38 +1,15 @@
 -- What a result carries is well formed where its operands are.
-use Rattle.std.proofs.Common.{◌≡◌, ℕ, Bool, true, false, not, ◌&&◌, ◌||◌, cond, List, [], ◌∷◌, ◌++◌, map, filter, Option, None, MatchOption, refl, sym, ap, subst, ◌∙◌}
-use Rattle.std.specs.Prelude.{flat_map, ⊤}
-use Rattle.std.specs.Str.{bytes_eq}
-use Rattle.std.specs.List.{list_all, AllByRecursion}
-use Rattle.std.proofs.lemmas.Bool.{and_parts, and_from, or_parts, not-true, not_from_false}
-use Rattle.xr_types.specs.declared.attr.Attr.{Attr}
-use Rattle.xr_types.specs.declared.axis.Axis.{Axis}
-use Rattle.xr_defs.specs.declared.value.Coord.{Coord}
-use Rattle.xr_types.specs.Names.{among, are_distinct, axis_names}
-use Rattle.xr_files.specs.Classic.{is_name}
+use Rattle.xr_values.proofs.Common.{All-weaker, AllByRecursion, AreAttributes, AreDimensions, Attr, Axis, Bool, Carry, Coord, IsAttribute, IsCoordinate, List, MatchOption, None, Option, [], among, and_from, and_parts, ap, are_distinct, attr_rule, axis_names, bytes_eq, carried, cond_both, coord_rule, coords_among, false, filter, filter_passes, first_attrs, first_called, first_name, first_named, flat_map, has_place, is_agreed, is_name, is_shared, joined_attrs, joined_coord, list_all, list_any-append, map, map-map, name_rule, named_as, names_fill, names_of, not, not-true, not_from_false, or_from, or_parts, recursion_from_All, refl, same_name, shared_attrs, shared_name, stands, subst, sym, true, ℕ, ⊤, ◌++◌, ◌||◌, ◌∙◌, ◌∷◌, ◌≡◌}
 use Rattle.xr_defs.specs.Selecting.{axis_called}
 use Rattle.xr_defs.specs.Values as of
-use Rattle.xr_defs.specs.Values.{names_fill}
-use Rattle.xr_defs.specs.declared.carrying.Carry.{Carry}
 use Rattle.xr_defs.specs.declared.carrying.Carry.TheVariants.{Keep, Method, Binary, Where, First}
-use Rattle.xr_defs.specs.Carrying.{attr_rule, attrs_among, carried, coord_rule, coords_among, first_attrs, first_called, first_name, first_named, has_place, is_agreed, is_shared, joined_attrs, joined_coord, name_among, name_rule, named_as, same_name, shared_attrs, shared_name, stands}
 use Rattle.xr_defs.specs.Carries.{AreParts, IsOperand, Shares}
-use Rattle.xr_defs.specs.WellFormed.{AreAttributes, AreDimensions, IsAttribute, IsCoordinate, names_of}
-use Rattle.xr_arrays.specs.declared.node.Node.{Node}
-use Rattle.xr_defs.specs.declared.carrying.Parts.{Parts}
-use Rattle.xr_values.specs.declared.data_array.DataArray.{DataArray}
-use Rattle.xr_values.specs.Stands.{array_in}
-use Rattle.xr_values.specs.Carrying.{the_attrs, the_coords, the_names}
 use Rattle.xr_values.proofs.Named.{bytes_eq_swap}
-use Rattle.xr_values.proofs.Carried.{in_any_plan, no_first, no_first_attr, one_first, one_first_attr}
 
 module _ {X : Type 0} (P Q : X → Type 0) (p : X → Bool) (gives : (x : X) → p x ≡ true → P x → Q x) where
   filtered : (xs : List X) → AllByRecursion P xs → AllByRecursion Q (filter p xs)
   filtered [] all = tt
-  filtered (x ∷ xs) all = by (p x) refl (filtered xs all.1)
-    where
-      by : (b : Bool) → p x ≡ b → AllByRecursion Q (filter p xs) → AllByRecursion Q (cond b (x ∷ filter p xs) (filter p xs))
-      by true e rest = (gives x e all.0, rest)
-      by false e rest = rest
+  filtered (x ∷ xs) all = cond_both (p x) (x ∷ filter p xs) (filter p xs) (AllByRecursion Q) (λ e. (gives x e all.0, filtered xs all.1)) (λ e. filtered xs all.1)
 
 mapped : {X Y : Type 0} (P : X → Type 0) (Q : Y → Type 0) (f : X → Y) → ((x : X) → P x → Q (f x)) → (xs : List X) → AllByRecursion P xs → AllByRecursion Q (map f xs)
 mapped P Q f gives [] all = tt
@@ -42,48 +19,37 @@ both_lists : {X : Type 0} (P : X → Type 0) (xs ys : List X) → AllByRecursion
 both_lists P [] ys all_xs all_ys = all_ys
 both_lists P (x ∷ xs) ys all_xs all_ys = (all_xs.0, both_lists P xs ys all_xs.1 all_ys)
 
-passes_all : {X : Type 0} (p : X → Bool) (xs : List X) → list_all p (filter p xs) ≡ true
-passes_all p [] = refl
-passes_all p (x ∷ xs) = by (p x) refl (passes_all p xs)
-  where
-    by : (b : Bool) → p x ≡ b → list_all p (filter p xs) ≡ true → list_all p (cond b (x ∷ filter p xs) (filter p xs)) ≡ true
-    by true e rest = and_from (p x) (list_all p (filter p xs)) e rest
-    by false e rest = rest
-
 -- ---- the first of each name
 
 module _ {X : Type 0} (name : X → List ℕ) where
   abbrev named : X → X → Bool
   named x y = bytes_eq (name y) (name x)
 
-  -- the two ways to say that a name is new
-  new_test : (xs : List X) (x : X) → not (among (map name xs) (name x)) ≡ list_all (λ y. not (named x y)) xs
-  new_test [] x = refl
-  new_test (y ∷ xs) x = ap (λ t. not (t || among (map name xs) (name x))) (bytes_eq_swap (name x) (name y)) ∙ by (named x y) (new_test xs x)
-    where
-      by : (t : Bool) → not (among (map name xs) (name x)) ≡ list_all (λ y. not (named x y)) xs → not (t || among (map name xs) (name x)) ≡ (not t && list_all (λ y. not (named x y)) xs)
-      by true rest = refl
-      by false rest = rest
+  -- none is left that has its name
+  none_left : (x : X) (xs : List X) → among (map name (filter (λ y. not (named x y)) xs)) (name x) ≡ false
+  none_left x [] = refl
+  none_left x (y ∷ xs) =
+      let left = filter (λ z. not (named x z)) xs in
+      cond_both (not (named x y)) (y ∷ left) left (λ ys. among (map name ys) (name x) ≡ false)
+      (λ e. or_from (bytes_eq (name x) (name y)) (among (map name left) (name x)) (bytes_eq_swap (name x) (name y) ∙ not-true (named x y) e) (none_left x xs))
+      (λ e. none_left x xs)
 
   absent_filtered : (p : X → Bool) (xs : List X) (n : List ℕ) → among (map name xs) n ≡ false → among (map name (filter p xs)) n ≡ false
   absent_filtered p [] n absent = refl
   absent_filtered p (x ∷ xs) n absent =
       let parts = or_parts (bytes_eq n (name x)) (among (map name xs) n) absent in
-      by (p x) parts.0 (absent_filtered p xs n parts.1)
-    where
-      by : (b : Bool) → bytes_eq n (name x) ≡ false → among (map name (filter p xs)) n ≡ false → among (map name (cond b (x ∷ filter p xs) (filter p xs))) n ≡ false
-      by true other rest = ap (λ t. t || among (map name (filter p xs)) n) other ∙ rest
-      by false other rest = rest
+      let rest = absent_filtered p xs n parts.1 in
+      cond_both (p x) (x ∷ filter p xs) (filter p xs) (λ ys. among (map name ys) n ≡ false) (λ e. or_from (bytes_eq n (name x)) (among (map name (filter p xs)) n) parts.0 rest) (λ e. rest)
 
   distinct_filtered : (p : X → Bool) (xs : List X) → are_distinct (map name xs) ≡ true → are_distinct (map name (filter p xs)) ≡ true
   distinct_filtered p [] distinct = refl
   distinct_filtered p (x ∷ xs) distinct =
       let parts = and_parts (not (among (map name xs) (name x))) (are_distinct (map name xs)) distinct in
-      by (p x) (absent_filtered p xs (name x) (not-true (among (map name xs) (name x)) parts.0)) (distinct_filtered p xs parts.1)
-    where
-      by : (b : Bool) → among (map name (filter p xs)) (name x) ≡ false → are_distinct (map name (filter p xs)) ≡ true → are_distinct (map name (cond b (x ∷ filter p xs) (filter p xs))) ≡ true
-      by true absent rest = and_from (not (among (map name (filter p xs)) (name x))) (are_distinct (map name (filter p xs))) (not_from_false (among (map name (filter p xs)) (name x)) absent) rest
-      by false absent rest = rest
+      let rest = distinct_filtered p xs parts.1 in
+      let absent = absent_filtered p xs (name x) (not-true (among (map name xs) (name x)) parts.0) in
+      cond_both (p x) (x ∷ filter p xs) (filter p xs) (λ ys. are_distinct (map name ys) ≡ true)
+      (λ e. and_from (not (among (map name (filter p xs)) (name x))) (are_distinct (map name (filter p xs))) (not_from_false (among (map name (filter p xs)) (name x)) absent) rest)
+      (λ e. rest)
 
   module _ (first : List X → List X) (none : first [] ≡ []) (some : (x : X) (xs : List X) → first (x ∷ xs) ≡ x ∷ filter (λ y. not (named x y)) (first xs)) where
     first_distinct : (xs : List X) → are_distinct (map name (first xs)) ≡ true
@@ -92,7 +58,7 @@ module _ {X : Type 0} (name : X → List ℕ) where
         let others = filter (λ y. not (named x y)) (first xs) in
         ap (λ ys. are_distinct (map name ys)) (some x xs)
         ∙ and_from (not (among (map name others) (name x))) (are_distinct (map name others))
-        (new_test others x ∙ passes_all (λ y. not (named x y)) (first xs))
+        (not_from_false (among (map name others) (name x)) (none_left x (first xs)))
         (distinct_filtered (λ y. not (named x y)) (first xs) (first_distinct xs))
 
     firsts_all : (P : X → Type 0) (xs : List X) → AllByRecursion P xs → AllByRecursion P (first xs)
@@ -103,9 +69,6 @@ module _ {X : Type 0} (name : X → List ℕ) where
 
 abbrev attr_name : Attr → List ℕ
 attr_name a = a.name
-
-no_attributes : AreAttributes []
-no_attributes = record { each = tt; distinct = refl }
 
 fewer_attributes : (p : Attr → Bool) (attrs : List Attr) → AreAttributes attrs → AreAttributes (filter p attrs)
 fewer_attributes p attrs are = record {
@@ -118,12 +81,12 @@ in_all_lists [] all = tt
 in_all_lists (attrs ∷ lists) all = both_lists IsAttribute attrs (flat_map (λ attrs. attrs) lists) all.0.each (in_all_lists lists all.1)
 
 joined_formed : (lists : List (List Attr)) → AllByRecursion AreAttributes lists → AreAttributes (joined_attrs lists)
-unfolding shared_attrs
+unfolding shared_attrs first_called
 joined_formed lists all =
     let attrs = flat_map (λ attrs. attrs) lists in
     fewer_attributes (is_shared attrs) (first_called attrs) (record {
-      each = firsts_all attr_name first_called no_first_attr one_first_attr IsAttribute attrs (in_all_lists lists all);
-      distinct = first_distinct attr_name first_called no_first_attr one_first_attr attrs;
+      each = firsts_all attr_name first_called refl (λ a rest. refl) IsAttribute attrs (in_all_lists lists all);
+      distinct = first_distinct attr_name first_called refl (λ a rest. refl) attrs;
     })
 
 -- ---- a result's coordinates lie over its axes
@@ -167,9 +130,6 @@ homes axes [] all = tt
 homes axes (a ∷ arrays) all =
     both_lists (HasHome axes) a.coords (flat_map (λ (b : of.DataArray). b.coords) arrays) (homes_in axes a.axes a.coords all.0.1 all.0.0.coords) (homes axes arrays all.1)
 
-stands_placed : (axes : List Axis) (coords : List Coord) (c : Coord) → stands axes coords c ≡ true → has_place axes c ≡ true
-stands_placed axes coords c e = (and_parts (has_place axes c) (is_agreed coords c) e).0
-
 own_attrs : (axes : List Axis) (coords : List Coord) (c : Coord) → AllByRecursion (HasHome axes) coords → AllByRecursion AreAttributes (map (λ (d : Coord). d.attrs) (filter (named_as c) coords))
 own_attrs axes coords c all =
     mapped (HasHome axes) AreAttributes (λ (d : Coord). d.attrs) (λ d home. home.formed.attrs) (filter (named_as c) coords) (filtered (HasHome axes) (HasHome axes) (named_as c) (λ d e home. home) coords all)
@@ -186,19 +146,15 @@ rejoined axes coords c all is =
     }
 
 pub coords_settled : (axes : List Axis) (arrays : List of.DataArray) → AllByRecursion (IsOperand axes) arrays → AllByRecursion (IsCoordinate axes) (coord_rule arrays axes)
-unfolding coords_among
+unfolding coords_among first_named
 coords_settled axes arrays all =
     let coords = flat_map (λ (a : of.DataArray). a.coords) arrays in
     let own = homes axes arrays all in
     mapped (IsCoordinate axes) (IsCoordinate axes) (joined_coord coords) (λ c is. rejoined axes coords c own is) (filter (stands axes coords) (first_named coords))
-    (filtered (HasHome axes) (IsCoordinate axes) (stands axes coords) (λ c e home. settled axes c (stands_placed axes coords c e) home) (first_named coords)
-    (firsts_all coord_name first_named no_first one_first (HasHome axes) coords own))
+    (filtered (HasHome axes) (IsCoordinate axes) (stands axes coords) (λ c e home. settled axes c (and_parts (has_place axes c) (is_agreed coords c) e).0 home) (first_named coords)
+    (firsts_all coord_name first_named refl (λ c rest. refl) (HasHome axes) coords own))
 
 -- ---- their names differ
-
-names_joined : (whole coords : List Coord) → names_of (map (joined_coord whole) coords) ≡ names_of coords
-names_joined whole [] = refl
-names_joined whole (c ∷ coords) = ap (λ ns. c.name ∷ ns) (names_joined whole coords)
 
 -- none of these names is a dimension's
 abbrev NoAxis : List (List ℕ) → Coord → Type 0
@@ -211,38 +167,28 @@ no_name name names (c ∷ coords) all =
     let rest = no_name name names coords all.1 in
     (ap (λ t. t || among (names_of coords) name) (bytes_eq_swap name c.name ∙ parts.0) ∙ rest.0, (parts.1, rest.1))
 
-absent_both : (names more : List (List ℕ)) (name : List ℕ) → among names name ≡ false → among more name ≡ false → among (names ++ more) name ≡ false
-absent_both [] more name first second = second
-absent_both (n ∷ names) more name first second =
-    let parts = or_parts (bytes_eq name n) (among names name) first in
-    ap (λ t. t || among (names ++ more) name) parts.0 ∙ absent_both names more name parts.1 second
-
 distinct_both : (names : List (List ℕ)) (coords : List Coord) → are_distinct names ≡ true → are_distinct (names_of coords) ≡ true → AllByRecursion (NoAxis names) coords → are_distinct (names ++ names_of coords) ≡ true
 distinct_both [] coords first second all = second
 distinct_both (n ∷ names) coords first second all =
     let parts = and_parts (not (among names n)) (are_distinct names) first in
     let other = no_name n names coords all in
     and_from (not (among (names ++ names_of coords) n)) (are_distinct (names ++ names_of coords))
-    (not_from_false (among (names ++ names_of coords) n) (absent_both names (names_of coords) n (not-true (among names n) parts.0) other.0))
+    (not_from_false (among (names ++ names_of coords) n) (list_any-append (bytes_eq n) names (names_of coords) ∙ or_from (among names n) (among (names_of coords) n) (not-true (among names n) parts.0) other.0))
     (distinct_both names coords parts.1 second other.1)
 
 no_axis : (axes : List Axis) (c : Coord) → has_place axes c ≡ true → NoAxis (axis_names axes) c
 unfolding has_place
 no_axis axes c place = not-true (among (axis_names axes) c.name) (and_parts (not (among (axis_names axes) c.name)) (list_all (among (axis_names axes)) (axis_names c.axes)) place).0
 
-anything : {X : Type 0} (xs : List X) → AllByRecursion (λ x. ⊤) xs
-anything [] = tt
-anything (x ∷ xs) = (tt, anything xs)
-
 pub coords_distinct : (axes : List Axis) (arrays : List of.DataArray) → are_distinct (axis_names axes) ≡ true → are_distinct (axis_names axes ++ names_of (coord_rule arrays axes)) ≡ true
-unfolding coords_among
+unfolding coords_among first_named
 coords_distinct axes arrays distinct =
     let coords = flat_map (λ (a : of.DataArray). a.coords) arrays in
     let kept = filter (stands axes coords) (first_named coords) in
-    ap (λ ns. are_distinct (axis_names axes ++ ns)) (names_joined coords kept)
+    ap (λ ns. are_distinct (axis_names axes ++ ns)) (map-map coord_name (joined_coord coords) kept)
     ∙ distinct_both (axis_names axes) kept distinct
-    (distinct_filtered coord_name (stands axes coords) (first_named coords) (first_distinct coord_name first_named no_first one_first coords))
-    (filtered (λ c. ⊤) (NoAxis (axis_names axes)) (stands axes coords) (λ c e any. no_axis axes c (stands_placed axes coords c e)) (first_named coords) (anything (first_named coords)))
+    (distinct_filtered coord_name (stands axes coords) (first_named coords) (first_distinct coord_name first_named refl (λ c rest. refl) coords))
+    (recursion_from_All (NoAxis (axis_names axes)) kept (All-weaker (λ c. stands axes coords c ≡ true) (NoAxis (axis_names axes)) (λ c e. no_axis axes c (and_parts (has_place axes c) (is_agreed coords c) e).0) kept (filter_passes (stands axes coords) (first_named coords))))
 
 -- ---- names and attributes
 
@@ -255,11 +201,7 @@ first_is_named axes (a ∷ arrays) all = all.0.0.name
 
 shared_is_named : (axes : List Axis) (arrays : List of.DataArray) → AllByRecursion (IsOperand axes) arrays → IsNamed (shared_name (map (λ (a : of.DataArray). a.name) arrays))
 shared_is_named axes [] all = tt
-shared_is_named axes (a ∷ arrays) all = by (list_all (same_name a.name) (map (λ (b : of.DataArray). b.name) arrays))
-  where
-    by : (b : Bool) → IsNamed (cond b a.name None)
-    by true = all.0.0.name
-    by false = tt
+shared_is_named axes (a ∷ arrays) all = cond_both (list_all (same_name a.name) (map (λ (b : of.DataArray). b.name) arrays)) a.name None IsNamed (λ e. all.0.0.name) (λ e. tt)
 
 name_formed : (how : Carry) (axes : List Axis) (arrays : List of.DataArray) → AllByRecursion (IsOperand axes) arrays → IsNamed (name_rule how arrays)
 name_formed Keep axes arrays all = first_is_named axes arrays all
@@ -269,7 +211,7 @@ name_formed Binary axes arrays all = shared_is_named axes arrays all
 name_formed First axes arrays all = shared_is_named axes arrays all
 
 first_attributes : (axes : List Axis) (arrays : List of.DataArray) → AllByRecursion (IsOperand axes) arrays → AreAttributes (first_attrs (map (λ (a : of.DataArray). a.attrs) arrays))
-first_attributes axes [] all = no_attributes
+first_attributes axes [] all = record { each = tt; distinct = refl }
 first_attributes axes (a ∷ arrays) all = all.0.0.attrs
 
 joined_attributes : (axes : List Axis) (arrays : List of.DataArray) → AllByRecursion (IsOperand axes) arrays → AreAttributes (joined_attrs (map (λ (a : of.DataArray). a.attrs) arrays))
@@ -291,9 +233,3 @@ carried_formed how arrays axes dimensions all =
       coords = coords_settled axes arrays all;
       distinct = coords_distinct axes arrays dimensions.distinct;
     }
-
--- and so is what the program makes of its own arrays
-pub parts_formed : (nodes : List Node) (how : Carry) (arrays : List DataArray) (axes : List Axis) (p : Parts)
-    → p ≡ record { name = name_among how (the_names arrays); attrs = attrs_among how (the_attrs arrays); coords = coords_among axes (the_coords arrays) }
-    → AreDimensions axes → AllByRecursion (IsOperand axes) (map (array_in nodes) arrays) → AreParts axes p
-parts_formed nodes how arrays axes p is dimensions all = subst (AreParts axes) (sym (in_any_plan nodes how arrays axes p is)) (carried_formed how (map (array_in nodes) arrays) axes dimensions all)

@@ -1,12 +1,6 @@
 -- Cells beside their mask, and lists of cells that are compared from the left.
-use Rattle.std.proofs.Common.{◌≡◌, ◌<◌, ◌+◌, ℕ, ℤ, zero, suc, Bool, true, false, ◌&&◌, List, [], ◌∷◌, length, map, drop, get_or, Option, Some, None, MatchOption, Bor, refl, sym, ap, subst, ◌∙◌, arith, drop-cons, add-one}
-use Rattle.std.proofs.lemmas.Bool.{cond-false, ne_eqb}
-use Rattle.std.proofs.lemmas.List.{length-map}
+use Rattle.xr_values.proofs.Common.{Bool, Bor, List, MatchOption, None, Option, Some, [], add-one, and_right, ap, arith, cell, cond-false, drop, drop-cons, false, get_or, get_or_default, hidden, length, length-map, map, nat_eq, ne_eqb, option_map, pointwise, refl, same_cell, subst, suc, sym, true, zero, zip, ℕ, ℤ, ⊤, ◌&&◌, ◌+◌, ◌<◌, ◌∙◌, ◌∷◌, ◌≡◌}
 use Rattle.std.proofs.Math.Seq.{drop-length}
-use Rattle.std.specs.Prelude.{zip, option_map, nat_eq, ⊤}
-use Rattle.std.specs.Cmp.Lexicographic.{pointwise}
-use Rattle.xr_arrays.specs.Arrays.{hidden, cell}
-use Rattle.xr_defs.specs.Carrying.{same_cell}
 
 abbrev pub of_mask : Option (Bor (List ℕ)) → Option (List ℕ)
 of_mask mask = option_map (λ m. m.now) mask
@@ -37,9 +31,9 @@ module _ {X : Type 0} (f : X → ℤ) where
 
   hidden_at : (xs : List X) (bytes : List ℕ) (i : ℕ) → i < length xs → length bytes ≡ length xs → (get_or bytes i 0 ≡ 0 → ⊥) → None ≡ get_or (map cell (zip (map f xs) bytes)) i None
   hidden_at [] bytes i lt long other = absurd (omega arith)
-  hidden_at (y ∷ ys) [] i lt long other = absurd (omega arith)
-  hidden_at (y ∷ ys) (b ∷ bs) zero lt long other = sym (cond-false (nat_eq b 0) (Some (f y)) None (ne_eqb b 0 other))
-  hidden_at (y ∷ ys) (b ∷ bs) (suc i) lt long other = hidden_at ys bs i (omega arith) (omega arith) other
+  hidden_at (y ∷ ys) bytes i lt long other =
+      let x = get_or (y ∷ ys) i y in
+      sym (cond-false (nat_eq (get_or bytes i 0) 0) (Some (f x)) None (ne_eqb (get_or bytes i 0) 0 other)) ∙ masked_at (y ∷ ys) bytes i x lt long (get_or_default (y ∷ ys) i y x lt)
 
   pub masked_off : (xs : List X) (mask : Option (Bor (List ℕ))) (b : Bor (List ℕ)) (i : ℕ) → mask ≡ Some b → Fits xs mask → i < length xs → (get_or b.now i 0 ≡ 0 → ⊥) → None ≡ get_or (hidden (map f xs) (of_mask mask)) i None
   masked_off xs mask b i some fits lt other =
@@ -63,11 +57,7 @@ pub other_length : (xs ys : List (Option ℤ)) → (length xs ≡ length ys → 
 other_length [] [] other = absurd (other refl)
 other_length [] (y ∷ ys) other = refl
 other_length (x ∷ xs) [] other = refl
-other_length (x ∷ xs) (y ∷ ys) other = by (same_cell x y) (other_length xs ys (λ e. other (ap suc e)))
-  where
-    by : (b : Bool) → false ≡ same_cells xs ys → false ≡ (b && same_cells xs ys)
-    by true rest = rest
-    by false rest = refl
+other_length (x ∷ xs) (y ∷ ys) other = sym (and_right (same_cell x y) (same_cells xs ys) (sym (other_length xs ys (λ e. other (ap suc e)))))
 
 from_here : (xs ys : List (Option ℤ)) (i : ℕ) → i < length xs → i < length ys → same_cells (drop i xs) (drop i ys) ≡ (same_cell (get_or xs i None) (get_or ys i None) && same_cells (drop (i + 1) xs) (drop (i + 1) ys))
 from_here xs ys i below_xs below_ys =

@@ -1,20 +1,9 @@
 -- What arrays and datasets of a plan stand for is kept while the plan grows, and what stands for a node that was added.
-use Rattle.std.proofs.Common.{◌≡◌, ◌<◌, ℕ, ℤ, List, [], ◌∷◌, length, map, Option, All, refl, sym, ap, subst, ◌∙◌, arith, length-append}
-use Rattle.std.proofs.lemmas.List.Elements.{All-head, All-tail, All-weaker}
+use Rattle.xr_values.proofs.Common.{All, All-head, All-tail, All-weaker, Array, DataArray, Grows, IsArrayIn, IsDataArray, IsDataset, IsDatasetIn, IsNodeOf, List, Node, Option, Pushes, Variable, [], ap, arith, array_in, array_of, dataset_in, length, length-append, map, node_value, refl, shape_named, shape_over, subst, sym, value, values, variable_in, with_cells, ℕ, ℤ, ◌<◌, ◌∙◌, ◌∷◌, ◌≡◌}
 use Rattle.xr_types.specs.declared.kind.DType.{DType}
-use Rattle.xr_arrays.specs.Arrays.{Array}
-use Rattle.xr_arrays.specs.Nodes.{node_value, values, value, Pushes}
 use Rattle.xr_defs.specs.Values as of
-use Rattle.xr_types.specs.Names.{shape_over}
-use Rattle.xr_defs.specs.Values.{array_of}
-use Rattle.xr_arrays.specs.declared.node.Node.{Node}
-use Rattle.plan_core.specs.Plans.{Grows}
 use Rattle.plan_core.proofs.Plans.{grown-length, grown_value, values-length}
-use Rattle.xr_values.specs.declared.data_array.DataArray.{DataArray}
-use Rattle.xr_values.specs.declared.variable.Variable.{Variable}
 use Rattle.xr_values.specs.declared.dataset.Dataset.{Dataset}
-use Rattle.xr_defs.specs.WellFormed.{IsDataArray, IsDataset}
-use Rattle.xr_values.specs.Stands.{array_in, with_cells, variable_in, dataset_in, shape_named, IsNodeOf, IsArrayIn, IsDatasetIn}
 
 -- ---- nodes
 
@@ -53,22 +42,17 @@ array_value nodes a is = let v = value nodes a.node in by v.kind v.shape is.node
 
 -- ---- datasets
 
-variables_kept : (old new : List Node) (s : Dataset) (vs : List Variable) → Grows old new → All (λ (v : Variable). IsNodeOf old v.node (shape_named s v) v.kind) vs → map (variable_in new) vs ≡ map (variable_in old) vs
-variables_kept old new s [] g all = refl
-variables_kept old new s (v ∷ vs) g all =
-    let first = All-head (λ (v : Variable). IsNodeOf old v.node (shape_named s v) v.kind) v vs all in
-    let rest = variables_kept old new s vs g (All-tail (λ (v : Variable). IsNodeOf old v.node (shape_named s v) v.kind) v vs all) in
-    ap (λ w. w ∷ map (variable_in new) vs) (variable_kept first) ∙ ap (λ ws. variable_in old v ∷ ws) rest
-  where
-    variable_kept : IsNodeOf old v.node (shape_named s v) v.kind → variable_in new v ≡ variable_in old v
-    variable_kept is = ap (λ (x : Array). of_cells x.cells) (grown_value old new v.node g is.placed)
-      where
-        of_cells : List (Option ℤ) → of.Variable
-        of_cells cells = record { name = v.name; dims = v.dims; kind = v.kind; masked = v.masked; attrs = v.attrs; cells = cells }
+pub map_kept : {X Y : Type 0} (P : X → Type 0) (f g : X → Y) → ((x : X) → P x → f x ≡ g x) → (xs : List X) → All P xs → map f xs ≡ map g xs
+map_kept P f g same [] all = refl
+map_kept P f g same (x ∷ xs) all = ap (λ y. y ∷ map f xs) (same x (All-head P x xs all)) ∙ ap (λ ys. g x ∷ ys) (map_kept P f g same xs (All-tail P x xs all))
 
 pub dataset_kept : (old new : List Node) (s : Dataset) → Grows old new → IsDatasetIn old s → dataset_in new s ≡ dataset_in old s
-dataset_kept old new s g is = ap with_vars (variables_kept old new s s.vars g is.nodes_of)
+dataset_kept old new s g is =
+    ap with_vars (map_kept (λ (v : Variable). IsNodeOf old v.node (shape_named s v) v.kind) (variable_in new) (variable_in old) (λ v at. ap (λ (x : Array). of_cells v x.cells) (grown_value old new v.node g at.placed)) s.vars is.nodes_of)
   where
+    of_cells : Variable → List (Option ℤ) → of.Variable
+    of_cells v cells = record { name = v.name; dims = v.dims; kind = v.kind; masked = v.masked; attrs = v.attrs; cells = cells }
+
     with_vars : List of.Variable → of.Dataset
     with_vars vs = record { axes = s.axes; coords = s.coords; vars = vs; attrs = s.attrs; skipped = s.skipped }
 

@@ -1,10 +1,11 @@
-pub mod Named
-pub mod Grown
-pub mod Trees
-pub mod Meaning
-pub mod Equal
-pub mod Firsts
 pub mod Carried
 pub mod Carries
+pub mod Common
+pub mod Equal
+pub mod Firsts
+pub mod Grown
+pub mod Meaning
+pub mod Named
 pub mod Places
 pub mod Rooms
+pub mod Trees

@@ -1,19 +1,10 @@
 -- Variables by their names: what a map of them finds and puts.
-use Rattle.std.proofs.Common.{◌≡◌, ℕ, Bool, true, false, not, ◌||◌, cond, List, [], ◌∷◌, ◌++◌, refl, sym, ap, ◌∙◌, Some, String, All, find, if◌then◌else◌}
-use Rattle.std.proofs.lemmas.Bool.{and_parts, and_from, or_parts, not-true, not_from_false, cond-true, cond-false}
-use Rattle.std.proofs.lemmas.Bool.Decides.{same_from_decides}
-use Rattle.std.proofs.lemmas.List.{append_assoc, append-nil}
-use Rattle.std.proofs.lemmas.List.Elements.{All-nil, All-cons, All-head, All-tail}
-use Rattle.std.proofs.lemmas.Slice.Eq.{bytes_eq-Decides}
-use Rattle.std.specs.Prelude.{string_bytes}
-use Rattle.std.specs.Str.{bytes_eq}
+use Rattle.xr_values.proofs.Common.{All, All-cons, All-head, All-nil, All-tail, AreNamed, Bool, Entry, IsNamed, List, Some, String, Variable, [], among, and_from, and_parts, ap, append-nil, append_assoc, are_distinct, bytes_eq, bytes_eq-Decides, cond, cond-false, cond_both, false, find, in_order, not, not-true, not_from_false, or_from, or_parts, refl, same_from_decides, string_bytes, sym, true, with_variable, with_variables, ℕ, ◌++◌, ◌||◌, ◌∙◌, ◌∷◌, ◌≡◌}
+use Rattle.std.proofs.Common.{if◌then◌else◌}
 use Rattle.std.specs.Map.{lookup}
 use Rattle.std.specs.declared.alloc.Global.{Global}
 use Rattle.indexmap.specs.IndexMap.{insert_entry}
-use Rattle.xr_types.specs.Names.{among}
-use Rattle.xr_types.specs.Names.{are_distinct}
-use Rattle.xr_values.specs.declared.variable.Variable.{Variable}
-use Rattle.xr_values.specs.Variables.{Entry, in_order, names_of, IsNamed, AreNamed, with_variable, with_variables}
+use Rattle.xr_values.specs.Variables.{names_of}
 
 pub bytes_eq_swap : (a b : List ℕ) → bytes_eq a b ≡ bytes_eq b a
 bytes_eq_swap a b = same_from_decides (bytes_eq a b) (bytes_eq b a) (bytes_eq-Decides a b) ((λ e. sym ((bytes_eq-Decides b a).0 e)), (λ e. (bytes_eq-Decides b a).1 (sym e)))
@@ -38,22 +29,19 @@ eq a b = bytes_eq (string_bytes a) (string_bytes b)
 pub puts : (es : List Entry) (key : String Global) (v : Variable) → string_bytes key ≡ v.name → All IsNamed es → in_order (insert_entry eq es key v) ≡ with_variable (in_order es) v
 puts [] key v is all = refl
 puts (e ∷ es) key v is all =
-    by (eq key e.0) (same_test e (string_bytes key) v.name is (All-head IsNamed e es all)) (puts es key v is (All-tail IsNamed e es all))
+    ap (λ b. in_order (if b then (e.0, v) ∷ es else e ∷ insert_entry eq es key v)) (same_test e (string_bytes key) v.name is (All-head IsNamed e es all)) ∙ by (bytes_eq e.1.name v.name) (puts es key v is (All-tail IsNamed e es all))
   where
-    by : (b : Bool) → b ≡ bytes_eq e.1.name v.name → in_order (insert_entry eq es key v) ≡ with_variable (in_order es) v
-        → in_order (if b then (e.0, v) ∷ es else e ∷ insert_entry eq es key v) ≡ with_variable (e.1 ∷ in_order es) v
-    by true same rest = sym (cond-true (bytes_eq e.1.name v.name) (v ∷ in_order es) (e.1 ∷ with_variable (in_order es) v) (sym same))
-    by false same rest = ap (λ vs. e.1 ∷ vs) rest ∙ sym (cond-false (bytes_eq e.1.name v.name) (v ∷ in_order es) (e.1 ∷ with_variable (in_order es) v) (sym same))
+    by : (b : Bool) → in_order (insert_entry eq es key v) ≡ with_variable (in_order es) v → in_order (if b then (e.0, v) ∷ es else e ∷ insert_entry eq es key v) ≡ (if b then v ∷ in_order es else (e.1 ∷ with_variable (in_order es) v))
+    by true rest = refl
+    by false rest = ap (λ vs. e.1 ∷ vs) rest
 
 named_on : (es : List Entry) (key : String Global) (v : Variable) → string_bytes key ≡ v.name → All IsNamed es → All IsNamed (insert_entry eq es key v)
 named_on [] key v is all = All-cons IsNamed (key, v) [] is (All-nil IsNamed)
 named_on (e ∷ es) key v is all =
-    by (eq key e.0) refl (All-head IsNamed e es all) (All-tail IsNamed e es all) (named_on es key v is (All-tail IsNamed e es all))
-  where
-    by : (b : Bool) → eq key e.0 ≡ b → IsNamed e → All IsNamed es → All IsNamed (insert_entry eq es key v)
-        → All IsNamed (if b then (e.0, v) ∷ es else e ∷ insert_entry eq es key v)
-    by true same one others rest = All-cons IsNamed (e.0, v) es (sym ((bytes_eq-Decides (string_bytes key) (string_bytes e.0)).0 same) ∙ is) others
-    by false same one others rest = All-cons IsNamed e (insert_entry eq es key v) one rest
+    let others = All-tail IsNamed e es all in
+    cond_both (eq key e.0) ((e.0, v) ∷ es) (e ∷ insert_entry eq es key v) (All IsNamed)
+    (λ same. All-cons IsNamed (e.0, v) es (sym ((bytes_eq-Decides (string_bytes key) (string_bytes e.0)).0 same) ∙ is) others)
+    (λ other. All-cons IsNamed e (insert_entry eq es key v) (All-head IsNamed e es all) (named_on es key v is others))
 
 -- ---- names stay distinct
 
@@ -61,26 +49,19 @@ among_with : (vs : List Variable) (v : Variable) (name : List ℕ) → bytes_eq 
 among_with [] v name other absent = ap (λ b. b || false) other
 among_with (w ∷ vs) v name other absent =
     let parts = or_parts (bytes_eq name w.name) (among (names_of vs) name) absent in
-    by (bytes_eq w.name v.name) parts (among_with vs v name other parts.1)
-  where
-    by : (b : Bool) → (bytes_eq name w.name ≡ false) × (among (names_of vs) name ≡ false) → among (names_of (with_variable vs v)) name ≡ false
-        → among (names_of (if b then v ∷ vs else (w ∷ with_variable vs v))) name ≡ false
-    by true parts rest = ap (λ b. b || among (names_of vs) name) other ∙ parts.1
-    by false parts rest = ap (λ b. b || among (names_of (with_variable vs v)) name) parts.0 ∙ rest
+    cond_both (bytes_eq w.name v.name) (v ∷ vs) (w ∷ with_variable vs v) (λ us. among (names_of us) name ≡ false)
+    (λ e. or_from (bytes_eq name v.name) (among (names_of vs) name) other parts.1)
+    (λ e. or_from (bytes_eq name w.name) (among (names_of (with_variable vs v)) name) parts.0 (among_with vs v name other parts.1))
 
 pub stay_distinct : (vs : List Variable) (v : Variable) → are_distinct (names_of vs) ≡ true → are_distinct (names_of (with_variable vs v)) ≡ true
 stay_distinct [] v all = refl
 stay_distinct (w ∷ vs) v all =
     let parts = and_parts (not (among (names_of vs) w.name)) (are_distinct (names_of vs)) all in
-    by (bytes_eq w.name v.name) refl parts (stay_distinct vs v parts.1)
-  where
-    by : (b : Bool) → bytes_eq w.name v.name ≡ b → (not (among (names_of vs) w.name) ≡ true) × (are_distinct (names_of vs) ≡ true) → are_distinct (names_of (with_variable vs v)) ≡ true
-        → are_distinct (names_of (if b then v ∷ vs else (w ∷ with_variable vs v))) ≡ true
-    by true same parts rest = ap (λ n. are_distinct (n ∷ names_of vs)) (sym ((bytes_eq-Decides w.name v.name).0 same)) ∙ all
-    by false same parts rest =
-        and_from (not (among (names_of (with_variable vs v)) w.name)) (are_distinct (names_of (with_variable vs v)))
-        (not_from_false (among (names_of (with_variable vs v)) w.name) (among_with vs v w.name same (not-true (among (names_of vs) w.name) parts.0)))
-        rest
+    cond_both (bytes_eq w.name v.name) (v ∷ vs) (w ∷ with_variable vs v) (λ us. are_distinct (names_of us) ≡ true)
+    (λ same. ap (λ n. are_distinct (n ∷ names_of vs)) (sym ((bytes_eq-Decides w.name v.name).0 same)) ∙ all)
+    (λ other. and_from (not (among (names_of (with_variable vs v)) w.name)) (are_distinct (names_of (with_variable vs v)))
+    (not_from_false (among (names_of (with_variable vs v)) w.name) (among_with vs v w.name other (not-true (among (names_of vs) w.name) parts.0)))
+    (stay_distinct vs v parts.1))
 
 pub stay_named : (es : List Entry) (key : String Global) (v : Variable) → string_bytes key ≡ v.name → AreNamed es → AreNamed (insert_entry eq es key v)
 stay_named es key v is named =

@@ -1,8 +1,6 @@
 -- Items by their places: those from a place on, and items that are put in the place of the first one that a test takes, or behind all.
-use Rattle.std.proofs.Common.{◌≡◌, ◌+◌, ◌<◌, ℕ, suc, Bool, true, false, List, [], ◌∷◌, ◌++◌, set, get_or, drop, drop-cons, Option, Some, None, refl, sym, ap, ◌∙◌, add-one, cond, length, arith}
-use Rattle.std.proofs.lemmas.Bool.Decides.{nat_tests}
-use Rattle.std.specs.Prelude.{option_map, not, nat_lt, if◌then◌else◌}
-use Rattle.std.specs.List.{position, position_or_len}
+use Rattle.xr_values.proofs.Common.{Bool, List, None, Option, Some, [], add-one, ap, arith, cond, drop, drop-cons, false, get_or, if◌then◌else◌, length, nat_lt, nat_tests, option_map, position, position_or_len, refl, set, suc, sym, true, ℕ, ◌++◌, ◌+◌, ◌<◌, ◌∙◌, ◌∷◌, ◌≡◌}
+use Rattle.std.specs.Prelude.{not}
 
 pub from_place : {X : Type 0} (xs : List X) (i : ℕ) (x : X) → i < length xs → x ≡ get_or xs i x → drop i xs ≡ x ∷ drop (i + 1) xs
 from_place xs i x inside is = drop-cons xs i x inside ∙ ap (λ y. y ∷ drop (suc i) xs) (sym is) ∙ ap (λ n. x ∷ drop n xs) (sym (add-one i))

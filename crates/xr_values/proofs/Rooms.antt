@@ -1,13 +1,8 @@
 -- What a call's operands and its result leave room for.
-use Rattle.std.proofs.Common.{◌≡◌, ◌≤◌, ◌+◌, ◌*◌, ℕ, true, List, [], ◌∷◌, ◌++◌, ap, arith}
-use Rattle.std.proofs.lemmas.List.{append-nil}
+use Rattle.xr_values.proofs.Common.{List, Node, Pushes, [], ap, append-nil, are_distinct, arith, axis_names, shape_over, sum_by, true, value, ℕ, ◌*◌, ◌++◌, ◌+◌, ◌∷◌, ◌≡◌, ◌≤◌}
 use Rattle.std.proofs.lemmas.Nat.{mul-le}
-use Rattle.std.specs.List.{sum_by}
 use Rattle.xr_types.specs.Points.{size}
-use Rattle.xr_types.specs.Names.{are_distinct, axis_names, shape_over}
 use Rattle.xr_arrays.specs.Added.{AddsAtMost}
-use Rattle.xr_arrays.specs.Nodes.{value, Pushes}
-use Rattle.xr_arrays.specs.declared.node.Node.{Node}
 use Rattle.xr_defs.specs.Values.{DataArray}
 use Rattle.xr_defs.specs.Room.{AddsForAny, Portion, count, of_array, room, span}
 use Rattle.xr_defs.proofs.Spans.{back_among, greatest_both, points_above}

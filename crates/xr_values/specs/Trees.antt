@@ -1,5 +1,5 @@
 -- The program's values without their places in memory.
-use Rattle.std.specs.Prelude.{ℕ, ℤ, Bool, List, [], ◌∷◌, map, Option}
+use Rattle.std.specs.Prelude.{ℕ, ℤ, Bool, List, [], ◌∷◌, Option}
 use Rattle.xr_types.specs.declared.text.TextBytes.{TextBytes}
 use Rattle.xr_types.specs.declared.axis.TimeCoding.{TimeCoding}
 use Rattle.xr_defs.specs.declared.grouping.Grouping.{Grouping}
@@ -9,7 +9,7 @@ use Rattle.xr_values.specs.declared.dataset.Dataset.{Dataset}
 use Rattle.xr_values.specs.declared.value.Value.{Value}
 use Rattle.xr_values.specs.declared.value.Value.TheOpen as held
 use Rattle.xr_values.specs.declared.value.Value.TheOpen.{Value-F}
-use Rattle.xr_values.specs.declared.value.Value.TheFolds.{fold-Value}
+use Rattle.xr_values.specs.declared.value.Value.TheFolds.{fold-Value, map-Value}
 
 mutual
   pub data Tree : Type 0 where
@@ -68,16 +68,4 @@ keyed_tree kv = (kv.0, tree kv.1)
 
 -- by the outermost layer
 abbrev pub tree_layer : Value-F Value → Tree
-tree_layer held.Absent = Absent
-tree_layer held.Missing = Missing
-tree_layer (held.Truth b) = Truth b
-tree_layer (held.Number n) = Number n
-tree_layer (held.Text t) = Text t
-tree_layer (held.List vs) = Sequence (trees NoTree (map tree vs.items))
-tree_layer (held.Table es) = Table (entries NoEntry (map keyed_tree es.items))
-tree_layer (held.Slice start stop step) = Slice start stop step
-tree_layer (held.Array a) = Array a.value
-tree_layer (held.Set s) = Set s.value
-tree_layer (held.Times coding ts) = Times coding ts
-tree_layer (held.GroupedArray a g) = GroupedArray a.value g
-tree_layer (held.GroupedSet s g) = GroupedSet s.value g
+tree_layer x = tree_step (map-Value Value Tree tree x)

@@ -1,53 +1,55 @@
 //! The attributes that several operands have in common.
-ghost use Rattle.std.specs.Prelude.{◌≡◌, ◌==◌, ◌∷◌, ◌++◌, map, flat_map, filter, OnOk, IfOk};
-ghost use Rattle.xr_defs.specs.Carrying.{attrs_among, first_attrs, is_shared, joined_attrs, named_as, same_attr, shared_attrs};
+ghost use Rattle.std.specs.Prelude.{◌≡◌, ◌==◌, ◌||◌, ◌∷◌, not, ◌++◌, map, flat_map, filter, OnOk, IfOk};
+ghost use Rattle.std.specs.List.{list_all};
+ghost use Rattle.xr_defs.specs.Carrying.{attrs_among, called_as, first_attrs, is_shared, joined_attrs, named_as, same_attr, shared_attrs};
 ghost use Rattle.xr_defs.specs.Values.{names_fill, without_fills};
 ghost use Rattle.xr_defs.specs.declared.value.Coord.{Coord as CoordOf};
 ghost use Rattle.xr_files.specs.Classic.{number_of};
-ghost use Rattle.xr_values.specs.Carrying.{is_new_attr, shared_here, the_attrs};
+ghost use Rattle.xr_values.specs.Carrying.{shared_here, the_attrs};
 
 use crate::data_array::DataArray;
 use std::alloc::{AllocError, Global};
 use xr_defs::{Carry, Coord};
 use xr_types::{Attr, DeepCopy, Items, NcType};
 
-#[tactic(auto, using(crate::proofs::Carried::same_number))]
-fn same_type(a: NcType, b: NcType) -> bool
-    ensures { result ≡ (number_of a == number_of b) }
+fn type_number(kind: NcType) -> u8
+    ensures { result ≡ number_of kind }
 {
-    a == b
+    match kind {
+        NcType::Byte => 1,
+        NcType::Char => 2,
+        NcType::Short => 3,
+        NcType::Int => 4,
+        NcType::Float => 5,
+        NcType::Double => 6,
+        NcType::UByte => 7,
+        NcType::UShort => 8,
+        NcType::UInt => 9,
+        NcType::Int64 => 10,
+        NcType::UInt64 => 11,
+    }
 }
 
 fn same_attr(a: &Attr, b: &Attr) -> bool
     ensures { result ≡ same_attr a.now b.now }
 {
-    same_type(a.kind, b.kind) && a.raw.as_slice() == b.raw.as_slice()
+    type_number(a.kind) == type_number(b.kind) && a.raw.as_slice() == b.raw.as_slice()
 }
 
 fn is_new(before: &[&Attr], attr: &Attr) -> bool
-    ensures { result ≡ is_new_attr (map (λ a. a.now) before.now) attr.now }
+    ensures { result ≡ list_all (λ b. not (called_as attr.now b.now)) before.now }
 {
-    for other in before {
-        if other.name.is(&attr.name) {
-            return false;
-        }
-    }
-    true
+    before.iter().all(|other| !other.name.is(&attr.name))
 }
 
 // Whether those of its name have its type and values.
-#[tactic(auto, unfolding(xr_defs::specs::Carrying::is_shared))]
 fn is_shared(others: &[&Attr], attr: &Attr) -> bool
-    ensures { result ≡ is_shared (map (λ a. a.now) others.now) attr.now }
+    ensures { result ≡ list_all (λ b. not (called_as attr.now b.now) || same_attr attr.now b.now) others.now }
 {
-    for other in others {
-        if other.name.is(&attr.name) && !same_attr(attr, other) {
-            return false;
-        }
-    }
-    true
+    others.iter().all(|other| !other.name.is(&attr.name) || same_attr(attr, other))
 }
 
+#[tactic(auto, using(crate::proofs::Firsts::through_map), unfolding(xr_defs::specs::Carrying::is_shared))]
 fn push_shared(
     alloc: Global,
     shared: &mut Items<Attr>,
@@ -64,6 +66,7 @@ fn push_shared(
 }
 
 /// The attributes that all have alike who have one of that name, in the order of first appearance.
+#[tactic(auto, using(crate::proofs::Carried::attrs_end), unfolding(xr_defs::specs::Carrying::first_called))]
 fn shared_attrs(alloc: Global, all: &[&Attr]) -> Result<Items<Attr>, AllocError>
     ensures { IfOk result (λ shared. shared ≡ shared_attrs (map (λ a. a.now) all.now)) }
 {

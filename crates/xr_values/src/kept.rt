@@ -1,9 +1,9 @@
 //! The coordinates that a result keeps.
-ghost use Rattle.std.specs.Prelude.{◌≡◌, ◌&&◌, ◌++◌, map, IfOk, OnOk};
+ghost use Rattle.std.specs.Prelude.{◌≡◌, ◌&&◌, ◌++◌, map, not, IfOk, OnOk};
 ghost use Rattle.std.specs.List.{list_all};
 ghost use Rattle.xr_types.specs.Names.{among};
 ghost use Rattle.xr_types.specs.Names.{axis_names};
-ghost use Rattle.xr_defs.specs.Carrying.{coords_among, has_place, is_agreed, is_new};
+ghost use Rattle.xr_defs.specs.Carrying.{coords_among, has_place, is_agreed, is_new, named_as};
 ghost use Rattle.xr_values.specs.Carrying.{joined_behind, kept_here, the_coords};
 
 use crate::copies::copy_content;
@@ -36,23 +36,19 @@ fn all_coords<'a>(alloc: Global, operands: &'a [DataArray]) -> Result<Vec<&'a Co
 fn has_axis(axes: &[Axis], name: &Name) -> bool
     ensures { result ≡ among (axis_names axes.now) name.now }
 {
-    for axis in axes {
-        if name.is(&axis.name) {
-            return true;
-        }
+    match axes {
+        [] => false,
+        [axis, rest @ ..] => name.is(&axis.name) || has_axis(rest, name),
     }
-    false
 }
 
 fn have_axes(axes: &[Axis], some: &[Axis]) -> bool
     ensures { result ≡ list_all (among (axis_names axes.now)) (axis_names some.now) }
 {
-    for axis in some {
-        if !has_axis(axes, &axis.name) {
-            return false;
-        }
+    match some {
+        [] => true,
+        [axis, rest @ ..] => has_axis(axes, &axis.name) && have_axes(axes, rest),
     }
-    true
 }
 
 #[tactic(auto, unfolding(xr_defs::specs::Carrying::has_place))]
@@ -63,14 +59,9 @@ fn has_place(axes: &[Axis], coord: &Coord) -> bool
 }
 
 fn is_new(before: &[&Coord], coord: &Coord) -> bool
-    ensures { result ≡ is_new (map (λ c. c.now) before.now) coord.now }
+    ensures { result ≡ list_all (λ c. not (named_as coord.now c.now)) before.now }
 {
-    for other in before {
-        if other.name.is(&coord.name) {
-            return false;
-        }
-    }
-    true
+    before.iter().all(|other| !other.name.is(&coord.name))
 }
 
 // Whether those of its name are equal to it.
@@ -86,6 +77,7 @@ fn is_agreed(alloc: Global, others: &[&Coord], coord: &Coord) -> Result<bool, Al
     Ok(true)
 }
 
+#[tactic(auto, using(crate::proofs::Firsts::through_map))]
 fn is_kept(
     alloc: Global,
     axes: &[Axis],
@@ -133,6 +125,7 @@ fn push_kept<'a>(
     Ok(())
 }
 
+#[tactic(auto, using(crate::proofs::Carried::coords_end), unfolding(xr_defs::specs::Carrying::first_named))]
 fn kept_coords(alloc: Global, axes: &[Axis], all: &[&Coord]) -> Result<Items<Coord>, AllocError>
     ensures { IfOk result (λ kept. kept ≡ coords_among axes.now (map (λ c. c.now) all.now)) }
 {

@@ -37,12 +37,10 @@ fn same_name(a: &Option<Name>, b: &Option<Name>) -> bool
 fn have_name(name: &Option<Name>, operands: &[DataArray]) -> bool
     ensures { result ≡ list_all (same_name name.now) (the_names operands.now) }
 {
-    for operand in operands {
-        if !same_name(name, &operand.name) {
-            return false;
-        }
+    match operands {
+        [] => true,
+        [operand, rest @ ..] => same_name(name, &operand.name) && have_name(name, rest),
     }
-    true
 }
 
 fn shared_name(alloc: Global, operands: &[DataArray]) -> Result<Option<Name>, AllocError>

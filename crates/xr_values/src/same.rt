@@ -34,6 +34,7 @@ fn same_cell(a: Option<i128>, b: Option<i128>) -> bool
     }
 }
 
+#[tactic(auto, using(crate::proofs::Equal::masked_off))]
 fn cell_at<T: Elem>(cells: &[T], mask: Option<&Items<u8>>, at: usize) -> Option<i128>
     requires at { at < length cells.now }
     requires mask { MatchOption mask ⊤ (λ m. length m.now ≡ length cells.now) }
@@ -51,6 +52,7 @@ fn cell_at<T: Elem>(cells: &[T], mask: Option<&Items<u8>>, at: usize) -> Option<
     }
 }
 
+#[tactic(auto, using(crate::proofs::Equal::hidden_long, crate::proofs::Equal::other_length, crate::proofs::Equal::same_on, crate::proofs::Equal::same_all))]
 fn same_typed<A: Elem, B: Elem>(
     a: &[A],
     a_mask: Option<&Items<u8>>,

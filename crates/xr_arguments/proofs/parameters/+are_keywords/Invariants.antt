@@ -1,4 +1,4 @@
-use Rattle.std.proofs.Common.{length}
+use Rattle.xr_arguments.proofs.Common.{length}
 use Rattle.xr_arguments.proofs.parameters.+are_keywords.Given as goal
 
 abbrev pub decreases-are_keywords : goal.decreases-are_keywords

@@ -1,6 +1,5 @@
-use Rattle.std.proofs.Common.{map, option_map, rules, arith}
+use Rattle.xr_arguments.proofs.Common.{arith, map, meaning, option_map, rules, with_key}
 use Rattle.xr_defs.specs.Building as calls
-use Rattle.xr_values.specs.Meaning.{meaning, with_key}
 use Rattle.xr_arguments.proofs.Binding.{put_first, first_and_rest}
 use Rattle.xr_arguments.proofs.parameters.+push_keywords.Goals as goal
 

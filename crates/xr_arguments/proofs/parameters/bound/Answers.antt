@@ -1,6 +1,4 @@
-use Rattle.std.proofs.Common.{map, option_map, ap, sym, drop, length, ◌∙◌, arith}
-use Rattle.std.proofs.lemmas.List.{length-map, take_all}
-use Rattle.xr_values.specs.Meaning.{meaning, given, with_key}
+use Rattle.xr_arguments.proofs.Common.{ap, arith, drop, given, length, length-map, map, meaning, option_map, sym, take_all, with_key, ◌∙◌}
 use Rattle.xr_arguments.proofs.Binding.{bound_is}
 use Rattle.xr_arguments.proofs.parameters.bound.Goals as goal
 

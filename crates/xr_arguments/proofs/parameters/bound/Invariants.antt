@@ -1,6 +1,4 @@
-use Rattle.std.proofs.Common.{◌≡◌, List, map, option_map, take, Some}
-use Rattle.xr_arrays.specs.declared.node.Node.{Node}
-use Rattle.xr_values.specs.Meaning.{meaning}
+use Rattle.xr_arguments.proofs.Common.{List, Node, Some, map, meaning, option_map, take, ◌≡◌}
 use Rattle.xr_arguments.proofs.parameters.bound.Given as goal
 
 abbrev pub invariant-loop-value : goal.invariant-loop-value

@@ -1,6 +1,4 @@
-use Rattle.std.proofs.Common.{arith, rules}
-use Rattle.xr_values.proofs.Meaning.{no_values}
-use Rattle.xr_defs.specs.Parts.{texts_in}
+use Rattle.xr_arguments.proofs.Common.{arith, no_values, rules, texts_in}
 use Rattle.xr_arguments.proofs.Listed.{text_on, text_err}
 use Rattle.xr_arguments.proofs.texts.texts_in.Goals as goal
 

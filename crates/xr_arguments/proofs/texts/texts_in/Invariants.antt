@@ -1,7 +1,4 @@
-use Rattle.std.proofs.Common.{◌≡◌, List, take, Ok}
-use Rattle.xr_arrays.specs.declared.node.Node.{Node}
-use Rattle.xr_defs.specs.Parts.{texts_in}
-use Rattle.xr_values.specs.Meaning.{all_values}
+use Rattle.xr_arguments.proofs.Common.{List, Node, Ok, all_values, take, texts_in, ◌≡◌}
 use Rattle.xr_arguments.proofs.texts.texts_in.Given as goal
 
 abbrev pub invariant-loop-value : goal.invariant-loop-value

@@ -1,6 +1,5 @@
-use Rattle.std.proofs.Common.{pos, sym, ◌≡◌, ◌∙◌, length, arith}
-use Rattle.xr_types.specs.declared.axis.Label.TheVariants.{Int}
-use Rattle.xr_building.proofs.Same.{each_by, one_by}
+use Rattle.xr_building.proofs.Common.{Int, arith, length, pos, sym, ◌∙◌, ◌≡◌}
+use Rattle.align_join.proofs.Same.{each_by, one_by}
 use Rattle.xr_building.proofs.aligned.same_wide.Goals as goal
 
 pub returns-then-not-same_as_wide : goal.returns-then-not-same_as_wide

@@ -1,6 +1,4 @@
-use Rattle.std.proofs.Common.{◌≡◌, ◌<◌, ℕ, pos, true, get_or}
-use Rattle.xr_types.specs.declared.axis.Label.TheVariants.{Int}
-use Rattle.xr_arrays.specs.Labels.{same}
+use Rattle.xr_building.proofs.Common.{Int, get_or, pos, same, true, ℕ, ◌<◌, ◌≡◌}
 use Rattle.xr_building.proofs.aligned.same_wide.Given as goal
 
 abbrev pub invariant-loop-at : goal.invariant-loop-at

@@ -1,8 +1,4 @@
-use Rattle.std.proofs.Common.{◌≡◌, Ok, [], sym, subst, ap, ◌∙◌}
-use Rattle.xr_values.specs.declared.data_array.DataArray.{DataArray}
-use Rattle.xr_values.specs.Stands.{array_in, IsArrayIn}
-use Rattle.xr_building.specs.Entries.{array_assigned, frame_in}
-use Rattle.xr_building.specs.Puts.{after, frame_of, over}
+use Rattle.xr_building.proofs.Common.{DataArray, IsArrayIn, Ok, [], after, ap, array_assigned, array_in, frame_in, frame_of, over, subst, sym, ◌∙◌, ◌≡◌}
 use Rattle.xr_building.proofs.Held.{array_told, reframed}
 use Rattle.xr_building.proofs.assigned.array_with.Goals as goal
 

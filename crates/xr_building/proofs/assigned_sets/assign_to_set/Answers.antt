@@ -1,12 +1,5 @@
-use Rattle.std.proofs.Common.{◌≡◌, List, Ok, Err, sym, ap, subst, ◌∙◌}
-use Rattle.std.proofs.lemmas.Result.{err_from_is_err_and}
-use Rattle.xr_types.specs.declared.axis.Axis.{Axis}
-use Rattle.xr_values.specs.declared.dataset.Dataset.{Dataset}
-use Rattle.xr_values.specs.declared.variable.Variable.{Variable}
-use Rattle.xr_values.specs.Stands.{dataset_in, IsDatasetIn}
+use Rattle.xr_building.proofs.Common.{Axis, Dataset, Err, Follows, IsDatasetIn, List, Ok, Variable, after, ap, dataset_in, err_from_is_err_and, frame_in, frame_of, over, set_assigned, subst, sym, ◌∙◌, ◌≡◌}
 use Rattle.xr_values.specs.Variables as kept
-use Rattle.xr_building.specs.Entries.{frame_in, set_assigned, Follows}
-use Rattle.xr_building.specs.Puts.{after, frame_of, over}
 use Rattle.xr_building.proofs.Sets.{follow_few, follow_frame, reframed_set, set_at}
 use Rattle.xr_building.proofs.Undeclined.{answers_set, set_all}
 use Rattle.xr_building.proofs.assigned_sets.assign_to_set.Goals as goal

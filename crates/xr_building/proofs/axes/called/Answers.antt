@@ -1,7 +1,4 @@
-use Rattle.std.proofs.Common.{◌+◌, ◌||◌, drop, sym, ap, ◌∙◌}
-use Rattle.std.specs.Prelude.{if◌then◌else◌}
-use Rattle.xr_defs.specs.Selecting.{axis_called}
-use Rattle.xr_defs.specs.Building.{is_dimension}
+use Rattle.xr_building.proofs.Common.{ap, axis_called, drop, if◌then◌else◌, is_dimension, sym, ◌+◌, ◌||◌, ◌∙◌}
 use Rattle.xr_building.proofs.Called.{called_from, dimension_from}
 use Rattle.xr_building.proofs.axes.called.Goals as goal
 

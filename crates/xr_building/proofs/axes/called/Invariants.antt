@@ -1,6 +1,4 @@
-use Rattle.std.proofs.Common.{◌≡◌, drop}
-use Rattle.xr_defs.specs.Selecting.{axis_called}
-use Rattle.xr_defs.specs.Building.{is_dimension}
+use Rattle.xr_building.proofs.Common.{axis_called, drop, is_dimension, ◌≡◌}
 use Rattle.xr_building.proofs.axes.called.Given as goal
 
 abbrev pub invariant-loop-axis : goal.invariant-loop-axis

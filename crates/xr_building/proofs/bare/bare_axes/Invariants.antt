@@ -1,5 +1,4 @@
-use Rattle.std.proofs.Common.{◌≡◌, ◌++◌, drop}
-use Rattle.xr_defs.specs.Building.{bare_axes}
+use Rattle.xr_building.proofs.Common.{bare_axes, drop, ◌++◌, ◌≡◌}
 use Rattle.xr_building.proofs.bare.bare_axes.Given as goal
 
 abbrev pub invariant-loop-at : goal.invariant-loop-at

@@ -1,5 +1,4 @@
-use Rattle.std.proofs.Common.{◌≡◌, map, take}
-use Rattle.xr_building.specs.Gathered.{mask_byte}
+use Rattle.xr_building.proofs.Common.{map, mask_byte, take, ◌≡◌}
 use Rattle.xr_building.proofs.cells.mask_of.Given as goal
 
 abbrev pub invariant-loop-cell : goal.invariant-loop-cell

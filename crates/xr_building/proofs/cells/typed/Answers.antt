@@ -1,6 +1,4 @@
-use Rattle.std.proofs.Common.{sym, ap, subst, ◌∙◌}
-use Rattle.xr_arrays.specs.Arrays.{wide, InKind, IsCell}
-use Rattle.xr_types.specs.declared.kind.DType.{DType}
+use Rattle.xr_building.proofs.Common.{DType, InKind, IsCell, ap, subst, sym, wide, ◌∙◌}
 use Rattle.std.specs.Prelude.{All}
 use Rattle.xr_building.proofs.Kept.{same_ints, truths_below}
 use Rattle.xr_building.proofs.cells.typed.Goals.{in-Bool+in_ok-numbers-in-Bool, in-Char+in_ok-numbers-in-Char, in-Int8+in_ok-numbers-in-Int8, in-Int16+in_ok-numbers-in-Int16, in-Int32+in_ok-numbers-in-Int32, in-Int64+in_ok-numbers-in-Int64, in-UInt8+in_ok-numbers-in-UInt8, in-UInt16+in_ok-numbers-in-UInt16, in-UInt32+in_ok-numbers-in-UInt32, in-UInt64+in_ok-numbers-in-UInt64}

@@ -1,6 +1,4 @@
-use Rattle.std.proofs.Common.{◌≡◌, map, take}
-use Rattle.xr_types.specs.Kinds.{wrap_to}
-use Rattle.xr_building.specs.Gathered.{number_or_zero}
+use Rattle.xr_building.proofs.Common.{map, number_or_zero, take, wrap_to, ◌≡◌}
 use Rattle.xr_building.proofs.cells.wrapped.Given as goal
 
 abbrev pub invariant-loop-cell : goal.invariant-loop-cell

@@ -1,6 +1,4 @@
-use Rattle.std.proofs.Common.{◌≡◌, drop}
-use Rattle.xr_types.specs.Results.{all_of}
-use Rattle.xr_building.specs.Places.{is_there}
+use Rattle.xr_building.proofs.Common.{all_of, drop, is_there, ◌≡◌}
 use Rattle.xr_building.proofs.check.check_axes_there.Given as goal
 
 abbrev pub invariant-loop-axis : goal.invariant-loop-axis

@@ -1,8 +1,5 @@
-use Rattle.std.proofs.Common.{ap, length, ◌∙◌, arith}
+use Rattle.xr_building.proofs.Common.{DataArray, ap, arith, array_in, is_array, length, ◌∙◌}
 use Rattle.xr_defs.specs.Building as of
-use Rattle.xr_values.specs.declared.data_array.DataArray.{DataArray}
-use Rattle.xr_values.specs.Stands.{array_in}
-use Rattle.xr_arguments.proofs.Variants.{is_array}
 use Rattle.xr_building.proofs.Checked.{few_axes, many_axes}
 use Rattle.xr_building.proofs.check.check_coordinate.Goals as goal
 

@@ -1,12 +1,5 @@
-use Rattle.std.proofs.Common.{sym, ap, subst, ◌∙◌}
+use Rattle.xr_building.proofs.Common.{Answers, Array, DataArray, Sequence, all_values, ap, array_in, check_labels, is_array, is_list, subst, sym, ◌∙◌}
 use Rattle.xr_defs.specs.Building as of
-use Rattle.xr_defs.specs.Building.{check_labels}
-use Rattle.xr_defs.specs.Meanings.{Array, Sequence}
-use Rattle.xr_types.specs.Results.{Answers}
-use Rattle.xr_values.specs.declared.data_array.DataArray.{DataArray}
-use Rattle.xr_values.specs.Meaning.{all_values}
-use Rattle.xr_values.specs.Stands.{array_in}
-use Rattle.xr_arguments.proofs.Variants.{is_list, is_array}
 use Rattle.xr_building.proofs.check.check_labels.Goals as goal
 
 pub returns-in-List : goal.returns-in-List

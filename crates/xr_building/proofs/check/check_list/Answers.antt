@@ -1,4 +1,4 @@
-use Rattle.std.proofs.Common.{sym}
+use Rattle.xr_building.proofs.Common.{sym}
 use Rattle.xr_building.proofs.Checked.{numbers_pass, texts_pass, others_fail}
 use Rattle.xr_building.proofs.check.check_list.Goals as goal
 

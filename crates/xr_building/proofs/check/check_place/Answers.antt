@@ -1,9 +1,4 @@
-use Rattle.std.proofs.Common.{sym, subst, ap, ◌∙◌}
-use Rattle.xr_types.specs.Results.{Answers, all_of}
-use Rattle.xr_values.specs.declared.data_array.DataArray.{DataArray}
-use Rattle.xr_values.specs.Stands.{array_in}
-use Rattle.xr_arguments.proofs.Variants.{is_array}
-use Rattle.xr_building.specs.Places.{is_there}
+use Rattle.xr_building.proofs.Common.{Answers, DataArray, all_of, ap, array_in, is_array, is_there, subst, sym, ◌∙◌}
 use Rattle.xr_building.proofs.Checked.{place_of_array}
 use Rattle.xr_building.proofs.check.check_place.Goals as goal
 

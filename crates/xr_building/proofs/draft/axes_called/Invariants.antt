@@ -1,6 +1,4 @@
-use Rattle.std.proofs.Common.{◌≡◌, map, take}
-use Rattle.xr_types.specs.declared.axis.Axis.{Axis}
-use Rattle.xr_defs.specs.Selecting.{axis_called}
+use Rattle.xr_building.proofs.Common.{Axis, axis_called, map, take, ◌≡◌}
 use Rattle.xr_building.proofs.draft.axes_called.Given as goal
 
 abbrev pub invariant-loop-axis : goal.invariant-loop-axis

@@ -1,5 +1,4 @@
-use Rattle.std.proofs.Common.{◌≡◌, map, take}
-use Rattle.xr_defs.specs.Building.{relabelled}
+use Rattle.xr_building.proofs.Common.{map, relabelled, take, ◌≡◌}
 use Rattle.xr_building.proofs.draft.axes_relabelled.Given as goal
 
 abbrev pub invariant-loop-axis : goal.invariant-loop-axis

@@ -1,5 +1,4 @@
-use Rattle.std.proofs.Common.{◌≡◌, map, take}
-use Rattle.xr_defs.specs.Building.{coord_relabelled}
+use Rattle.xr_building.proofs.Common.{coord_relabelled, map, take, ◌≡◌}
 use Rattle.xr_building.proofs.draft.coords_relabelled.Given as goal
 
 abbrev pub invariant-loop-coord : goal.invariant-loop-coord

@@ -1,4 +1,4 @@
-use Rattle.std.proofs.Common.{◌≡◌, take}
+use Rattle.xr_building.proofs.Common.{take, ◌≡◌}
 use Rattle.xr_building.proofs.draft.integers.Given as goal
 
 abbrev pub invariant-loop-number : goal.invariant-loop-number

@@ -1,5 +1,4 @@
-use Rattle.std.proofs.Common.{◌≡◌, drop}
-use Rattle.xr_building.specs.Puts.{after, frame_of}
+use Rattle.xr_building.proofs.Common.{after, drop, frame_of, ◌≡◌}
 use Rattle.xr_building.proofs.draft.with_puts.Given as goal
 
 abbrev pub invariant-loop-put : goal.invariant-loop-put

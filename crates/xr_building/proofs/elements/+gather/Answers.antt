@@ -1,7 +1,4 @@
-use Rattle.std.proofs.Common.{arith, ap, sym, ◌∙◌}
-use Rattle.xr_defs.specs.Meanings.{Sequence}
-use Rattle.xr_values.specs.Meaning.{meaning, all_values}
-use Rattle.xr_arguments.proofs.Variants.{is_list}
+use Rattle.xr_building.proofs.Common.{Sequence, all_values, ap, arith, is_list, meaning, sym, ◌∙◌}
 use Rattle.xr_building.proofs.Items.{gathered_none, gathered_on, gathered_all}
 use Rattle.xr_building.proofs.elements.+gather.Goals as goal
 

@@ -1,8 +1,4 @@
-use Rattle.std.proofs.Common.{◌≡◌, List, take}
-use Rattle.xr_arrays.specs.declared.node.Node.{Node}
-use Rattle.xr_defs.specs.Building.{elements_of}
-use Rattle.xr_values.specs.Meaning.{all_values}
-use Rattle.xr_building.specs.Gathered.{with_elements}
+use Rattle.xr_building.proofs.Common.{List, Node, all_values, elements_of, take, with_elements, ◌≡◌}
 use Rattle.xr_building.proofs.elements.+gather.Given as goal
 
 abbrev pub invariant-loop-item : goal.invariant-loop-item

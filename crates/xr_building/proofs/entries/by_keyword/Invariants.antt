@@ -1,5 +1,4 @@
-use Rattle.std.proofs.Common.{◌≡◌, drop}
-use Rattle.xr_building.specs.Written.{keyword_held}
+use Rattle.xr_building.proofs.Common.{drop, keyword_held, ◌≡◌}
 use Rattle.xr_building.proofs.entries.by_keyword.Given as goal
 
 abbrev pub invariant-loop-entry : goal.invariant-loop-entry

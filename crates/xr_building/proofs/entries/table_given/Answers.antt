@@ -1,9 +1,6 @@
-use Rattle.std.proofs.Common.{All, map, Some, Ok, Err, sym, ap, subst, ◌∙◌}
-use Rattle.std.proofs.lemmas.Result.{err_from_is_err_and}
-use Rattle.xr_types.specs.Results.{◌>>=◌}
+use Rattle.xr_building.proofs.Common.{All, Err, IsEntryIn, Ok, Some, ap, err_from_is_err_and, map, meaning, subst, sym, with_key, ◌>>=◌, ◌∙◌}
 use Rattle.xr_defs.specs.Building as of
-use Rattle.xr_values.specs.Meaning.{meaning, with_key, IsEntryIn}
-use Rattle.xr_building.proofs.Tables.{table_fails, table_inside, table_means}
+use Rattle.xr_building.proofs.Tables.{each_passes, table_fails, table_inside, table_means}
 use Rattle.xr_building.proofs.entries.table_given.Goals as goal
 
 pub returns-in_err-check_each-in-Table-clause-answers : goal.returns-in_err-check_each-in-Table-clause-answers
@@ -19,3 +16,6 @@ returns-in_ok-check_each-in-Table-clause-answers c = λ nodes.
 
 pub returns-in_ok-check_each-in-Table-clause-inside : goal.returns-in_ok-check_each-in-Table-clause-inside
 returns-in_ok-check_each-in-Table-clause-inside c = λ nodes inside. subst (All (IsEntryIn nodes)) (sym c.as_slice-entries.ensures.value) (table_inside nodes c.args.value.now c.in-Table.table c.in-Table.is inside)
+
+pub returns-in_ok-check_each-in-Table-clause-checked : goal.returns-in_ok-check_each-in-Table-clause-checked
+returns-in_ok-check_each-in-Table-clause-checked c = λ nodes. each_passes c.args.axes.now (map (with_key nodes) c.as_slice-entries.result.now) (c.in_ok-check_each-in-Table.ensures nodes)

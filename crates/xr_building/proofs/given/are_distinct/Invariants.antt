@@ -1,5 +1,4 @@
-use Rattle.std.proofs.Common.{◌≡◌, drop}
-use Rattle.xr_types.specs.Names.{are_distinct}
+use Rattle.xr_building.proofs.Common.{are_distinct, drop, ◌≡◌}
 use Rattle.xr_building.proofs.given.are_distinct.Given as goal
 
 abbrev pub invariant-loop-at : goal.invariant-loop-at

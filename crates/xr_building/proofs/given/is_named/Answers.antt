@@ -1,5 +1,4 @@
-use Rattle.std.proofs.Common.{ap, not, subst, length, ◌==◌, ◌∙◌}
-use Rattle.std.specs.Str.{IsUtf8}
+use Rattle.xr_building.proofs.Common.{IsUtf8, ap, length, not, subst, ◌==◌, ◌∙◌}
 use Rattle.xr_building.proofs.Names.{named}
 use Rattle.xr_building.proofs.given.is_named.Goals as goal
 

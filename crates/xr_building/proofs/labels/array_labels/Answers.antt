@@ -1,9 +1,5 @@
-use Rattle.std.proofs.Common.{◌≡◌, true, sym, subst, ap, ◌∙◌, All}
-use Rattle.std.specs.Prelude.{is_some}
-use Rattle.xr_types.specs.declared.axis.LabelList.TheVariants.{Numbers}
-use Rattle.xr_arrays.specs.Arrays.{Array, wide}
-use Rattle.xr_types.specs.Points.{size}
-use Rattle.xr_defs.specs.Values.{present}
+use Rattle.xr_building.proofs.Common.{All, Numbers, ap, is_some, present, size, subst, sym, true, wide, ◌∙◌, ◌≡◌}
+use Rattle.xr_arrays.specs.Arrays.{Array}
 use Rattle.xr_building.proofs.Fits.{same_given, seen_numbers}
 use Rattle.xr_building.proofs.labels.array_labels.Goals as goal
 

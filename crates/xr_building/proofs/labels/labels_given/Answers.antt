@@ -1,9 +1,4 @@
-use Rattle.std.proofs.Common.{◌≡◌, sym, ap, subst, ◌∙◌}
-use Rattle.std.specs.Prelude.{IfOk}
-use Rattle.xr_defs.specs.Meanings.{Sequence}
-use Rattle.xr_values.specs.Meaning.{all_values}
-use Rattle.xr_arguments.proofs.Variants.{is_list}
-use Rattle.xr_building.specs.Puts.{fits_whole, labels_fit}
+use Rattle.xr_building.proofs.Common.{IfOk, Sequence, all_values, ap, fits_whole, is_list, labels_fit, subst, sym, ◌∙◌, ◌≡◌}
 use Rattle.xr_building.proofs.labels.labels_given.Goals as goal
 
 pub returns-in-List-clause-fits : goal.returns-in-List-clause-fits

@@ -1,7 +1,4 @@
-use Rattle.std.proofs.Common.{◌≡◌, sym, ap, subst, ◌∙◌}
-use Rattle.std.specs.Prelude.{IfOk}
-use Rattle.xr_types.specs.Results.{Answers}
-use Rattle.xr_building.specs.Puts.{labels_fit, labels_of}
+use Rattle.xr_building.proofs.Common.{Answers, IfOk, ap, labels_fit, labels_of, subst, sym, ◌∙◌, ◌≡◌}
 use Rattle.xr_building.proofs.Items.{none_given, numbers_given, plain_numbers, texts_given, texts_whole}
 use Rattle.xr_building.proofs.labels.list_labels.Goals as goal
 

@@ -1,9 +1,5 @@
-use Rattle.std.proofs.Common.{◌≡◌, ℤ, false, rules, sym, ap, ◌∙◌}
+use Rattle.xr_building.proofs.Common.{Number, ap, false, is_number, meaning, no_values, numbers_in, rules, sym, ℤ, ◌∙◌, ◌≡◌}
 use Rattle.std.proofs.lemmas.Option.{MatchOption-at_some}
-use Rattle.xr_defs.specs.Meanings.{Number}
-use Rattle.xr_defs.specs.Building.{is_number, numbers_in}
-use Rattle.xr_values.specs.Meaning.{meaning}
-use Rattle.xr_values.proofs.Meaning.{no_values}
 use Rattle.xr_building.proofs.Items.{no_other, none_of, number_on}
 use Rattle.xr_building.proofs.labels.numbers_in.Goals.{in-Some+in_ok-push, in_default}
 use Rattle.xr_building.proofs.labels.numbers_in.Goals as goal

@@ -1,7 +1,5 @@
-use Rattle.std.proofs.Common.{◌≡◌, List, take}
-use Rattle.xr_arrays.specs.declared.node.Node.{Node}
+use Rattle.xr_building.proofs.Common.{List, Node, all_values, take, ◌≡◌}
 use Rattle.xr_defs.specs.Building as of
-use Rattle.xr_values.specs.Meaning.{all_values}
 use Rattle.xr_building.proofs.labels.numbers_in.Given as goal
 
 abbrev pub invariant-loop-value : goal.invariant-loop-value

@@ -1,4 +1,4 @@
-use Rattle.std.proofs.Common.{length}
+use Rattle.xr_building.proofs.Common.{length}
 use Rattle.xr_building.proofs.limits.+points_over.Given as goal
 
 abbrev pub decreases-points_over : goal.decreases-points_over

@@ -1,9 +1,5 @@
-use Rattle.std.proofs.Common.{sym, ap, ◌∙◌, ◌-◌, length, arith}
-use Rattle.std.proofs.lemmas.Bool.Decides.{nat_tests}
+use Rattle.xr_building.proofs.Common.{Sequence, all_values, ap, arith, is_list, length, meaning, nat_tests, sym, ◌-◌, ◌∙◌}
 use Rattle.xr_defs.specs.Building as of
-use Rattle.xr_defs.specs.Meanings.{Sequence}
-use Rattle.xr_values.specs.Meaning.{meaning, all_values}
-use Rattle.xr_arguments.proofs.Variants.{is_list}
 use Rattle.xr_building.proofs.Items.{nested_list, nested_none, fails_at, passes}
 use Rattle.xr_building.proofs.nesting.+is_nested.Goals as goal
 

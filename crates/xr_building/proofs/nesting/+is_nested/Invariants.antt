@@ -1,8 +1,5 @@
-use Rattle.std.proofs.Common.{◌≡◌, ◌-◌, List, map, drop}
-use Rattle.std.specs.List.{list_all}
-use Rattle.xr_arrays.specs.declared.node.Node.{Node}
+use Rattle.xr_building.proofs.Common.{List, Node, drop, list_all, map, meaning, ◌-◌, ◌≡◌}
 use Rattle.xr_defs.specs.Building as of
-use Rattle.xr_values.specs.Meaning.{meaning}
 use Rattle.xr_building.proofs.nesting.+is_nested.Given as goal
 
 abbrev pub invariant-loop-item : goal.invariant-loop-item

@@ -1,8 +1,5 @@
-use Rattle.std.proofs.Common.{sym, ap, ◌∙◌, ◌-◌, take, drop, length, true, false, arith}
+use Rattle.xr_building.proofs.Common.{Sequence, all_values, ap, arith, drop, false, is_list, length, meaning, sym, take, true, ◌-◌, ◌∙◌}
 use Rattle.xr_defs.specs.Building as of
-use Rattle.xr_defs.specs.Meanings.{Sequence}
-use Rattle.xr_values.specs.Meaning.{meaning, all_values}
-use Rattle.xr_arguments.proofs.Variants.{is_list}
 use Rattle.xr_building.proofs.Items.{regular_when, not_regular, fails_at, passes}
 use Rattle.xr_building.proofs.nesting.+is_regular.Goals as goal
 

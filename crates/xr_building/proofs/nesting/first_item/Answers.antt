@@ -1,7 +1,4 @@
-use Rattle.std.proofs.Common.{sym, ap, ◌∙◌}
-use Rattle.xr_defs.specs.Meanings.{Sequence}
-use Rattle.xr_values.specs.Meaning.{meaning, all_values}
-use Rattle.xr_arguments.proofs.Variants.{is_list}
+use Rattle.xr_building.proofs.Common.{Sequence, all_values, ap, is_list, meaning, sym, ◌∙◌}
 use Rattle.xr_building.proofs.Items.{first_none, first_some}
 use Rattle.xr_building.proofs.nesting.first_item.Goals as goal
 

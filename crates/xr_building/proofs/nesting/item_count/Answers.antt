@@ -1,6 +1,5 @@
-use Rattle.std.proofs.Common.{sym, ap, length, ◌∙◌}
+use Rattle.xr_building.proofs.Common.{ap, is_list, length, sym, ◌∙◌}
 use Rattle.xr_defs.specs.Building as of
-use Rattle.xr_arguments.proofs.Variants.{is_list}
 use Rattle.xr_building.proofs.Items.{item_count_list}
 use Rattle.xr_building.proofs.nesting.item_count.Goals as goal
 

@@ -1,7 +1,5 @@
-use Rattle.std.proofs.Common.{sym, ap, option_map, ◌∙◌, rules}
+use Rattle.xr_building.proofs.Common.{ap, meaning, option_map, or_absent, rules, sym, ◌∙◌}
 use Rattle.xr_defs.specs.Building as of
-use Rattle.xr_values.specs.Meaning.{meaning}
-use Rattle.xr_building.specs.Nested.{or_absent}
 use Rattle.xr_building.proofs.Items.{shape_on}
 use Rattle.xr_building.proofs.nesting.nested_shape.Goals.{in-Some+in_ok-push-in-Some, in-None+in_ok-push-in-None}
 use Rattle.xr_building.proofs.nesting.nested_shape.Goals as goal

@@ -1,8 +1,5 @@
-use Rattle.std.proofs.Common.{◌≡◌, ◌-◌, List, ◌++◌, option_map}
-use Rattle.xr_arrays.specs.declared.node.Node.{Node}
+use Rattle.xr_building.proofs.Common.{List, Node, meaning, option_map, or_absent, ◌++◌, ◌-◌, ◌≡◌}
 use Rattle.xr_defs.specs.Building as of
-use Rattle.xr_values.specs.Meaning.{meaning}
-use Rattle.xr_building.specs.Nested.{or_absent}
 use Rattle.xr_building.proofs.nesting.nested_shape.Given as goal
 
 abbrev pub invariant-loop : goal.invariant-loop

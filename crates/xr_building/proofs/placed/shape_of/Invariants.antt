@@ -1,5 +1,4 @@
-use Rattle.std.proofs.Common.{◌≡◌, take}
-use Rattle.xr_types.specs.Names.{shape_over}
+use Rattle.xr_building.proofs.Common.{shape_over, take, ◌≡◌}
 use Rattle.xr_building.proofs.placed.shape_of.Given as goal
 
 abbrev pub invariant-loop-axis : goal.invariant-loop-axis

@@ -1,9 +1,4 @@
-use Rattle.std.proofs.Common.{◌==◌, ℕ, get_or, sym, ap, subst, ◌∙◌}
-use Rattle.xr_types.specs.declared.axis.Axis.{Axis}
-use Rattle.xr_types.specs.declared.fault.Fault.TheVariants.{SizeConflict}
-use Rattle.xr_types.specs.Results.{unless, Answers}
-use Rattle.xr_defs.specs.Selecting.{axis_called}
-use Rattle.xr_values.specs.Stands.{array_in}
+use Rattle.xr_building.proofs.Common.{Answers, Axis, SizeConflict, ap, array_in, axis_called, get_or, subst, sym, unless, ℕ, ◌==◌, ◌∙◌}
 use Rattle.xr_building.proofs.Fits.{along_total}
 use Rattle.xr_building.proofs.placing.check_along.Goals as goal
 

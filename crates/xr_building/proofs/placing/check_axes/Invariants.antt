@@ -1,8 +1,4 @@
-use Rattle.std.proofs.Common.{◌≡◌, List, drop}
-use Rattle.xr_types.specs.Results.{all_of}
-use Rattle.xr_defs.specs.declared.value.Coord.{Coord}
-use Rattle.xr_defs.specs.Building.{check_axis}
-use Rattle.xr_building.specs.Puts.{after, over}
+use Rattle.xr_building.proofs.Common.{Coord, List, after, all_of, check_axis, drop, over, ◌≡◌}
 use Rattle.xr_building.proofs.placing.check_axes.Given as goal
 
 abbrev pub invariant-loop-axis : goal.invariant-loop-axis

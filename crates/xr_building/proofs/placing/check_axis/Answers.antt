@@ -1,5 +1,4 @@
-use Rattle.std.proofs.Common.{sym, subst}
-use Rattle.xr_types.specs.Results.{Answers}
+use Rattle.xr_building.proofs.Common.{Answers, subst, sym}
 use Rattle.xr_building.proofs.After.{axis_there, axis_gone}
 use Rattle.xr_building.proofs.placing.check_axis.Goals as goal
 

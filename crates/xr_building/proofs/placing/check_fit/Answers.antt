@@ -1,8 +1,4 @@
-use Rattle.std.proofs.Common.{sym, subst}
-use Rattle.xr_types.specs.Results.{all_of, Answers}
-use Rattle.xr_defs.specs.Building.{check_axis}
-use Rattle.xr_values.specs.Stands.{array_in}
-use Rattle.xr_building.specs.Puts.{after, over}
+use Rattle.xr_building.proofs.Common.{Answers, after, all_of, array_in, check_axis, over, subst, sym}
 use Rattle.xr_building.proofs.After.{checks_along, checks_beside}
 use Rattle.xr_building.proofs.placing.check_fit.Goals as goal
 

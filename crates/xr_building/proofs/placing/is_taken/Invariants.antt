@@ -1,6 +1,4 @@
-use Rattle.std.proofs.Common.{◌≡◌, drop}
-use Rattle.xr_types.specs.Names.{among}
-use Rattle.xr_values.specs.Variables.{names_of}
+use Rattle.xr_building.proofs.Common.{among, drop, names_of, ◌≡◌}
 use Rattle.xr_building.proofs.placing.is_taken.Given as goal
 
 abbrev pub invariant-loop-variable : goal.invariant-loop-variable

@@ -1,16 +1,4 @@
-use Rattle.std.proofs.Common.{◌≡◌, ◌≤◌, ◌+◌, List, [], length, map, drop, Ok, Err, refl, sym, subst, ap, ◌∙◌, arith}
-use Rattle.std.proofs.lemmas.List.{drop_all}
-use Rattle.std.specs.List.{list_all}
-use Rattle.xr_types.specs.declared.fault.Fault.TheVariants.{DoesNotFit}
-use Rattle.xr_types.specs.Results.{◌>>=◌, unless, all_of}
-use Rattle.xr_defs.specs.Building.{check_numbers}
-use Rattle.std.proofs.lemmas.Result.{err_from_is_err_and}
-use Rattle.xr_values.proofs.Places.{from_place}
-use Rattle.xr_values.specs.Meaning.{meaning, with_key}
-use Rattle.xr_values.specs.Variables.{names_of}
-use Rattle.xr_building.specs.declared.puts.Put.{Put}
-use Rattle.xr_building.specs.Entries.{entries_in, entry_in, Follows}
-use Rattle.xr_building.specs.Puts.{after, fits_whole, over, put_fits, put_on}
+use Rattle.xr_building.proofs.Common.{DoesNotFit, Err, Follows, List, Ok, Put, [], after, all_of, ap, arith, check_numbers, drop, drop_all, entries_in, entry_in, err_from_is_err_and, fits_whole, from_place, length, list_all, map, meaning, names_of, over, put_fits, put_on, refl, subst, sym, unless, with_key, ◌+◌, ◌>>=◌, ◌∙◌, ◌≡◌, ◌≤◌}
 use Rattle.xr_building.proofs.After.{after_end}
 use Rattle.xr_building.proofs.Entering.{entry_from, none_more, numbers_on, one_more, rest_checked}
 use Rattle.xr_building.proofs.put.put_entries.Goals as goal

@@ -1,14 +1,4 @@
-use Rattle.std.proofs.Common.{◌≡◌, ℕ, List, Ok, map, drop}
-use Rattle.std.specs.List.{list_all}
-use Rattle.xr_types.specs.declared.fault.Fault.TheVariants.{DoesNotFit}
-use Rattle.xr_types.specs.Results.{◌>>=◌, unless, all_of}
-use Rattle.xr_arrays.specs.declared.node.Node.{Node}
-use Rattle.xr_defs.specs.declared.value.Coord.{Coord}
-use Rattle.xr_defs.specs.Building.{check_entry, check_numbers}
-use Rattle.xr_values.specs.Meaning.{with_key}
-use Rattle.xr_values.specs.Variables.{names_of}
-use Rattle.xr_building.specs.Entries.{entries_in}
-use Rattle.xr_building.specs.Puts.{after, over, put_fits}
+use Rattle.xr_building.proofs.Common.{Coord, DoesNotFit, List, Node, Ok, after, all_of, check_entry, check_numbers, drop, entries_in, list_all, map, names_of, over, put_fits, unless, with_key, ℕ, ◌>>=◌, ◌≡◌}
 use Rattle.xr_building.proofs.put.put_entries.Given as goal
 
 abbrev pub invariant-loop-entry : goal.invariant-loop-entry

@@ -1,10 +1,5 @@
-use Rattle.std.proofs.Common.{◌≡◌, sym, subst}
-use Rattle.std.specs.Prelude.{IfOk}
-use Rattle.xr_values.specs.Variables.{names_of}
+use Rattle.xr_building.proofs.Common.{Follows, IfOk, after, fits_whole, is_array, names_of, over, put_fits, put_on, subst, sym, ◌≡◌}
 use Rattle.xr_arguments.proofs.Inside.{held_array}
-use Rattle.xr_arguments.proofs.Variants.{is_array}
-use Rattle.xr_building.specs.Entries.{Follows}
-use Rattle.xr_building.specs.Puts.{after, fits_whole, over, put_fits, put_on}
 use Rattle.xr_building.proofs.Entering.{alone, array_is, plain, plain_told}
 use Rattle.xr_building.proofs.put.put_entry.Goals as goal
 

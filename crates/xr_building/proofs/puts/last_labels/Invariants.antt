@@ -1,5 +1,4 @@
-use Rattle.std.proofs.Common.{◌≡◌, None, drop, option_map}
-use Rattle.xr_building.specs.Puts.{last_labels}
+use Rattle.xr_building.proofs.Common.{None, drop, last_labels, option_map, ◌≡◌}
 use Rattle.xr_building.proofs.puts.last_labels.Given as goal
 
 abbrev pub invariant-loop-put : goal.invariant-loop-put

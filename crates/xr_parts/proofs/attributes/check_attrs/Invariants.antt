@@ -1,8 +1,4 @@
-use Rattle.std.proofs.Common.{◌≡◌, List, map, drop}
-use Rattle.xr_arrays.specs.declared.node.Node.{Node}
-use Rattle.xr_types.specs.Results.{all_of}
-use Rattle.xr_defs.specs.Parts.{check_attr}
-use Rattle.xr_values.specs.Meaning.{with_key}
+use Rattle.xr_parts.proofs.Common.{List, Node, all_of, check_attr, drop, map, with_key, ◌≡◌}
 use Rattle.xr_parts.proofs.attributes.check_attrs.Given as goal
 
 abbrev pub invariant-loop-argument : goal.invariant-loop-argument

@@ -1,8 +1,4 @@
-use Rattle.std.proofs.Common.{◌≡◌, List, map, drop}
-use Rattle.xr_arrays.specs.declared.node.Node.{Node}
-use Rattle.xr_defs.specs.Parts.{each_attr}
-use Rattle.xr_values.specs.Meaning.{with_key}
-use Rattle.xr_defs.specs.WellFormed.{AreAttributes}
+use Rattle.xr_parts.proofs.Common.{AreAttributes, List, Node, drop, each_attr, map, with_key, ◌≡◌}
 use Rattle.xr_parts.proofs.attributes.each_attr.Given as goal
 
 abbrev pub invariant-loop-argument : goal.invariant-loop-argument

@@ -1,7 +1,4 @@
-use Rattle.std.proofs.Common.{Bor, subst, sym}
-use Rattle.xr_types.specs.declared.text.TextBytes.{TextBytes}
-use Rattle.xr_types.specs.Results.{Answers}
-use Rattle.xr_values.specs.Stands.{array_in}
+use Rattle.xr_parts.proofs.Common.{Answers, Bor, TextBytes, array_in, subst, sym}
 use Rattle.xr_parts.proofs.Naming.{name_absent}
 use Rattle.xr_parts.proofs.dataset_of.name_given.Goals as goal
 

@@ -1,5 +1,4 @@
-use Rattle.std.proofs.Common.{◌≡◌, take}
-use Rattle.xr_types.specs.Names.{axis_names}
+use Rattle.xr_parts.proofs.Common.{axis_names, take, ◌≡◌}
 use Rattle.xr_parts.proofs.dataset_of.names_of.Given as goal
 
 abbrev pub invariant-loop-axis : goal.invariant-loop-axis

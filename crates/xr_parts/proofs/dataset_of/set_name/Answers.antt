@@ -1,8 +1,4 @@
-use Rattle.std.proofs.Common.{Bor, subst, sym}
-use Rattle.xr_types.specs.declared.text.TextBytes.{TextBytes}
-use Rattle.xr_types.specs.Results.{Answers}
-use Rattle.xr_values.specs.Meaning.{given}
-use Rattle.xr_values.specs.Stands.{array_in}
+use Rattle.xr_parts.proofs.Common.{Answers, Bor, TextBytes, array_in, given, subst, sym}
 use Rattle.xr_parts.proofs.Naming.{bare_name}
 use Rattle.xr_parts.proofs.dataset_of.set_name.Goals as goal
 

@@ -1,5 +1,4 @@
-use Rattle.std.proofs.Common.{◌≡◌, map, take}
-use Rattle.xr_defs.specs.Parts.{unlabelled}
+use Rattle.xr_parts.proofs.Common.{map, take, unlabelled, ◌≡◌}
 use Rattle.xr_parts.proofs.drops.all_unlabelled.Given as goal
 
 abbrev pub invariant-loop-axis : goal.invariant-loop-axis

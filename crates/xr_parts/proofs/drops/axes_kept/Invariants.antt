@@ -1,5 +1,4 @@
-use Rattle.std.proofs.Common.{◌≡◌, ◌++◌, drop, filter}
-use Rattle.xr_parts.specs.Kept.{is_held}
+use Rattle.xr_parts.proofs.Common.{drop, filter, is_held, ◌++◌, ◌≡◌}
 use Rattle.xr_parts.proofs.drops.axes_kept.Given as goal
 
 abbrev pub invariant-loop-axis : goal.invariant-loop-axis

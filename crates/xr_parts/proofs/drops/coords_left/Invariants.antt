@@ -1,5 +1,4 @@
-use Rattle.std.proofs.Common.{◌≡◌, ◌++◌, [], drop}
-use Rattle.xr_defs.specs.Parts.{coords_left}
+use Rattle.xr_parts.proofs.Common.{[], coords_left, drop, ◌++◌, ◌≡◌}
 use Rattle.xr_parts.proofs.drops.coords_left.Given as goal
 
 abbrev pub invariant-loop-coord : goal.invariant-loop-coord

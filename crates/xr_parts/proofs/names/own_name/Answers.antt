@@ -1,4 +1,4 @@
-use Rattle.std.proofs.Common.{Some, None}
+use Rattle.xr_parts.proofs.Common.{None, Some}
 use Rattle.xr_parts.proofs.Naming.{own_name_is}
 use Rattle.xr_parts.proofs.names.own_name.Goals as goal
 

@@ -1,5 +1,4 @@
-use Rattle.std.proofs.Common.{◌≡◌, map, take, get_or}
-use Rattle.xr_defs.specs.Values.{no_axis}
+use Rattle.xr_parts.proofs.Common.{get_or, map, no_axis, take, ◌≡◌}
 use Rattle.xr_parts.proofs.orders.axes_in.Given as goal
 
 abbrev pub invariant-loop-k : goal.invariant-loop-k

@@ -1,7 +1,5 @@
-use Rattle.std.proofs.Common.{◌≡◌, ◌<◌, length, drop}
+use Rattle.xr_parts.proofs.Common.{behind, dimensions_at, drop, length, ◌<◌, ◌≡◌}
 use Rattle.std.specs.List.{All}
-use Rattle.xr_defs.specs.Parts.{dimensions_at}
-use Rattle.xr_parts.specs.Orders.{behind}
 use Rattle.xr_parts.proofs.orders.dimensions_at.Given as goal
 
 abbrev pub invariant-loop-name : goal.invariant-loop-name

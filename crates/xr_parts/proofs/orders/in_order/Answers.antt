@@ -1,6 +1,4 @@
-use Rattle.std.proofs.Common.{subst, sym}
-use Rattle.xr_arrays.specs.declared.node.Node.TheVariants.{Reorder}
-use Rattle.xr_arrays.specs.Nodes.{IsNode, values}
+use Rattle.xr_parts.proofs.Common.{IsNode, Reorder, subst, sym, values}
 use Rattle.xr_parts.proofs.Turned.{turned_array, turned_fits}
 use Rattle.xr_parts.proofs.Rooms.{node_added}
 use Rattle.xr_parts.proofs.orders.in_order.Goals as goal

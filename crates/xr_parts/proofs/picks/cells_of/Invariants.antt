@@ -1,4 +1,4 @@
-use Rattle.std.proofs.Common.{◌≡◌, map, take}
+use Rattle.xr_parts.proofs.Common.{map, take, ◌≡◌}
 use Rattle.xr_parts.proofs.picks.cells_of.Given as goal
 
 abbrev pub invariant-loop-at : goal.invariant-loop-at

@@ -1,6 +1,4 @@
-use Rattle.std.proofs.Common.{◌≡◌, ◌++◌, drop}
-use Rattle.xr_defs.specs.Encoding.{coords_over}
-use Rattle.xr_types.specs.Names.{axis_names}
+use Rattle.xr_parts.proofs.Common.{axis_names, coords_over, drop, ◌++◌, ◌≡◌}
 use Rattle.xr_parts.proofs.picks.coords_over.Given as goal
 
 abbrev pub invariant-loop-coord : goal.invariant-loop-coord

@@ -1,4 +1,4 @@
-use Rattle.std.proofs.Common.{◌≡◌, take}
+use Rattle.xr_values.proofs.Common.{take, ◌≡◌}
 use Rattle.xr_values.proofs.copies.copy_coords.Given as goal
 
 abbrev pub invariant-loop-coord : goal.invariant-loop-coord

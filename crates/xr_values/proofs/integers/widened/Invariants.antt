@@ -1,4 +1,4 @@
-use Rattle.std.proofs.Common.{◌≡◌, map, take}
+use Rattle.xr_values.proofs.Common.{map, take, ◌≡◌}
 use Rattle.xr_values.proofs.integers.widened.Given as goal
 
 abbrev pub invariant-loop-cell : goal.invariant-loop-cell

@@ -1,6 +1,4 @@
-use Rattle.std.proofs.Common.{◌≡◌, map, take}
-use Rattle.std.specs.Prelude.{flat_map}
-use Rattle.xr_values.specs.Carrying.{the_attrs}
+use Rattle.xr_values.proofs.Common.{flat_map, map, take, the_attrs, ◌≡◌}
 use Rattle.xr_values.proofs.joined.all_attrs.Given as goal
 
 abbrev pub invariant-loop-operand : goal.invariant-loop-operand

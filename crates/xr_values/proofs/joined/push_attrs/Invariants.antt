@@ -1,4 +1,4 @@
-use Rattle.std.proofs.Common.{◌≡◌, ◌++◌, map, take}
+use Rattle.xr_values.proofs.Common.{map, take, ◌++◌, ◌≡◌}
 use Rattle.xr_values.proofs.joined.push_attrs.Given as goal
 
 abbrev pub invariant-loop-attr : goal.invariant-loop-attr

@@ -1,7 +1,4 @@
-use Rattle.std.proofs.Common.{◌≡◌, ◌++◌, map, drop, filter}
-use Rattle.std.specs.Prelude.{flat_map}
-use Rattle.xr_defs.specs.declared.value.Coord.{Coord}
-use Rattle.xr_defs.specs.Carrying.{named_as}
+use Rattle.xr_values.proofs.Common.{Coord, drop, filter, flat_map, map, named_as, ◌++◌, ◌≡◌}
 use Rattle.xr_values.proofs.joined.push_named.Given as goal
 
 abbrev pub invariant-loop-other : goal.invariant-loop-other

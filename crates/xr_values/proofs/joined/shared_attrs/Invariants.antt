@@ -1,4 +1,4 @@
-use Rattle.std.proofs.Common.{◌≡◌}
+use Rattle.xr_values.proofs.Common.{◌≡◌}
 use Rattle.xr_values.proofs.Carried.{shared_upto}
 use Rattle.xr_values.proofs.joined.shared_attrs.Given as goal
 

@@ -1,5 +1,4 @@
-use Rattle.std.proofs.Common.{◌≡◌, ◌++◌, drop}
-use Rattle.xr_defs.specs.Values.{without_fills}
+use Rattle.xr_values.proofs.Common.{drop, without_fills, ◌++◌, ◌≡◌}
 use Rattle.xr_values.proofs.joined.without_fills.Given as goal
 
 abbrev pub invariant-loop-attr : goal.invariant-loop-attr

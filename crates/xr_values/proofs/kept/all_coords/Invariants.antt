@@ -1,5 +1,4 @@
-use Rattle.std.proofs.Common.{◌≡◌, map, take}
-use Rattle.xr_values.specs.Carrying.{the_coords}
+use Rattle.xr_values.proofs.Common.{map, take, the_coords, ◌≡◌}
 use Rattle.xr_values.proofs.kept.all_coords.Given as goal
 
 abbrev pub invariant-loop-operand : goal.invariant-loop-operand

@@ -1,5 +1,4 @@
-use Rattle.std.proofs.Common.{◌≡◌, drop, map}
-use Rattle.xr_defs.specs.Carrying.{is_agreed}
+use Rattle.xr_values.proofs.Common.{drop, is_agreed, map, ◌≡◌}
 use Rattle.xr_values.proofs.kept.is_agreed.Given as goal
 
 abbrev pub invariant-loop-other : goal.invariant-loop-other

@@ -1,4 +1,4 @@
-use Rattle.std.proofs.Common.{◌≡◌}
+use Rattle.xr_values.proofs.Common.{◌≡◌}
 use Rattle.xr_values.proofs.Carried.{kept_upto}
 use Rattle.xr_values.proofs.kept.kept_coords.Given as goal
 

@@ -1,4 +1,4 @@
-use Rattle.std.proofs.Common.{◌≡◌, ◌++◌, map, take}
+use Rattle.xr_values.proofs.Common.{map, take, ◌++◌, ◌≡◌}
 use Rattle.xr_values.proofs.kept.push_coords.Given as goal
 
 abbrev pub invariant-loop-coord : goal.invariant-loop-coord

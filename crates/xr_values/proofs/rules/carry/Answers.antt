@@ -1,5 +1,8 @@
-use Rattle.xr_values.proofs.Carries.{parts_formed}
+use Rattle.xr_values.proofs.Common.{array_in, map}
+use Rattle.xr_values.proofs.Carried.{in_any_plan}
+use Rattle.xr_values.proofs.Carries.{carried_formed}
 use Rattle.xr_values.proofs.rules.carry.Goals as goal
 
 pub returns-clause-formed : goal.returns-clause-formed
-returns-clause-formed c = λ nodes. parts_formed nodes c.args.how c.args.operands.now c.args.axes.now c.in_ok-all_parts.field-0 c.in_ok-all_parts.ensures
+returns-clause-formed c = λ nodes dimensions all.
+    rw (in_any_plan nodes c.args.how c.args.operands.now c.args.axes.now c.in_ok-all_parts.field-0 c.in_ok-all_parts.ensures) (carried_formed c.args.how (map (array_in nodes) c.args.operands.now) c.args.axes.now dimensions all)

@@ -1,4 +1,4 @@
-use Rattle.std.proofs.Common.{length}
+use Rattle.xr_values.proofs.Common.{length}
 use Rattle.xr_values.proofs.same.+same_dimensions.Given as goal
 
 abbrev pub decreases-same_dimensions : goal.decreases-same_dimensions

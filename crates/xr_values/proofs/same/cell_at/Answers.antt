@@ -1,7 +1,6 @@
-use Rattle.std.proofs.Common.{◌≡◌, ◌∙◌, Some, ap, sym, get_or}
+use Rattle.xr_values.proofs.Common.{Some, ap, cell, get_or, sym, ◌∙◌, ◌≡◌}
 use Rattle.std.proofs.lemmas.Int.{to_z-of_z}
-use Rattle.xr_arrays.specs.Arrays.{cell}
-use Rattle.xr_values.proofs.Equal.{masked, masked_off, unmasked}
+use Rattle.xr_values.proofs.Equal.{masked, unmasked}
 use Rattle.xr_values.proofs.same.cell_at.Goals as goal
 use mir.Syntax.{w128}
 
@@ -11,11 +10,6 @@ returns-then-as_slice-at-eq0 g c =
     ap Some (to_z-of_z w128 c.widen.result (record { sfits = c.widen.type_inv }) ∙ c.widen.ensures.value)
     ∙ ap (λ b. cell (g.T.Elem.number c.index-cells-at.result, b)) (sym shown)
     ∙ masked g.T.Elem.number c.args.cells.now c.args.mask c.in-Some.bytes c.args.at c.index-cells-at.result c.in-Some.is c.requires.mask c.requires.at c.index-cells-at.is
-
-pub returns-else-as_slice-at-eq0 : goal.returns-else-as_slice-at-eq0
-returns-else-as_slice-at-eq0 g c =
-    masked_off g.T.Elem.number c.args.cells.now c.args.mask c.in-Some.bytes c.args.at c.in-Some.is c.requires.mask c.requires.at
-    (λ e. c.if-as_slice-at-eq0.false (ap (λ bs. get_or bs c.args.at 0) c.as_slice.ensures ∙ e))
 
 pub returns-in-None : goal.returns-in-None
 returns-in-None g c =

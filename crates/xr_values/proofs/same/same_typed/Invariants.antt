@@ -1,8 +1,4 @@
-use Rattle.std.proofs.Common.{◌≡◌, map, drop}
-use Rattle.std.specs.Prelude.{option_map}
-use Rattle.std.specs.Cmp.Lexicographic.{pointwise}
-use Rattle.xr_arrays.specs.Arrays.{hidden}
-use Rattle.xr_defs.specs.Carrying.{same_cell}
+use Rattle.xr_values.proofs.Common.{drop, hidden, map, option_map, pointwise, same_cell, ◌≡◌}
 use Rattle.xr_values.proofs.same.same_typed.Given as goal
 
 abbrev pub invariant-loop-i : goal.invariant-loop-i

@@ -1,5 +1,4 @@
-use Rattle.std.proofs.Common.{◌≡◌, drop}
-use Rattle.xr_values.specs.Variables.{with_variables}
+use Rattle.xr_values.proofs.Common.{drop, with_variables, ◌≡◌}
 use Rattle.xr_values.proofs.variables.put_copies.Given as goal
 
 abbrev pub invariant-loop-variable : goal.invariant-loop-variable

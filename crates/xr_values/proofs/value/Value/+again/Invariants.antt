@@ -1,5 +1,4 @@
-use Rattle.std.proofs.Common.{◌≡◌, map, take}
-use Rattle.xr_values.specs.Trees.{tree, keyed_tree}
+use Rattle.xr_values.proofs.Common.{keyed_tree, map, take, tree, ◌≡◌}
 use Rattle.xr_values.proofs.value.Value.+again.Given as goal
 
 abbrev pub invariant-loop-item : goal.invariant-loop-item

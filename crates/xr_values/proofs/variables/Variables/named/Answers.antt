@@ -1,6 +1,4 @@
-use Rattle.std.proofs.Common.{◌∙◌, ap, find}
-use Rattle.std.specs.Str.{bytes_eq}
-use Rattle.xr_values.specs.declared.variable.Variable.{Variable as Var}
+use Rattle.xr_values.proofs.Common.{Variable as Var, ap, bytes_eq, find, ◌∙◌}
 use Rattle.xr_values.proofs.Named.{finds}
 use Rattle.xr_values.proofs.variables.Variables.named.Goals as goal
 

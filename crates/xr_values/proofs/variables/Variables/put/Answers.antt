@@ -1,5 +1,4 @@
-use Rattle.std.proofs.Common.{◌∙◌, ap, sym, subst}
-use Rattle.xr_values.specs.Variables.{with_variable, in_order, AreNamed}
+use Rattle.xr_values.proofs.Common.{AreNamed, ap, in_order, subst, sym, with_variable, ◌∙◌}
 use Rattle.xr_values.proofs.Named.{puts, stay_named}
 use Rattle.xr_values.proofs.variables.Variables.put.Goals as goal
 

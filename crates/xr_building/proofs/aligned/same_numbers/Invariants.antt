@@ -1,7 +1,0 @@
-use Rattle.std.proofs.Common.{◌≡◌, ◌<◌, ℕ, pos, true, get_or}
-use Rattle.xr_types.specs.declared.axis.Label.TheVariants.{Int}
-use Rattle.xr_arrays.specs.Labels.{same}
-use Rattle.xr_building.proofs.aligned.same_numbers.Given as goal
-
-abbrev pub invariant-loop-at : goal.invariant-loop-at
-invariant-loop-at l = (k : ℕ) → k < l.at → same (Int (get_or l.a k (pos 0))) (Int (get_or l.b k (pos 0))) ≡ true

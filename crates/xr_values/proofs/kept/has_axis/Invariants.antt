@@ -1,7 +1,0 @@
-use Rattle.std.proofs.Common.{◌≡◌, drop}
-use Rattle.xr_types.specs.Names.{among}
-use Rattle.xr_types.specs.Names.{axis_names}
-use Rattle.xr_values.proofs.kept.has_axis.Given as goal
-
-abbrev pub invariant-loop-axis : goal.invariant-loop-axis
-invariant-loop-axis l = among (axis_names (drop l.axis-index l.axes)) l.name ≡ among (axis_names l.axes) l.name
