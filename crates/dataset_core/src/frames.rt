@@ -1,18 +1,16 @@
 //! The methods that compute no cells.
 ghost use Rattle.std.specs.Prelude.{◌≡◌, ◌++◌, true, IfOk};
-ghost use Rattle.xr_types.specs.Names.{are_distinct};
 ghost use Rattle.xr_arrays.specs.Added.{AddsAtMost};
 ghost use Rattle.xr_defs.specs.Room.{portions, room};
 ghost use Rattle.xr_runs.specs.Calls.{of_array, of_both};
 ghost use Rattle.xr_defs.specs.Parts.{array_with_attrs as described_array, set_with_attrs as described_set};
 ghost use Rattle.xr_defs.specs.Parts.{dropped_of_array as left_of_array, dropped_of_set as left_of_set, renamed as named, to_dataset as as_dataset, transposed as reordered};
-ghost use Rattle.xr_defs.specs.Selecting.{isel_array as selected_array, isel_set as selected_set};
+ghost use Rattle.xr_operations.specs.Indexing.{isel_array as selected_array, isel_set as selected_set};
 ghost use Rattle.xr_operations.specs.Selection.{sel_array as labelled_array, sel_set as labelled_set};
 ghost use Rattle.xr_relations.specs.Reindexing.{reindex_array as relabelled_array, reindex_set as relabelled_set};
 ghost use Rattle.xr_chunks.specs.Chunks.{chunk_array as cut_array, chunk_set as cut_set};
 ghost use Rattle.plan_core.specs.Plans.{Grows};
 ghost use Rattle.xr_values.specs.Meaning.{meaning, given, IsValueIn};
-ghost use Rattle.xr_indexing.specs.Taken.{keywords};
 ghost use Rattle.dataset_core.specs.Answers.{AnswersValue, array_told, set_told};
 
 use crate::held::{array_value, set_value};
@@ -39,7 +37,7 @@ pub(crate) fn isel(
     requires { IsValueIn plan.old on.now }
     ensures answers { AnswersValue plan.new result (of_both (λ a. selected_array a (given plan.old args.now)) (λ s. selected_set s (given plan.old args.now)) (meaning plan.old on.now)) }
     ensures grows { Grows plan.old plan.new }
-    ensures room { are_distinct (keywords args.now) ≡ true → IfOk result (λ v. AddsAtMost plan.old plan.new (room (portions (meaning plan.old on.now) ++ portions (meaning plan.new v)))) }
+    ensures room { IfOk result (λ v. AddsAtMost plan.old plan.new (room (portions (meaning plan.old on.now) ++ portions (meaning plan.new v)))) }
 {
     match on {
         Value::Array(array) => {
@@ -65,7 +63,7 @@ pub(crate) fn sel(
     requires { IsValueIn plan.old on.now }
     ensures answers { AnswersValue plan.new result (of_both (λ a. labelled_array a (given plan.old args.now)) (λ s. labelled_set s (given plan.old args.now)) (meaning plan.old on.now)) }
     ensures grows { Grows plan.old plan.new }
-    ensures room { are_distinct (keywords args.now) ≡ true → IfOk result (λ v. AddsAtMost plan.old plan.new (room (portions (meaning plan.old on.now) ++ portions (meaning plan.new v)))) }
+    ensures room { IfOk result (λ v. AddsAtMost plan.old plan.new (room (portions (meaning plan.old on.now) ++ portions (meaning plan.new v)))) }
 {
     match on {
         Value::Array(array) => {

@@ -2,7 +2,6 @@
 ghost use Rattle.std.specs.Prelude.{◌≡◌, ◌++◌, ◌||◌, ℕ, List, false, true, IfOk};
 ghost use denote.Param.Send.{IsSync};
 ghost use Rattle.xr_arrays.specs.declared.node.Node.{Node};
-ghost use Rattle.xr_types.specs.Names.{are_distinct};
 ghost use Rattle.xr_arrays.specs.Added.{AddsAtMost};
 ghost use Rattle.xr_defs.specs.Room.{portions, room};
 ghost use Rattle.xr_types.specs.Names.{among};
@@ -10,7 +9,6 @@ ghost use Rattle.xr_runs.specs.Calls as calls;
 ghost use Rattle.xr_runs.specs.Calls.{method_called, uncomputed_method as uncomputed, other_method as other_method_called, is_labelled_data as is_labelled, promoting};
 ghost use Rattle.plan_core.specs.Plans.{Grows};
 ghost use Rattle.xr_values.specs.Meaning.{meaning, given, IsValueIn, AreArgsIn};
-ghost use Rattle.xr_indexing.specs.Taken.{keywords};
 ghost use Rattle.dataset_core.specs.Answers.{AnswersValue, RefusesValue};
 ghost use Rattle.dataset_core.specs.Assigned.{method_told, FollowsValue};
 
@@ -219,7 +217,7 @@ fn uncomputed_method(
     ensures answers { AnswersValue plan.new result (uncomputed (meaning plan.old on.now) name.now (given plan.old args.now)) }
     ensures inside { IfOk result (IsValueIn plan.new) }
     ensures grows { Grows plan.old plan.new }
-    ensures room { are_distinct (keywords args.now) ≡ true → IfOk result (λ v. AddsAtMost plan.old plan.new (room (portions (meaning plan.old on.now) ++ portions (meaning plan.new v)))) }
+    ensures room { IfOk result (λ v. AddsAtMost plan.old plan.new (room (portions (meaning plan.old on.now) ++ portions (meaning plan.new v)))) }
 {
     let called = name.as_str();
     if called == "isel" {
@@ -270,7 +268,7 @@ pub fn call_method<R: Threads + Sync, C: Compute>(
     ensures undeclined { ((n : ℕ) → C.declines cx.old.compute cx.old.plan n ≡ false) → AnswersValue cx.new.plan result (method_called (meaning cx.old.plan on.now) name.now (given cx.old.plan args.now)) }
     ensures inside { IfOk result (IsValueIn cx.new.plan) }
     ensures grows { Grows cx.old.plan cx.new.plan }
-    ensures room { are_distinct (keywords args.now) ≡ true → IfOk result (λ v. AddsAtMost cx.old.plan cx.new.plan (room (portions (meaning cx.old.plan on.now) ++ portions (meaning cx.new.plan v)))) }
+    ensures room { IfOk result (λ v. AddsAtMost cx.old.plan cx.new.plan (room (portions (meaning cx.old.plan on.now) ++ portions (meaning cx.new.plan v)))) }
     ensures keeps { (nodes : List Node) (n : ℕ) → C.declines cx.new.compute nodes n ≡ C.declines cx.old.compute nodes n }
 {
     if name.as_str() == "assign_coords" {

@@ -16,7 +16,8 @@ use Rattle.xr_types.specs.Results.{◌>>=◌, unless}
 use Rattle.xr_defs.specs.Values.{DataArray, Dataset, total}
 use Rattle.xr_defs.specs.Meanings.{Value, Values, Number, Missing, Truth, Text, Sequence, Table, Slice, Array, NoValue, With, NoEntry, Entry, Given}
 use Rattle.xr_defs.specs.Arguments.{only_of, as_text, as_position, as_positions, check_dimension, nothing_given}
-use Rattle.xr_defs.specs.Selecting.{isel_array, check_selector, as_selector, as_number, as_numbers, array_selected, array_each_selected, choice_of, position_in, positions_in, check_array, check_set}
+use Rattle.xr_defs.specs.Selecting.{check_selector, as_selector, as_number, as_numbers, choice_of, position_in, positions_in, check_array, check_set}
+use Rattle.xr_operations.specs.Indexing.{array_selected, choice_along, isel_array, selection_from, selection_given}
 use Rattle.xr_defs.specs.Parts.{new_name, to_dataset, set_name, name_given, transposed, order_given, dimensions_at, dimension_at, as_texts, texts_in, as_names, names_given, dropped_of_array, attrs_assigned, check_attr, each_attr, attr_given, as_set}
 use Rattle.xr_defs.specs.Building as build
 use Rattle.xr_defs.specs.Building.{elements, data_array, array_built, bound, check_elements, dims_given, entries_given, check_table_entry, kind_given, check_entry, check_place, check_coordinate, check_labels, as_labels, with_entries, with_entry, with_labels, with_coordinate, coordinate_given, check_numbers, entries_assigned, coords_assigned, assigned_to_array, assigned_to_set}
@@ -63,23 +64,23 @@ abbrev selected : List ℕ → Value → Result DataArray Fault
 selected name v = data_array arguments >>= λ a. isel_array a (keyed ((name, v) ∷ []))
 
 the_last : text_of (selected (codes "x") (Number (negsuc 0))) ≡ Ok (codes "DataArray - () int64\n30\ncoord x int64 (): 3\n")
-unfolding elements data_array array_built bound check_elements dims_given entries_given check_table_entry kind_given build.name_given check_entry check_place check_coordinate check_labels as_labels texts_in as_text with_entries with_entry with_labels with_coordinate coordinate_given check_numbers check_array unless digits isel_array check_selector as_selector as_number as_numbers as_positions as_position check_dimension array_each_selected array_selected choice_of position_in positions_in
+unfolding elements data_array array_built bound check_elements dims_given entries_given check_table_entry kind_given build.name_given check_entry check_place check_coordinate check_labels as_labels texts_in as_text with_entries with_entry with_labels with_coordinate coordinate_given check_numbers check_array unless digits isel_array check_selector as_selector as_number as_numbers as_positions as_position check_dimension selection_given selection_from choice_along array_selected choice_of position_in positions_in
 the_last = refl
 
 past_the_end : selected (codes "x") (Number (pos 3)) ≡ Err OutOfRange
-unfolding elements data_array array_built bound check_elements dims_given entries_given check_table_entry kind_given build.name_given check_entry check_place check_coordinate check_labels as_labels texts_in as_text with_entries with_entry with_labels with_coordinate coordinate_given check_numbers check_array unless digits isel_array check_selector as_selector as_number as_numbers as_positions as_position check_dimension array_each_selected array_selected choice_of position_in positions_in
+unfolding elements data_array array_built bound check_elements dims_given entries_given check_table_entry kind_given build.name_given check_entry check_place check_coordinate check_labels as_labels texts_in as_text with_entries with_entry with_labels with_coordinate coordinate_given check_numbers check_array unless digits isel_array check_selector as_selector as_number as_numbers as_positions as_position check_dimension selection_given selection_from choice_along array_selected choice_of position_in positions_in
 past_the_end = refl
 
 no_dimension : selected (codes "y") (Number (pos 0)) ≡ Err (NoDimension (codes "y"))
-unfolding elements data_array array_built bound check_elements dims_given entries_given check_table_entry kind_given build.name_given check_entry check_place check_coordinate check_labels as_labels texts_in as_text with_entries with_entry with_labels with_coordinate coordinate_given check_numbers check_array unless digits isel_array check_selector as_selector as_number as_numbers as_positions as_position check_dimension array_each_selected array_selected choice_of position_in positions_in
+unfolding elements data_array array_built bound check_elements dims_given entries_given check_table_entry kind_given build.name_given check_entry check_place check_coordinate check_labels as_labels texts_in as_text with_entries with_entry with_labels with_coordinate coordinate_given check_numbers check_array unless digits isel_array check_selector as_selector as_number as_numbers as_positions as_position check_dimension selection_given selection_from choice_along array_selected choice_of position_in positions_in
 no_dimension = refl
 
 backwards : text_of (selected (codes "x") (Slice part.Open part.Open (Some (negsuc 1)))) ≡ Ok (codes "DataArray - (x: 2) int64\n30 10\ncoord x int64 (x): 3 1\n")
-unfolding elements data_array array_built bound check_elements dims_given entries_given check_table_entry kind_given build.name_given check_entry check_place check_coordinate check_labels as_labels texts_in as_text with_entries with_entry with_labels with_coordinate coordinate_given check_numbers check_array unless digits isel_array check_selector as_selector as_number as_numbers as_positions as_position check_dimension array_each_selected array_selected choice_of position_in positions_in
+unfolding elements data_array array_built bound check_elements dims_given entries_given check_table_entry kind_given build.name_given check_entry check_place check_coordinate check_labels as_labels texts_in as_text with_entries with_entry with_labels with_coordinate coordinate_given check_numbers check_array unless digits isel_array check_selector as_selector as_number as_numbers as_positions as_position check_dimension selection_given selection_from choice_along array_selected choice_of position_in positions_in
 backwards = refl
 
 by_a_list : text_of (selected (codes "x") (Sequence (numbers (pos 2 ∷ pos 0 ∷ [])))) ≡ Ok (codes "DataArray - (x: 2) int64\n30 10\ncoord x int64 (x): 3 1\n")
-unfolding elements data_array array_built bound check_elements dims_given entries_given check_table_entry kind_given build.name_given check_entry check_place check_coordinate check_labels as_labels texts_in as_text with_entries with_entry with_labels with_coordinate coordinate_given check_numbers check_array unless digits isel_array check_selector as_selector as_number as_numbers as_positions as_position check_dimension array_each_selected array_selected choice_of position_in positions_in
+unfolding elements data_array array_built bound check_elements dims_given entries_given check_table_entry kind_given build.name_given check_entry check_place check_coordinate check_labels as_labels texts_in as_text with_entries with_entry with_labels with_coordinate coordinate_given check_numbers check_array unless digits isel_array check_selector as_selector as_number as_numbers as_positions as_position check_dimension selection_given selection_from choice_along array_selected choice_of position_in positions_in
 by_a_list = refl
 
 -- a table of two rows, masked, with its dimensions changed over

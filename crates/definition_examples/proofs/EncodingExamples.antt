@@ -11,7 +11,7 @@ use Rattle.xr_types.specs.declared.attr.NcType.TheVariants.{Byte, Char, Short, I
 use Rattle.xr_types.specs.declared.axis.Axis.{Axis}
 use Rattle.xr_types.specs.declared.axis.LabelList.TheVariants.{Texts, Times}
 use Rattle.xr_types.specs.declared.axis.TimeCoding.{TimeCoding}
-use Rattle.xr_types.specs.declared.axis.TimeUnit.TheVariants.{Days, Hours}
+use Rattle.xr_types.specs.declared.axis.TimeUnit.TheVariants.{Days}
 use Rattle.xr_types.specs.declared.axis.Calendar.TheVariants.{NoLeap}
 use Rattle.xr_types.specs.declared.kind.DType.{DType}
 use Rattle.xr_types.specs.declared.kind.DType.TheVariants as kinds
@@ -22,7 +22,7 @@ use Rattle.xr_types.specs.Results.{unless}
 use Rattle.xr_files.specs.Canonical.{canonical}
 use Rattle.xr_defs.specs.Values.{Dataset, Variable}
 use Rattle.xr_defs.specs.Decoding.{set_of, is_skipped, labels_in, is_index, is_coordinate, check_count}
-use Rattle.xr_defs.specs.Encoding.{file_of, check_unlimited, check_names, check_records, check_fill, check_fit, check_cells, encoded, reference_text, units_written}
+use Rattle.xr_defs.specs.Encoding.{file_of, check_unlimited, check_names, check_records, check_fill, check_fit, check_cells, reference_text, units_written}
 use Rattle.xr_times.specs.Units.{behind_word}
 use Rattle.xr_defs.specs.Printing.{set_text}
 

@@ -1,18 +1,18 @@
 -- Worked rows of new labels and of times, as xarray and CF give them.
-use Rattle.std.proofs.Common.{◌≡◌, ℕ, ℤ, pos, negsuc, true, false, List, [], ◌∷◌, ◌++◌, map, Option, Some, None, Result, Ok, Err, refl}
+use Rattle.std.proofs.Common.{◌≡◌, ℕ, ℤ, pos, negsuc, true, false, List, [], ◌∷◌, Option, Some, None, Result, Ok, Err, refl}
 use Rattle.std.specs.Prelude.{codes}
 use Rattle.xr_types.specs.Results.{unless}
 use Rattle.xr_types.specs.declared.axis.Axis.{Axis}
 use Rattle.xr_types.specs.declared.axis.Calendar.TheVariants.{Civil, NoLeap}
 use Rattle.xr_types.specs.declared.axis.LabelList.{LabelList}
-use Rattle.xr_types.specs.declared.axis.LabelList.TheVariants.{Numbers, Texts}
+use Rattle.xr_types.specs.declared.axis.LabelList.TheVariants.{Numbers}
 use Rattle.xr_types.specs.declared.axis.TimeUnit.TheVariants.{Days}
 use Rattle.xr_types.specs.declared.fault.Fault.{Fault}
-use Rattle.xr_types.specs.declared.fault.Fault.TheVariants.{BadArgument, DoesNotFit, LabelKind, NoDimension, NotMonotonic, NotUnique, OutOfRange, WouldPromote, WrongKind}
+use Rattle.xr_types.specs.declared.fault.Fault.TheVariants.{BadArgument, DoesNotFit, LabelKind, NotMonotonic, NotUnique, OutOfRange, WouldPromote, WrongKind}
 use Rattle.xr_types.specs.declared.kind.DType.{DType}
 use Rattle.xr_types.specs.declared.kind.DType.TheVariants as kinds
 use Rattle.xr_times.specs.Times.{days_of_months, days_of_years}
-use Rattle.xr_times.specs.Units.{behind_word, date, marked_time, part, reference, second, time_of_day, unit, units_of}
+use Rattle.xr_times.specs.Units.{behind_word, date, part, reference, unit, units_of}
 use Rattle.xr_defs.specs.Arguments.{as_text, check_dimension}
 use Rattle.xr_defs.specs.Building.{bound}
 use Rattle.xr_defs.specs.Meanings.{Value, Given, Missing, NoValue, Number, Sequence, Text, Truth, With}

@@ -2,6 +2,8 @@
 use Rattle.std.proofs.Common.{◌≡◌, ℕ, ℤ, pos, negsuc, true, false, List, [], ◌∷◌, map, Some, None, Result, Ok, Err, refl}
 use Rattle.std.specs.Prelude.{codes}
 use Rattle.xr_types.specs.Results.{unless}
+use Rattle.xr_types.specs.Names.{shape_over}
+use Rattle.xr_arrays.specs.Arrays.{Array}
 use Rattle.xr_types.specs.declared.axis.Axis.{Axis}
 use Rattle.xr_types.specs.declared.axis.Calendar.TheVariants.{Civil}
 use Rattle.xr_types.specs.declared.axis.LabelList.{LabelList}
@@ -14,7 +16,8 @@ use Rattle.xr_types.specs.declared.kind.DType.TheVariants as kinds
 use Rattle.xr_times.specs.Times.{days_of_months, days_of_years, has_clock}
 use Rattle.xr_defs.specs.Arguments.{as_position, as_positions, as_text, check_dimension}
 use Rattle.xr_defs.specs.Meanings.{Value, Given, NoValue, Number, Sequence, Slice, Text, Truth, With}
-use Rattle.xr_defs.specs.Selecting.{array_each_selected, array_selected, as_number, as_selector, check_array, check_selector, check_set, choice_of, isel_array, isel_set, position_in, set_each_selected, set_selected}
+use Rattle.xr_defs.specs.Selecting.{as_number, as_numbers, as_selector, check_array, check_selector, check_set, choice_of, position_in, positions_in}
+use Rattle.xr_operations.specs.Indexing.{array_selected, choice_along, isel_array, isel_set, selection_from, selection_given, set_selected}
 use Rattle.xr_defs.specs.Values.{DataArray, Dataset, Variable, label_count}
 use Rattle.xr_defs.specs.declared.slice.Part.{Part}
 use Rattle.xr_defs.specs.declared.slice.Part.TheVariants as part
@@ -236,14 +239,14 @@ keyed v more = record { plain = []; keyed = (codes "x", v) ∷ more }
 
 between_falling : sel_array (array (indexed falling ∷ []) [] (pos 1 ∷ pos 2 ∷ pos 3 ∷ pos 4 ∷ [])) (keyed (ends (part.At (pos 4)) (part.At (pos 1))) [])
     ≡ Ok (array (indexed (numbers (pos 4 ∷ pos 2 ∷ pos 1 ∷ [])) ∷ []) [] (pos 2 ∷ pos 3 ∷ pos 4 ∷ []))
-unfolding sel_array positions_given search_given as_method as_tolerance check_kind check_dimension each_located positions_on located label_located list_located slice_located between_ends as_end unless isel_array check_selector as_selector as_positions as_position array_each_selected array_selected choice_of check_array
+unfolding sel_array positions_given search_given as_method as_tolerance check_kind check_dimension each_located positions_on located label_located list_located slice_located between_ends as_end unless isel_array check_selector as_selector as_positions as_position selection_given selection_from choice_along array_selected choice_of check_array
 between_falling = refl
 
 abbrev label_20 : Coord
 label_20 = record { name = codes "x"; axes = []; attrs = []; content = contents.Cells (record { kind = kinds.Int64; shape = []; cells = Some (pos 20) ∷ [] }) false }
 
 nearest : sel_array (array (indexed tens ∷ []) [] (pos 1 ∷ pos 2 ∷ [])) (keyed (Number (pos 15)) (method (codes "nearest"))) ≡ Ok (array [] (label_20 ∷ []) (pos 2 ∷ []))
-unfolding sel_array positions_given search_given as_method as_text as_tolerance check_kind check_dimension each_located positions_on located label_located list_located slice_located as_label found unless isel_array check_selector as_selector array_each_selected array_selected choice_of position_in check_array
+unfolding sel_array positions_given search_given as_method as_text as_tolerance check_kind check_dimension each_located positions_on located label_located list_located slice_located as_label found unless isel_array check_selector as_selector selection_given selection_from choice_along array_selected choice_of position_in check_array
 nearest = refl
 
 -- a variable without the dimension stays
@@ -255,5 +258,34 @@ dataset axes coords vars = record { axes = axes; coords = coords; vars = vars; a
 
 of_a_dataset : sel_set (dataset (indexed tens ∷ []) [] (variable (codes "v") (codes "x" ∷ []) (pos 1 ∷ pos 2 ∷ []) ∷ variable (codes "w") [] (pos 7 ∷ []) ∷ [])) (keyed (Number (pos 20)) [])
     ≡ Ok (dataset [] (label_20 ∷ []) (variable (codes "v") [] (pos 2 ∷ []) ∷ variable (codes "w") [] (pos 7 ∷ []) ∷ []))
-unfolding sel_set positions_given search_given as_method as_tolerance check_kind check_dimension each_located positions_on located label_located list_located slice_located as_label found unless isel_set check_selector as_selector set_each_selected set_selected choice_of position_in check_set
+unfolding sel_set positions_given search_given as_method as_tolerance check_kind check_dimension each_located positions_on located label_located list_located slice_located as_label found unless isel_set check_selector as_selector selection_given selection_from choice_along set_selected choice_of position_in check_set
 of_a_dataset = refl
+
+-- ---- positions of several dimensions at once; those that go leave their labels in the order of the arguments
+
+abbrev by_y_and_x : Value → Value → Given
+by_y_and_x v w = record { plain = []; keyed = (codes "y", v) ∷ (codes "x", w) ∷ [] }
+
+abbrev along_y : Axis
+along_y = record { name = codes "y"; size = 2; labels = Some (record { list = numbers (pos 7 ∷ pos 8 ∷ []); attrs = [] }) }
+
+abbrev cells_over : List ℕ → List ℤ → Array
+cells_over shape ns = record { kind = kinds.Int64; shape = shape; cells = map Some ns }
+
+abbrev plane : List Axis → List ℤ → Coord
+plane axes ns = record { name = codes "c"; axes = axes; attrs = []; content = contents.Cells (cells_over (shape_over axes) ns) false }
+
+abbrev table : DataArray
+table = array (indexed tens ∷ along_y ∷ []) (plane (along_y ∷ indexed tens ∷ []) (pos 5 ∷ pos 6 ∷ pos 7 ∷ pos 8 ∷ []) ∷ []) (pos 1 ∷ pos 2 ∷ pos 3 ∷ pos 4 ∷ [])
+
+abbrev label_at : List ℕ → ℤ → Coord
+label_at name n = record { name = name; axes = []; attrs = []; content = contents.Cells (cells_over [] (n ∷ [])) false }
+
+both_gone : isel_array table (by_y_and_x (Number (pos 1)) (Number (negsuc 1))) ≡ Ok (array [] (plane [] (pos 7 ∷ []) ∷ label_at (codes "y") (pos 8) ∷ label_at (codes "x") (pos 10) ∷ []) (pos 2 ∷ []))
+unfolding unless isel_array check_selector as_selector check_dimension selection_given selection_from choice_along array_selected choice_of position_in check_array
+both_gone = refl
+
+one_repeated : isel_array table (by_y_and_x (Sequence (With (With NoValue (Number (pos 1))) (Number (pos 1)))) (Number (pos 0)))
+    ≡ Ok (array (record along_y { labels = Some (record { list = numbers (pos 8 ∷ pos 8 ∷ []); attrs = [] }) } ∷ []) (plane (record along_y { labels = Some (record { list = numbers (pos 8 ∷ pos 8 ∷ []); attrs = [] }) } ∷ []) (pos 7 ∷ pos 7 ∷ []) ∷ label_at (codes "x") (pos 10) ∷ []) (pos 2 ∷ pos 2 ∷ []))
+unfolding unless isel_array check_selector as_selector as_numbers as_number check_dimension selection_given selection_from choice_along array_selected choice_of positions_in position_in check_array
+one_repeated = refl

@@ -1,26 +1,17 @@
 -- Axes with what is put on them: they keep their names and sizes, and have the labels that are put last.
-use Rattle.xr_building.proofs.Common.{Axis, Bool, Coord, Fault, Frame, Labels, List, None, NotAligned, Numbers, Option, Put, Result, SizeConflict, Some, [], after, all_of, among, ap, are_aligned, array_checks, axis_called, axis_names, bytes_eq, called_kept, check_axis, checked_axis, equal_labels, false, if◌then◌else◌, is_dimension, label_total, labels_at, labels_of, labels_or, last_labels, names_kept, no_axis, over, present, put_on, refl, relabelled, shape_over, size_alike, sizes_kept, sym, true, unless, ℕ, ◌++◌, ◌>>=◌, ◌∙◌, ◌∷◌, ◌≡◌}
+use Rattle.xr_building.proofs.Common.{Axis, Bool, Coord, Frame, Labels, List, None, NotAligned, Option, Put, SizeConflict, Some, [], after, among, ap, are_aligned, axis_called, axis_names, bytes_eq, called_kept, check_axis, checked_axis, cond_both, equal_labels, false, if◌then◌else◌, is_dimension, labels_at, labels_of, labels_or, last_labels, names_kept, over, put_on, refl, relabelled, shape_over, size_alike, sizes_kept, sym, true, unless, ℕ, ◌++◌, ◌>>=◌, ◌∙◌, ◌∷◌, ◌≡◌}
 use Rattle.std.specs.Prelude.{◌==◌}
 use Rattle.std.specs.Option.{option_or}
-use Rattle.xr_defs.specs.Values as of
 use Rattle.xr_building.specs.declared.puts.NewLabels.{NewLabels}
 use Rattle.xr_building.specs.declared.puts.Put.TheVariants as puts
 use Rattle.xr_building.proofs.Called.{called_name, dimension_named, not_called}
 
 module _ (name : List ℕ) (l : Labels) where
   pub label_name : (x : Axis) → (relabelled name l x).name ≡ x.name
-  label_name x = by (bytes_eq x.name name)
-    where
-      by : (b : Bool) → (if b then record x { labels = Some l } else x).name ≡ x.name
-      by true = refl
-      by false = refl
+  label_name x = cond_both (bytes_eq x.name name) (record x { labels = Some l }) x (λ (y : Axis). y.name ≡ x.name) (λ same. refl) (λ other. refl)
 
   pub label_size : (x : Axis) → (relabelled name l x).size ≡ x.size
-  label_size x = by (bytes_eq x.name name)
-    where
-      by : (b : Bool) → (if b then record x { labels = Some l } else x).size ≡ x.size
-      by true = refl
-      by false = refl
+  label_size x = cond_both (bytes_eq x.name name) (record x { labels = Some l }) x (λ (y : Axis). y.size ≡ x.size) (λ same. refl) (λ other. refl)
 
 pub after_names : (f : Frame) (ps : List Put) → axis_names (after f ps).axes ≡ axis_names f.axes
 after_names f [] = refl
@@ -28,8 +19,7 @@ after_names f (p ∷ ps) = after_names (put_on f p) ps ∙ by p
   where
     by : (p : Put) → axis_names (put_on f p).axes ≡ axis_names f.axes
     by (puts.Labels name l) = names_kept (relabelled name (labels_of l)) (label_name name (labels_of l)) (label_size name (labels_of l)) f.axes
-    by (puts.Number name n) = refl
-    by (puts.Coord c) = refl
+    by p = refl
 
 pub after_sizes : (f : Frame) (ps : List Put) → shape_over (after f ps).axes ≡ shape_over f.axes
 after_sizes f [] = refl
@@ -37,8 +27,7 @@ after_sizes f (p ∷ ps) = after_sizes (put_on f p) ps ∙ by p
   where
     by : (p : Put) → shape_over (put_on f p).axes ≡ shape_over f.axes
     by (puts.Labels name l) = sizes_kept (relabelled name (labels_of l)) (label_name name (labels_of l)) (label_size name (labels_of l)) f.axes
-    by (puts.Number name n) = refl
-    by (puts.Coord c) = refl
+    by p = refl
 
 pub after_dimension : (f : Frame) (ps : List Put) (n : List ℕ) → is_dimension (after f ps).axes n ≡ is_dimension f.axes n
 after_dimension f ps n = dimension_named (after f ps).axes n ∙ ap (λ ns. among ns n) (after_names f ps) ∙ sym (dimension_named f.axes n)
@@ -64,8 +53,7 @@ after_labels_from f o own (p ∷ ps) n is begun = after_labels_from (put_on f p)
         to : (b : Bool) → (if b then record (axis_called f.axes n) { labels = Some (labels_of l) } else axis_called f.axes n).labels ≡ labels_or (option_or (if b then Some l else None) o) own
         to true = refl
         to false = begun
-    one (puts.Number m k) = begun
-    one (puts.Coord c) = begun
+    one p = begun
 
 pub after_labels : (f : Frame) (ps : List Put) (n : List ℕ) → is_dimension f.axes n ≡ true → (axis_called (after f ps).axes n).labels ≡ labels_or (last_labels n None ps) (axis_called f.axes n).labels
 after_labels f ps n is = after_labels_from f None (axis_called f.axes n).labels ps n is refl
@@ -84,28 +72,11 @@ module _ (axes : List Axis) (coords : List Coord) (ps : List Put) (x : Axis) whe
   abbrev then_called : Axis
   then_called = axis_called (after (over axes coords) ps).axes x.name
 
-  pub axis_there : (y : Axis) → is_dimension axes x.name ≡ true → axis_called axes x.name ≡ y → check_axis (after (over axes coords) ps).axes x ≡ checked_axis x y.size (labels_or (last_labels x.name None ps) y.labels)
+  pub axis_there : is_dimension axes x.name ≡ true → check_axis (after (over axes coords) ps).axes x ≡ checked_axis x (axis_called axes x.name).size (labels_or (last_labels x.name None ps) (axis_called axes x.name).labels)
   unfolding check_axis
-  axis_there y there is =
+  axis_there there =
       against x then_called ∙ ap (λ n. checked_axis x n then_called.labels) (after_size (over axes coords) ps x.name) ∙ ap (checked_axis x (axis_called axes x.name).size) (after_labels (over axes coords) ps x.name there)
-      ∙ ap (λ (z : Axis). checked_axis x z.size (labels_or (last_labels x.name None ps) z.labels)) is
 
   pub axis_gone : is_dimension axes x.name ≡ false → check_axis (after (over axes coords) ps).axes x ≡ checked_axis x 0 None
   unfolding check_axis
   axis_gone gone = against x then_called ∙ ap (λ (z : Axis). checked_axis x z.size z.labels) (not_called (after (over axes coords) ps).axes x.name (after_dimension (over axes coords) ps x.name ∙ gone))
-
--- ---- an array against the axes
-
-module _ (axes : List Axis) (coords : List Coord) (ps : List Put) (name : List ℕ) (a : of.DataArray) where
-  abbrev then_axes : List Axis
-  then_axes = (after (over axes coords) ps).axes
-
-  abbrev sized : ℕ → Result (Unit {0}) Fault
-  sized n = unless (label_total (Numbers a.kind (present a.cells)) == n) SizeConflict
-
-  pub checks_along : is_dimension axes name ≡ true → array_checks (after (over axes coords) ps) name a ≡ sized (axis_called axes name).size
-  checks_along is =
-      ap (λ b. if b then sized (axis_called then_axes name).size else all_of (check_axis then_axes) a.axes) (after_dimension (over axes coords) ps name ∙ is) ∙ ap sized (after_size (over axes coords) ps name)
-
-  pub checks_beside : is_dimension axes name ≡ false → array_checks (after (over axes coords) ps) name a ≡ all_of (check_axis then_axes) a.axes
-  checks_beside is = ap (λ b. if b then sized (axis_called then_axes name).size else all_of (check_axis then_axes) a.axes) (after_dimension (over axes coords) ps name ∙ is)

@@ -1,21 +1,27 @@
 -- Axes of which each is changed, but for its name and its size.
-use Rattle.xr_building.proofs.Common.{Axis, Bool, List, None, Option, Some, [], among, ap, axis_called, axis_names, axis_position, bytes_eq, bytes_eq_swap, called_cons, drop, false, from_place, get_or, if◌then◌else◌, is_dimension, is_some, length, name_called, no_axis, refl, shape_over, suc, sym, true, ℕ, ◌+◌, ◌<◌, ◌||◌, ◌∙◌, ◌∷◌, ◌≡◌}
+use Rattle.xr_building.proofs.Common.{Axis, Bool, List, None, Option, Some, [], among, ap, axis_called, axis_names, axis_or_none, axis_position, bytes_eq, bytes_eq_swap, called_cons, cond, false, find, get_or, if◌then◌else◌, is_dimension, is_some, length, name_called, no_axis, refl, shape_over, suc, sym, true, ℕ, ◌+◌, ◌||◌, ◌∙◌, ◌∷◌, ◌≡◌}
 use Rattle.std.specs.Prelude.{option_map}
 
-pub dimension_cons : (x : Axis) (xs : List Axis) (name : List ℕ) → is_dimension (x ∷ xs) name ≡ (bytes_eq x.name name || is_dimension xs name)
-dimension_cons x xs name = by (bytes_eq x.name name) (axis_position name xs)
+-- the first axis of a name, where there is one
+abbrev named : List ℕ → List Axis → Option Axis
+named name axes = find (λ (x : Axis). bytes_eq x.name name) axes
+
+pub called_found : (axes : List Axis) (name : List ℕ) → axis_called axes name ≡ axis_or_none (find (λ (x : Axis). bytes_eq x.name name) axes)
+called_found [] name = refl
+called_found (x ∷ xs) name = called_cons x xs name ∙ by (bytes_eq x.name name) (called_found xs name)
   where
-    by : (b : Bool) (o : Option ℕ) → is_some (if b then Some 0 else option_map (λ n. n + 1) o) ≡ (b || is_some o)
-    by true o = refl
-    by false None = refl
-    by false (Some k) = refl
+    by : (b : Bool) → axis_called xs name ≡ axis_or_none (named name xs) → cond b x (axis_called xs name) ≡ axis_or_none (cond b (Some x) (named name xs))
+    by true rest = refl
+    by false rest = rest
 
--- where the axes before one have other names
-pub called_from : (axes : List Axis) (i : ℕ) (x : Axis) (name : List ℕ) → i < length axes → x ≡ get_or axes i x → axis_called (drop i axes) name ≡ (if bytes_eq x.name name then x else axis_called (drop (i + 1) axes) name)
-called_from axes i x name lt is = ap (λ xs. axis_called xs name) (from_place axes i x lt is) ∙ called_cons x (drop (i + 1) axes) name
-
-pub dimension_from : (axes : List Axis) (i : ℕ) (x : Axis) (name : List ℕ) → i < length axes → x ≡ get_or axes i x → is_dimension (drop i axes) name ≡ (bytes_eq x.name name || is_dimension (drop (i + 1) axes) name)
-dimension_from axes i x name lt is = ap (λ xs. is_dimension xs name) (from_place axes i x lt is) ∙ dimension_cons x (drop (i + 1) axes) name
+pub dimension_found : (axes : List Axis) (name : List ℕ) → is_dimension axes name ≡ is_some (find (λ (x : Axis). bytes_eq x.name name) axes)
+dimension_found [] name = refl
+dimension_found (x ∷ xs) name = by (bytes_eq x.name name) (axis_position name xs) (dimension_found xs name)
+  where
+    by : (b : Bool) (o : Option ℕ) → is_some o ≡ is_some (named name xs) → is_some (if b then Some 0 else option_map (λ n. n + 1) o) ≡ is_some (cond b (Some x) (named name xs))
+    by true o rest = refl
+    by false None rest = rest
+    by false (Some k) rest = rest
 
 pub not_called : (axes : List Axis) (name : List ℕ) → is_dimension axes name ≡ false → axis_called axes name ≡ no_axis
 not_called axes name gone = by (axis_position name axes) gone

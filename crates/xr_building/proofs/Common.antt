@@ -1,12 +1,14 @@
 -- Names that several of the proofs use.
 pub use Rattle.std.proofs.Common.{All, Bool, Bor, Err, List, None, Ok, Option, Result, Some, [], ap, append_assoc, arith, cond, drop, false, filter, get_or, length, length-append, map, not, option_map, pos, refl, rules, set, subst, suc, sym, take, true, zero, ℕ, ℤ, ◌&&◌, ◌*◌, ◌++◌, ◌+◌, ◌-◌, ◌<◌, ◌==◌, ◌||◌, ◌∙◌, ◌∷◌, ◌≡◌, ◌≤ℤ◌, ◌≤◌}
 pub use Rattle.std.proofs.Math.Bool.{and-true, and_assoc, or-false, or_assoc, or_comm}
-pub use Rattle.std.proofs.lemmas.Bool.{and_parts, le-leb, leb-true, not-true, or_parts}
+pub use Rattle.std.proofs.lemmas.Bool.{and_parts, cond_both, le-leb, leb-true, not-true, or_parts}
 pub use Rattle.std.proofs.lemmas.Bool.Decides.{nat_tests}
 pub use Rattle.std.proofs.lemmas.Int.{ints}
-pub use Rattle.std.proofs.lemmas.List.{append-nil, drop_all, length-map, map-append, nil_from_length, take_all}
-pub use Rattle.std.proofs.lemmas.List.Elements.{All-cons, All-head, All-nil, All-tail}
+pub use Rattle.std.proofs.lemmas.List.{append-nil, drop_all, length-map, map-append, map-id, nil_from_length, take_all}
+pub use Rattle.std.proofs.lemmas.List.Elements.{All-cons, All-get_or, All-head, All-nil, All-tail, All-weaker}
 pub use Rattle.std.proofs.lemmas.List.Folds.{list_all-append, list_all-map, list_all_at, list_any-append}
+pub use Rattle.std.proofs.lemmas.List.Sums.{AllPass-from_list_all}
+pub use Rattle.std.proofs.lemmas.Simd.{map-map}
 pub use Rattle.std.proofs.lemmas.Result.{err_from_is_err_and}
 pub use Rattle.std.specs.List.{AllByRecursion, list_all, list_any}
 pub use Rattle.std.specs.Prelude.{IfOk, MatchOption, Vec, codes, find, if◌then◌else◌, int_le, is_some, nat_le, ⊤}
@@ -22,8 +24,8 @@ pub use Rattle.xr_arrays.specs.declared.node.Node.TheVariants.{Source}
 pub use Rattle.xr_building.specs.Entries.{Follows, FollowsArray, FollowsSet, IsPlain, node_of, refused}
 unfoldable pub use Rattle.xr_building.specs.Entries.{array_assigned, computed, entries_in, entry_in, frame_in, set_assigned}
 pub use Rattle.xr_building.specs.Frames.{IsFrame, IsOpenAxis}
-pub use Rattle.xr_building.specs.Gathered.{gathered, mask_byte, number_or_zero, or_absent, with_elements}
-pub use Rattle.xr_building.specs.Placing.{IsAlone, are_aligned, array_checks, array_put, array_told, checked_axis, is_free, is_there, listed_labels}
+pub use Rattle.xr_building.specs.Gathered.{gathered, mask_byte, number_or_zero, or_absent, with_elements, with_number}
+pub use Rattle.xr_building.specs.Placing.{IsAlone, are_aligned, array_checks, array_put, array_told, axis_or_none, checked_axis, is_free, is_there, listed_labels}
 pub use Rattle.xr_building.specs.Puts.{after, fits_whole, frame_of, labels_at, labels_fit, labels_of, labels_or, last_labels, number_coord, over, over_called, put_fits, put_on, texts_put}
 unfoldable pub use Rattle.xr_building.specs.Puts.{coord_place}
 pub use Rattle.xr_building.specs.Written.{IsFilled, coords_held, entries_held, entries_of, framed, keyword_held, limited, outlined, with_written}
@@ -44,9 +46,10 @@ pub use Rattle.xr_defs.specs.WellFormed.{AreAttributes, AreCells, AreLabels, Are
 pub use Rattle.xr_defs.specs.declared.value.Coord.{Coord}
 pub use Rattle.xr_files.specs.Classic.{is_name}
 pub use Rattle.xr_parts.proofs.Alike.{called_kept, coord_kept, names_kept, nodes_alike, size_alike, sizes_kept, var_alike}
-pub use Rattle.xr_parts.proofs.Axes.{called_cons, called_name as name_called}
+pub use Rattle.xr_parts.proofs.Axes.{called_cons, called_holds, called_name as name_called, own_axes}
 pub use Rattle.xr_parts.proofs.Idle.{IsLoose, busy_in, busy_is, busy_set, idle_axes, idle_coords, idle_vars, kept_absent}
-pub use Rattle.xr_parts.proofs.Words.{absent_both, absent_parts, distinct_cons, distinct_parts, each_map, each_weaker, neither, same_text}
+pub use Rattle.xr_parts.proofs.Words.{AreAbsent, absent_both, absent_left, absent_parts, both_hold, distinct_cons, distinct_parts, each_map, each_weaker, neither, other_name, same_text, split}
+pub use Rattle.xr_parts.specs.Frames.{IsThere}
 pub use Rattle.xr_types.specs.Kinds.{InRange, high, in_range, low, wrap_to}
 pub use Rattle.xr_types.specs.Names.{among, are_distinct, axis_names, shape_over}
 pub use Rattle.xr_types.specs.Points.{size}

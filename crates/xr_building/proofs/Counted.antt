@@ -1,22 +1,11 @@
 -- As many elements as the shape has points.
-use Rattle.xr_building.proofs.Common.{Absent, Array, Bool, GroupedArray, GroupedSet, List, Missing, NoValue, Number, Sequence, Set, Slice, Table, Text, Times, Truth, Value, Values, With, [], and_parts, ap, arith, elements, elements_of, is_nested, is_regular, items, length, length-append, list_all, list_all-append, nat_tests, refl, size, suc, sym, true, zero, ℕ, ◌&&◌, ◌*◌, ◌++◌, ◌+◌, ◌∙◌, ◌∷◌, ◌≡◌}
+use Rattle.xr_building.proofs.Common.{Bool, List, NoValue, Sequence, Value, Values, With, [], and_parts, ap, arith, elements, elements_of, is_nested, is_regular, items, length, length-append, list_all, list_all-append, nat_tests, refl, size, suc, sym, true, zero, ℕ, ◌&&◌, ◌*◌, ◌++◌, ◌+◌, ◌∙◌, ◌∷◌, ◌≡◌}
 use Rattle.std.specs.Prelude.{◌==◌}
 
 one_element : (v : Value) → is_nested 0 v ≡ true → length (elements v) ≡ 1
 unfolding elements
 one_element (Sequence vs) is = absurd cc
-one_element Absent is = refl
-one_element Missing is = refl
-one_element (Truth b) is = refl
-one_element (Number n) is = refl
-one_element (Text t) is = refl
-one_element (Table es) is = refl
-one_element (Slice a b c) is = refl
-one_element (Array a) is = refl
-one_element (Set s) is = refl
-one_element (Times coding times) is = refl
-one_element (GroupedArray a by) is = refl
-one_element (GroupedSet s by) is = refl
+one_element v is = refl
 
 none : (n : ℕ) → 0 ≡ 0 * n
 none n = omega arith
@@ -45,30 +34,8 @@ nested_items (suc k) (With vs v) is = is
 
 not_nested : (k : ℕ) (v : Value) → is_nested (suc k) v ≡ true → (vs : Values) × (v ≡ Sequence vs)
 not_nested k (Sequence vs) is = (vs, refl)
-not_nested zero Absent is = absurd cc
-not_nested zero Missing is = absurd cc
-not_nested zero (Truth b) is = absurd cc
-not_nested zero (Number n) is = absurd cc
-not_nested zero (Text t) is = absurd cc
-not_nested zero (Table es) is = absurd cc
-not_nested zero (Slice a b c) is = absurd cc
-not_nested zero (Array a) is = absurd cc
-not_nested zero (Set s) is = absurd cc
-not_nested zero (Times coding times) is = absurd cc
-not_nested zero (GroupedArray a by) is = absurd cc
-not_nested zero (GroupedSet s by) is = absurd cc
-not_nested (suc k) Absent is = absurd cc
-not_nested (suc k) Missing is = absurd cc
-not_nested (suc k) (Truth b) is = absurd cc
-not_nested (suc k) (Number n) is = absurd cc
-not_nested (suc k) (Text t) is = absurd cc
-not_nested (suc k) (Table es) is = absurd cc
-not_nested (suc k) (Slice a b c) is = absurd cc
-not_nested (suc k) (Array a) is = absurd cc
-not_nested (suc k) (Set s) is = absurd cc
-not_nested (suc k) (Times coding times) is = absurd cc
-not_nested (suc k) (GroupedArray a by) is = absurd cc
-not_nested (suc k) (GroupedSet s by) is = absurd cc
+not_nested zero v is = absurd cc
+not_nested (suc k) v is = absurd cc
 
 pub whole : (ns : List ℕ) (v : Value) → is_nested (length ns) v ≡ true → is_regular ns v ≡ true → length (elements v) ≡ size ns
 unfolding elements

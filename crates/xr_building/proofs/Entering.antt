@@ -20,18 +20,7 @@ computed_array declines v a is = ap (λ y. node_computed declines (node_of y)) (
 
 plain_layer : (x : Value-F Value) → ((a : Rc DataArray Global) → x ≡ held.Array a → ⊥) → node_of x ≡ None
 plain_layer (held.Array a) other = absurd (other a refl)
-plain_layer held.Absent other = refl
-plain_layer held.Missing other = refl
-plain_layer (held.Truth b) other = refl
-plain_layer (held.Number n) other = refl
-plain_layer (held.Text t) other = refl
-plain_layer (held.List vs) other = refl
-plain_layer (held.Table es) other = refl
-plain_layer (held.Slice start stop step) other = refl
-plain_layer (held.Set s) other = refl
-plain_layer (held.Times coding times) other = refl
-plain_layer (held.GroupedArray a by) other = refl
-plain_layer (held.GroupedSet s by) other = refl
+plain_layer x other = refl
 
 pub plain : (v : Value) → ((a : Rc DataArray Global) → v ≡ variants.Array a → ⊥) → IsPlain v
 unfolding roll-Value denote.Hole.Carrier.roll

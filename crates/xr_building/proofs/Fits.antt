@@ -1,6 +1,5 @@
 -- How many labels arrays give, their numbers as labels, and numbers that 64 bits hold.
-use Rattle.xr_building.proofs.Common.{Absent, All, All-head, All-tail, Array, Attr, Axis, Bool, DoesNotFit, Fault, GroupedArray, GroupedSet, Int, IsDataArray, LabelList, Labels, List, MatchOption, Missing, None, Number, Numbers, Ok, Option, Sequence, Set, Slice, Some, Table, Text, Times, Truth, Value, [], ap, arith, cell, check_numbers, false, fits_whole, get_or, hidden, if◌then◌else◌, is_some, label_total, length, length-map, map, present, refl, shape_over, size, subst, suc, sym, true, unless, ℕ, ℤ, ◌*◌, ◌==◌, ◌∙◌, ◌∷◌, ◌≡◌}
-use Rattle.std.specs.Prelude.{Result}
+use Rattle.xr_building.proofs.Common.{All, All-head, All-tail, Axis, Bool, DoesNotFit, Int, IsDataArray, List, MatchOption, None, Number, Numbers, Option, Some, Value, [], ap, arith, cell, check_numbers, false, fits_whole, get_or, hidden, if◌then◌else◌, is_some, label_total, length, length-map, map, present, refl, shape_over, size, subst, suc, sym, true, unless, ℕ, ℤ, ◌*◌, ◌==◌, ◌∙◌, ◌∷◌, ◌≡◌}
 use Rattle.xr_defs.specs.Values as of
 
 -- ---- an array along its dimension
@@ -16,12 +15,11 @@ along_total a x is bare alone at =
     sym whole ∙ sym (present_whole a.cells (is.cells.seen bare)) ∙ sym (length-map (present a.cells) Int)
   where
     one : (axes : List Axis) → length axes ≡ 1 → x ≡ get_or axes 0 x → size (shape_over axes) ≡ x.size
-    one [] long at = absurd (omega arith)
     one (y ∷ []) long at = ap (λ (z : Axis). z.size * 1) (sym at) ∙ times x.size
       where
         times : (n : ℕ) → n * 1 ≡ n
         times n = omega arith
-    one (y ∷ z ∷ axes) long at = absurd (omega arith)
+    one axes long at = absurd (omega arith)
 
 -- ---- the numbers of an array that isn't masked
 
@@ -43,26 +41,9 @@ pub seen_numbers : {X : Type 0} (view : X → List ℕ) (xs : List ℤ) (cells :
 seen_numbers view xs cells n None is long whole all = ap present is ∙ present_all xs
 seen_numbers view xs cells n (Some m) is long whole all = ap present is ∙ masked_all xs (view m) (long ∙ sym whole) (subst (All (λ c. is_some c ≡ true)) is all)
 
-abbrev labels_as : LabelList → List Attr → Result Labels Fault
-labels_as list attrs = Ok (record { list = list; attrs = attrs })
-
-pub same_given : (l m : LabelList) (a b : List Attr) → l ≡ m → a ≡ b → labels_as l a ≡ labels_as m b
-same_given l m a b p q = ap (λ (x : LabelList). labels_as x a) p ∙ ap (labels_as m) q
-
 -- ---- numbers
 
 pub numbers_checked : (kv : List ℕ × Value) → check_numbers kv ≡ unless (fits_whole kv.1) DoesNotFit
 unfolding check_numbers unless
 numbers_checked (name, Number n) = refl
-numbers_checked (name, Sequence vs) = refl
-numbers_checked (name, Absent) = refl
-numbers_checked (name, Missing) = refl
-numbers_checked (name, Truth b) = refl
-numbers_checked (name, Text t) = refl
-numbers_checked (name, Table es) = refl
-numbers_checked (name, Slice a b c) = refl
-numbers_checked (name, Array a) = refl
-numbers_checked (name, Set s) = refl
-numbers_checked (name, Times coding times) = refl
-numbers_checked (name, GroupedArray a by) = refl
-numbers_checked (name, GroupedSet s by) = refl
+numbers_checked (name, v) = refl

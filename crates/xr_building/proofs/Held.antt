@@ -1,7 +1,7 @@
 -- An array with the axes and the coordinates that a call leaves stands in the plan.
-use Rattle.xr_building.proofs.Common.{AllByRecursion, AreArgsIn, AreCells, Args, Axis, BadArgument, Bool, CallFault, Coord, DataArray, Err, Fault, Frame, Held, IsArrayIn, IsDimension, IsFrame, IsNodeOf, IsOpenAxis, List, Node, Ok, Put, Result, TextBytes, Value, [], after, all_of, ap, array_assigned, array_in, check_entry, check_numbers, check_place, entries_in, frame_in, is_name, length, list_all, map, over, refl, refused, shape_over, subst, sym, true, unless, with_key, ℕ, ◌==◌, ◌>>=◌, ◌∷◌, ◌≡◌, ◌≤◌}
+use Rattle.xr_building.proofs.Common.{AllByRecursion, AreArgsIn, AreCells, Args, Axis, BadArgument, Bool, Coord, DataArray, Frame, Held, IsArrayIn, IsDimension, IsFrame, IsNodeOf, IsOpenAxis, List, Node, Ok, Put, TextBytes, [], after, all_of, ap, array_assigned, array_in, check_entry, check_numbers, check_place, each_weaker, entries_in, frame_in, is_name, length, list_all, map, over, refused, shape_over, subst, sym, true, unless, with_key, ℕ, ◌==◌, ◌>>=◌, ◌∙◌, ◌∷◌, ◌≡◌, ◌≤◌}
 use Rattle.xr_building.proofs.After.{after_sizes}
-use Rattle.xr_building.proofs.Framed.{entries_frame, Holds}
+use Rattle.xr_building.proofs.Framed.{entries_frame, not_refused, passes, Holds}
 
 -- ---- what a call leaves
 
@@ -9,21 +9,13 @@ pub frame_frame : (declines : ℕ → Bool) (nodes : List Node) (variables : Lis
     → IsFrame f.axes f.coords → Holds variables f g
 unfolding frame_in
 frame_frame declines nodes variables f g args told inside named frame =
-    by (unless (length args.plain.items == 0) BadArgument) (all_of (check_entry f.axes) kvs) (all_of (check_place f.axes) kvs) (entries_in declines nodes variables f args.keyed.items) (all_of check_numbers kvs) refl refl refl refl told
-  where
-    kvs : List (List ℕ × Value)
-    kvs = map (with_key nodes) args.keyed.items
-
-    by : (p c q : Result (Unit {0}) Fault) (w : Result Frame CallFault) (n : Result (Unit {0}) Fault) → all_of (check_entry f.axes) kvs ≡ c → all_of (check_place f.axes) kvs ≡ q → entries_in declines nodes variables f args.keyed.items ≡ w → all_of check_numbers kvs ≡ n
-        → (refused p >>= λ a. refused c >>= λ b. refused q >>= λ c. w >>= λ h. refused n >>= λ d. Ok h) ≡ Ok g → Holds variables f g
-    by (Ok u) (Ok v) (Ok x) (Ok h) (Ok y) checked placed is fits told =
-        let same : h ≡ g = cc in
-        subst (Holds variables f) same (entries_frame declines nodes variables f h args.keyed.items inside.keyed named checked placed fits is frame)
-    by (Err e) c q w n checked placed is fits told = absurd cc
-    by (Ok u) (Err e) q w n checked placed is fits told = absurd cc
-    by (Ok u) (Ok v) (Err e) w n checked placed is fits told = absurd cc
-    by (Ok u) (Ok v) (Ok x) (Err e) n checked placed is fits told = absurd cc
-    by (Ok u) (Ok v) (Ok x) (Ok h) (Err e) checked placed is fits told = absurd cc
+    let kvs = map (with_key nodes) args.keyed.items in
+    let a = passes (refused (unless (length args.plain.items == 0) BadArgument)) _ g told in
+    let b = passes (refused (all_of (check_entry f.axes) kvs)) _ g a.2 in
+    let c = passes (refused (all_of (check_place f.axes) kvs)) _ g b.2 in
+    let w = passes (entries_in declines nodes variables f args.keyed.items) _ g c.2 in
+    let d = passes (refused (all_of check_numbers kvs)) _ g w.2 in
+    entries_frame declines nodes variables f g args.keyed.items inside.keyed named (not_refused (all_of (check_entry f.axes) kvs) tt b.1) (not_refused (all_of (check_place f.axes) kvs) tt c.1) (not_refused (all_of check_numbers kvs) tt d.1) (w.1 ∙ d.2) frame
 
 -- ---- the array
 
@@ -36,8 +28,7 @@ dimensions (x ∷ xs) (y ∷ ys) same few each =
     (record { name = each.0.name; few = subst (λ n. n ≤ 33554432) here few.0.few; index = each.0.index }, dimensions xs ys rest few.1 each.1)
 
 pub open_axes : (xs : List Axis) → AllByRecursion IsDimension xs → AllByRecursion IsOpenAxis xs
-open_axes [] all = tt
-open_axes (x ∷ xs) all = (record { name = all.0.name; index = all.0.index }, open_axes xs all.1)
+open_axes xs = each_weaker IsDimension IsOpenAxis xs (λ x is. record { name = is.name; index = is.index })
 
 abbrev pub reframed : DataArray → List Axis → List Coord → DataArray
 reframed a axes coords = record a { axes = axes; coords = coords }

@@ -1,5 +1,5 @@
 -- Items and elements of lists of values.
-use Rattle.xr_building.proofs.Common.{Absent, Bool, Elements, Err, Fault, Held as Value, LabelList, Labels, List, MatchOption, NoValue, Node, None, Numbers, Ok, Option, Result, Sequence, Some, Texts, Values, With, WrongKind, [], all_more, all_values as listed, and-true, and_assoc, and_parts, ap, append-nil, append_assoc, arith, as_labels, drop, drop_all, element_cell, elements, elements_of, false, first_item, fits_whole, get_or, is_missing, is_nested, is_number, is_regular, is_text, is_truth_cell, is_whole_cell, item_count, items, labels_given, length, length-map, list_all, list_all-append, list_all-map, list_all_at, list_any, list_any-append, map, map-append, meaning, nat_tests, nested_shape, nil_from_length, numbers_in, or-false, or_assoc, refl, suc, sym, take, take_all, texts_in, texts_put, true, with_elements, zero, ℕ, ℤ, ◌&&◌, ◌++◌, ◌+◌, ◌-◌, ◌<◌, ◌==◌, ◌>>=◌, ◌||◌, ◌∙◌, ◌∷◌, ◌≡◌, ◌≤◌}
+use Rattle.xr_building.proofs.Common.{Absent, Bool, Elements, Err, Fault, Held as Value, LabelList, Labels, List, NoValue, Node, Numbers, Ok, Option, Result, Sequence, Texts, Values, With, WrongKind, [], all_more, all_values as listed, and-true, and_assoc, and_parts, ap, append-nil, append_assoc, arith, as_labels, drop, drop_all, element_cell, elements, elements_of, false, first_item, fits_whole, get_or, is_missing, is_nested, is_number, is_regular, is_text, is_truth_cell, is_whole_cell, item_count, items, labels_given, length, length-map, list_all, list_all-append, list_any, list_any-append, map, map-append, meaning, nat_tests, nested_shape, nil_from_length, numbers_in, or-false, or_assoc, refl, suc, sym, take, take_all, texts_in, texts_put, true, with_elements, with_number, zero, ℕ, ℤ, ◌&&◌, ◌++◌, ◌+◌, ◌-◌, ◌<◌, ◌==◌, ◌>>=◌, ◌||◌, ◌∙◌, ◌∷◌, ◌≡◌, ◌≤◌}
 use Rattle.std.proofs.Common.{if◌then◌else◌}
 use Rattle.std.proofs.Math.Seq.{drop-cons}
 use Rattle.xr_defs.specs.Arguments.{as_text}
@@ -71,63 +71,32 @@ all_are test nodes vs = all_from (all_values test) test (λ ws v. refl) NoValue 
 abbrev plain : LabelList → Labels
 plain list = record { list = list; attrs = [] }
 
-abbrev pub plain_numbers : List ℤ → Result Labels Fault
-plain_numbers ns = Ok (plain (Numbers kinds.Int64 ns))
-
 module _ (nodes : List Node) (vs : List Value) where
-  abbrev chosen : Bool → Bool → Result Labels Fault
-  chosen n t = (if n then Ok (Numbers kinds.Int64 (numbers_in (listed nodes vs))) else if t then (texts_in (listed nodes vs) >>= λ ts. Ok (Texts ts)) else Err WrongKind) >>= λ l. Ok (plain l)
+  abbrev chosen : Bool → Bool → Result (List (List ℕ)) Fault → Result Labels Fault
+  chosen n t r = if n then Ok (plain (Numbers kinds.Int64 (numbers_in (listed nodes vs)))) else if t then texts_put r else Err WrongKind
 
-  labels_chosen : labels_given (Sequence (listed nodes vs)) ≡ chosen (list_all is_number (map (meaning nodes) vs)) (list_all is_text (map (meaning nodes) vs))
+  pub labels_listed : labels_given (Sequence (listed nodes vs)) ≡ chosen (list_all is_number (map (meaning nodes) vs)) (list_all is_text (map (meaning nodes) vs)) (texts_in (listed nodes vs))
   unfolding as_labels
-  labels_chosen = ap (λ n. chosen n (all_values is_text (listed nodes vs))) (all_are is_number nodes vs) ∙ ap (chosen (list_all is_number (map (meaning nodes) vs))) (all_are is_text nodes vs)
-
-  pub numbers_given : list_all is_number (map (meaning nodes) vs) ≡ true → labels_given (Sequence (listed nodes vs)) ≡ plain_numbers (numbers_in (listed nodes vs))
-  numbers_given numbers = labels_chosen ∙ ap (λ n. chosen n (list_all is_text (map (meaning nodes) vs))) numbers
-
-  pub texts_given : list_all is_number (map (meaning nodes) vs) ≡ false → list_all is_text (map (meaning nodes) vs) ≡ true → labels_given (Sequence (listed nodes vs)) ≡ texts_put (texts_in (listed nodes vs))
-  texts_given numbers texts = labels_chosen ∙ ap (λ n. chosen n (list_all is_text (map (meaning nodes) vs))) numbers ∙ ap (chosen false) texts ∙ by (texts_in (listed nodes vs))
+  labels_listed =
+      by (all_values is_number (listed nodes vs)) (all_values is_text (listed nodes vs)) (texts_in (listed nodes vs)) ∙ ap (λ n. chosen n (all_values is_text (listed nodes vs)) (texts_in (listed nodes vs))) (all_are is_number nodes vs)
+      ∙ ap (λ t. chosen (list_all is_number (map (meaning nodes) vs)) t (texts_in (listed nodes vs))) (all_are is_text nodes vs)
     where
-      by : (r : Result (List (List ℕ)) Fault) → ((r >>= λ ts. Ok (Texts ts)) >>= λ l. Ok (plain l)) ≡ texts_put r
-      by (Ok ts) = refl
-      by (Err e) = refl
-
-  pub none_given : list_all is_number (map (meaning nodes) vs) ≡ false → list_all is_text (map (meaning nodes) vs) ≡ false → labels_given (Sequence (listed nodes vs)) ≡ Err WrongKind
-  none_given numbers texts = labels_chosen ∙ ap (λ n. chosen n (list_all is_text (map (meaning nodes) vs))) numbers ∙ ap (chosen false) texts
+      by : (n t : Bool) (r : Result (List (List ℕ)) Fault) → ((if n then Ok (Numbers kinds.Int64 (numbers_in (listed nodes vs))) else if t then (r >>= λ ts. Ok (Texts ts)) else Err WrongKind) >>= λ l. Ok (plain l)) ≡ chosen n t r
+      by true t r = refl
+      by false true (Ok ts) = refl
+      by false true (Err e) = refl
+      by false false r = refl
 
 -- ---- the numbers of a list
 
-pub number_on : (nodes : List Node) (vs : List Value) (i : ℕ) (v : Value) (n : ℤ) (new : List ℤ) → i < length vs → v ≡ get_or vs i v → meaning nodes v ≡ of.Number n → (numbers : List ℤ) → numbers ≡ numbers_in (listed nodes (take i vs)) → new ≡ numbers ++ n ∷ []
-    → new ≡ numbers_in (listed nodes (take (i + 1) vs))
-number_on nodes vs i v n new lt is here numbers so_far pushed =
-    pushed ∙ ap (λ ns. ns ++ n ∷ []) so_far
-    ∙ sym (ap (λ us. numbers_in (listed nodes us)) (take_one vs i v lt is) ∙ ap numbers_in (all_more nodes (take i vs) v) ∙ ap (λ m. numbers_in (With (listed nodes (take i vs)) m)) here)
-
-pub none_of : {X : Type 0} (o : Option X) (P : Type 0) (Q : X → Type 0) → ((x : X) → o ≡ Some x → ⊥) → MatchOption o P Q → P
-none_of None P Q other is = is
-none_of (Some x) P Q other is = absurd (other x refl)
-
--- a list of numbers alone holds nothing else
-pub no_other : (nodes : List Node) (vs : List Value) (i : ℕ) (v : Value) → i < length vs → v ≡ get_or vs i v → list_all is_number (map (meaning nodes) vs) ≡ true → is_number (meaning nodes v) ≡ false → ⊥
-no_other nodes vs i v lt is all other =
-    let none = list_all_at (λ w. is_number (meaning nodes w)) vs i v lt (ap (λ w. is_number (meaning nodes w)) (sym is) ∙ other) in
-    let same = list_all-map is_number (meaning nodes) vs in
-    cc
+pub number_on : (nodes : List Node) (vs : List Value) (i : ℕ) (v : Value) (o : Option ℤ) (numbers new : List ℤ) → i < length vs → v ≡ get_or vs i v → ((ws : Values) → numbers_in (With ws (meaning nodes v)) ≡ with_number (numbers_in ws) o)
+    → numbers ≡ numbers_in (listed nodes (take i vs)) → new ≡ with_number numbers o → new ≡ numbers_in (listed nodes (take (i + 1) vs))
+number_on nodes vs i v o numbers new lt is here so_far pushed =
+    pushed ∙ ap (λ ns. with_number ns o) so_far ∙ sym (ap (λ us. numbers_in (listed nodes us)) (take_one vs i v lt is) ∙ ap numbers_in (all_more nodes (take i vs) v) ∙ here (listed nodes (take i vs)))
 
 text_is : (v : of.Value) → is_text v ≡ true → (t : List ℕ) × (v ≡ of.Text t)
 text_is (of.Text t) is = (t, refl)
-text_is of.Absent is = absurd cc
-text_is of.Missing is = absurd cc
-text_is (of.Truth b) is = absurd cc
-text_is (of.Number n) is = absurd cc
-text_is (of.Sequence vs) is = absurd cc
-text_is (of.Table es) is = absurd cc
-text_is (of.Slice a b c) is = absurd cc
-text_is (of.Array a) is = absurd cc
-text_is (of.Set s) is = absurd cc
-text_is (of.Times coding times) is = absurd cc
-text_is (of.GroupedArray a by) is = absurd cc
-text_is (of.GroupedSet s by) is = absurd cc
+text_is v is = absurd cc
 
 texts_are : (vs : Values) → all_values is_text vs ≡ true → (ts : List (List ℕ)) × (texts_in vs ≡ Ok ts)
 unfolding texts_in as_text

@@ -24,17 +24,7 @@ module _ (nodes : List Node) (axes : List Axis) (es : List (List ℕ × Value)) 
   by_layer held.Absent is = cc
   by_layer (held.Table t) is =
       table (all_of (check_table_entry axes) (entries_in (all_entries nodes t.items))) (entries_in (all_entries nodes t.items)) is ∙ listed_all nodes t.items
-  by_layer held.Missing is = absurd cc
-  by_layer (held.Truth b) is = absurd cc
-  by_layer (held.Number n) is = absurd cc
-  by_layer (held.Text t) is = absurd cc
-  by_layer (held.List vs) is = absurd cc
-  by_layer (held.Slice start stop step) is = absurd cc
-  by_layer (held.Array a) is = absurd cc
-  by_layer (held.Set s) is = absurd cc
-  by_layer (held.Times coding times) is = absurd cc
-  by_layer (held.GroupedArray a by) is = absurd cc
-  by_layer (held.GroupedSet s by) is = absurd cc
+  by_layer x is = absurd cc
 
   -- entries that are given are those of the table
   pub entries_same : (coords : Option Held) → entries_given axes (given_value (option_map (meaning nodes) coords)) ≡ Ok es → es ≡ map (with_key nodes) (entries_held coords)
@@ -82,10 +72,8 @@ module _ (nodes : List Node) where
   third : (plain : List Held) (keyed : List (TextBytes × Held))
       → option_map (meaning nodes) (get_or (map Some plain) 2 (keyword_held (codes "coords") keyed))
       ≡ get_or (map Some (map (meaning nodes) plain) ++ map (λ name. keyword name (map (with_key nodes) keyed)) (drop (length (map (meaning nodes) plain)) parameters)) 2 None
-  third [] keyed = keyword_same (codes "coords") keyed
-  third (a ∷ []) keyed = keyword_same (codes "coords") keyed
-  third (a ∷ b ∷ []) keyed = keyword_same (codes "coords") keyed
   third (a ∷ b ∷ c ∷ plain) keyed = refl
+  third plain keyed = keyword_same (codes "coords") keyed
 
   met : {X : Type 0} (view : X → Held) (o : Option X) → option_map (λ x. meaning nodes (view x)) o ≡ option_map (meaning nodes) (option_map view o)
   met view None = refl
@@ -120,10 +108,8 @@ coords_inside : (nodes : List Node) (args : Args) → AreArgsIn nodes args → M
 coords_inside nodes args are = by args.plain.items are.plain
   where
     by : (plain : List Held) → All (IsValueIn nodes) plain → MatchOption (get_or (map Some plain) 2 (keyword_held (codes "coords") args.keyed.items)) ⊤ (IsValueIn nodes)
-    by [] all = keyword_inside nodes (codes "coords") args.keyed.items are.keyed
-    by (a ∷ []) all = keyword_inside nodes (codes "coords") args.keyed.items are.keyed
-    by (a ∷ b ∷ []) all = keyword_inside nodes (codes "coords") args.keyed.items are.keyed
     by (a ∷ b ∷ c ∷ plain) all = All-head (IsValueIn nodes) c plain (All-tail (IsValueIn nodes) b (c ∷ plain) (All-tail (IsValueIn nodes) a (b ∷ c ∷ plain) all))
+    by plain all = keyword_inside nodes (codes "coords") args.keyed.items are.keyed
 
 -- the argument is one of the plan
 pub argument_inside : (nodes : List Node) (args : Args) (view : Bor Held → Held) (o : Option (Bor Held)) → option_map view o ≡ coords_held args → AreArgsIn nodes args → MatchOption o ⊤ (λ x. IsValueIn nodes (view x))

@@ -48,20 +48,16 @@ module _ (declines : ℕ → Bool) (none : (n : ℕ) → declines n ≡ false) (
 
       by : (p c q : Result (Unit {0}) Fault) (w : Result Frame Fault) (n : Result (Unit {0}) Fault)
           → (refused p >>= λ a. refused c >>= λ b. refused q >>= λ c. refused w >>= λ g. refused n >>= λ d. Ok g) ≡ refused (p >>= λ u. c >>= λ v. (q >>= λ u. w >>= λ g. n >>= λ v. Ok g))
-      by (Err e) c q w n = refl
-      by (Ok u) (Err e) q w n = refl
-      by (Ok u) (Ok v) (Err e) w n = refl
-      by (Ok u) (Ok v) (Ok x) (Err e) n = refl
-      by (Ok u) (Ok v) (Ok x) (Ok g) (Err e) = refl
       by (Ok u) (Ok v) (Ok x) (Ok g) (Ok y) = refl
+      by p c q w n = refl
 
-pub array_all : (declines : ℕ → Bool) (nodes : List Node) (a : DataArray) (args : Args) → ((n : ℕ) → declines n ≡ false) → array_assigned declines nodes a args ≡ refused (assigned_to_array (array_in nodes a) (given nodes args))
+array_all : (declines : ℕ → Bool) (nodes : List Node) (a : DataArray) (args : Args) → ((n : ℕ) → declines n ≡ false) → array_assigned declines nodes a args ≡ refused (assigned_to_array (array_in nodes a) (given nodes args))
 unfolding array_assigned assigned_to_array
 array_all declines nodes a args none =
     ap (λ r. r >>= λ f. Ok (record (array_in nodes a) { axes = f.axes; coords = f.coords })) (frame_all declines none nodes [] (frame_of_array (array_in nodes a)) args)
     ∙ lift (coords_assigned [] (frame_of_array (array_in nodes a)) (given nodes args)) _ _ (λ f is. refl)
 
-pub set_all : (declines : ℕ → Bool) (nodes : List Node) (s : Dataset) (args : Args) → ((n : ℕ) → declines n ≡ false) → set_assigned declines nodes s args ≡ refused (assigned_to_set (dataset_in nodes s) (given nodes args))
+set_all : (declines : ℕ → Bool) (nodes : List Node) (s : Dataset) (args : Args) → ((n : ℕ) → declines n ≡ false) → set_assigned declines nodes s args ≡ refused (assigned_to_set (dataset_in nodes s) (given nodes args))
 unfolding set_assigned assigned_to_set
 set_all declines nodes s args none =
     ap (λ r. r >>= λ f. Ok (left f) >>= λ t. refused (check_set t) >>= λ u. Ok t) (frame_all declines none nodes (variable_names (dataset_in nodes s)) (record { axes = s.axes; coords = s.coords }) args)
@@ -88,7 +84,7 @@ through_in : {A B C D E : Type 0} (r : Result A Fault) (f : A → Result B Fault
 through_in (Ok a) f g k h last each = each a refl
 through_in (Err e) f g k h last each = refl
 
-pub written_all : (declines : ℕ → Bool) (nodes : List Node) (args : Args) → ((n : ℕ) → declines n ≡ false) → array_written declines nodes args ≡ refused (data_array (given nodes args))
+written_all : (declines : ℕ → Bool) (nodes : List Node) (args : Args) → ((n : ℕ) → declines n ≡ false) → array_written declines nodes args ≡ refused (data_array (given nodes args))
 unfolding array_written data_array plain_given plain_over header_of array_built check_fit
 written_all declines nodes args none =
     through (bound parameters (given nodes args)) _ _ _ (λ vs told. through (required (argument vs 0)) _ _ _ (λ content a. through (required (argument vs 1)) _ _ _ (λ dimensions b. through (check_elements (elements content)) _ _ _ (λ u c.
@@ -105,11 +101,8 @@ written_all declines nodes args none =
     axes content dims = bare_axes dims (nested_shape (length dims) content)
 
     last : (w : Result Frame Fault) (p q r : Result (Unit {0}) Fault) (x : Frame → of.DataArray) → (refused w >>= λ f. refused (p >>= λ u. q >>= λ v. r) >>= λ u. refused (limited (x f))) ≡ refused ((w >>= λ f. p >>= λ d. q >>= λ e. r >>= λ g. Ok (x f)) >>= limited)
-    last (Err e) p q r x = refl
-    last (Ok f) (Err e) q r x = refl
-    last (Ok f) (Ok u) (Err e) r x = refl
-    last (Ok f) (Ok u) (Ok v) (Err e) x = refl
     last (Ok f) (Ok u) (Ok v) (Ok w) x = refl
+    last w p q r x = refl
 
     put : (content : Meant) (dims : List (List ℕ)) (name : Option (List ℕ)) (kind : DType) (es : List (List ℕ × Meant)) → es ≡ map (with_key nodes) kvs
         → (entries_in declines nodes [] (over (axes content dims) []) kvs >>= λ f. refused (check_fit (plain_array (axes content dims) name kind (elements content)) (map (with_key nodes) kvs)) >>= λ u.
@@ -128,20 +121,27 @@ written_all declines nodes args none =
 -- ---- what a call answers
 
 -- what the definitions tell of a call that declines nothing
-pub answers_array : (nodes : List Node) (r : Result DataArray CallFault) (told : Result of.DataArray CallFault) (means : Result of.DataArray Fault) → FollowsArray nodes r told → told ≡ refused means → AnswersArray nodes r means
+answers_array : (nodes : List Node) (r : Result DataArray CallFault) (told : Result of.DataArray CallFault) (means : Result of.DataArray Fault) → FollowsArray nodes r told → told ≡ refused means → AnswersArray nodes r means
 answers_array nodes (Ok a) told (Ok x) is same = (let e = is.0 in cc, is.1)
 answers_array nodes (Ok a) told (Err e) is same = absurd (let f = is.0 in cc)
-answers_array nodes (Err (Refused f)) told (Ok x) is same = absurd cc
 answers_array nodes (Err (Refused f)) told (Err e) is same = cc
-answers_array nodes (Err (Declined n)) told (Ok x) is same = absurd cc
-answers_array nodes (Err (Declined n)) told (Err e) is same = absurd cc
 answers_array nodes (Err NoMemory) told means is same = tt
+answers_array nodes r told (Ok x) is same = absurd cc
+answers_array nodes r told (Err e) is same = absurd cc
 
-pub answers_set : (nodes : List Node) (r : Result Dataset CallFault) (told : Result of.Dataset CallFault) (means : Result of.Dataset Fault) → FollowsSet nodes r told → told ≡ refused means → AnswersSet nodes r means
+pub array_answers : (declines : ℕ → Bool) (nodes : List Node) (a : DataArray) (args : Args) (r : Result DataArray CallFault) → FollowsArray nodes r (array_assigned declines nodes a args) → ((n : ℕ) → declines n ≡ false) → AnswersArray nodes r (assigned_to_array (array_in nodes a) (given nodes args))
+array_answers declines nodes a args r told none = answers_array nodes r _ _ told (array_all declines nodes a args none)
+
+pub written_answers : (declines : ℕ → Bool) (old new : List Node) (args : Args) (r : Result DataArray CallFault) → FollowsArray new r (array_written declines old args) → ((n : ℕ) → declines n ≡ false) → AnswersArray new r (data_array (given old args))
+written_answers declines old new args r told none = answers_array new r _ _ told (written_all declines old args none)
+
+answers_set : (nodes : List Node) (r : Result Dataset CallFault) (told : Result of.Dataset CallFault) (means : Result of.Dataset Fault) → FollowsSet nodes r told → told ≡ refused means → AnswersSet nodes r means
 answers_set nodes (Ok s) told (Ok x) is same = (let e = is.0 in cc, is.1)
 answers_set nodes (Ok s) told (Err e) is same = absurd (let f = is.0 in cc)
-answers_set nodes (Err (Refused f)) told (Ok x) is same = absurd cc
 answers_set nodes (Err (Refused f)) told (Err e) is same = cc
-answers_set nodes (Err (Declined n)) told (Ok x) is same = absurd cc
-answers_set nodes (Err (Declined n)) told (Err e) is same = absurd cc
 answers_set nodes (Err NoMemory) told means is same = tt
+answers_set nodes r told (Ok x) is same = absurd cc
+answers_set nodes r told (Err e) is same = absurd cc
+
+pub set_answers : (declines : ℕ → Bool) (nodes : List Node) (s : Dataset) (args : Args) (r : Result Dataset CallFault) → FollowsSet nodes r (set_assigned declines nodes s args) → ((n : ℕ) → declines n ≡ false) → AnswersSet nodes r (assigned_to_set (dataset_in nodes s) (given nodes args))
+set_answers declines nodes s args r told none = answers_set nodes r _ _ told (set_all declines nodes s args none)

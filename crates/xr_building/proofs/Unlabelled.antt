@@ -8,9 +8,8 @@ bare_names (d ∷ dims) (n ∷ shape) long = ap (λ ns. d ∷ ns) (bare_names di
 
 pub bare_sizes : (dims : List (List ℕ)) (shape : List ℕ) → length dims ≡ length shape → shape_over (bare_axes dims shape) ≡ shape
 bare_sizes [] [] long = refl
-bare_sizes [] (n ∷ shape) long = absurd (omega arith)
-bare_sizes (d ∷ dims) [] long = absurd (omega arith)
 bare_sizes (d ∷ dims) (n ∷ shape) long = ap (λ ns. n ∷ ns) (bare_sizes dims shape (omega arith))
+bare_sizes dims shape long = absurd (omega arith)
 
 bare_open : (dims : List (List ℕ)) (shape : List ℕ) → list_all is_name dims ≡ true → AllByRecursion IsOpenAxis (bare_axes dims shape)
 bare_open [] shape named = tt

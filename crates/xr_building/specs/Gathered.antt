@@ -1,5 +1,5 @@
 -- The elements of nested lists, as they are gathered.
-use Rattle.std.specs.Prelude.{◌&&◌, ◌||◌, ℕ, ℤ, pos, List, ◌++◌, map, Option, Some, None}
+use Rattle.std.specs.Prelude.{◌&&◌, ◌||◌, ℕ, ℤ, pos, List, [], ◌∷◌, ◌++◌, map, Option, Some, None}
 use Rattle.std.specs.List.{list_any, list_all}
 use Rattle.xr_defs.specs.Meanings.{Value, Absent}
 use Rattle.xr_defs.specs.Building.{is_whole_cell, is_truth_cell, is_missing, element_cell}
@@ -17,6 +17,11 @@ with_elements e vs =
 
 abbrev pub gathered : List Value → Elements
 gathered vs = record { cells = map element_cell vs; whole = list_all is_whole_cell vs; truths = list_all is_truth_cell vs; missing = list_any is_missing vs }
+
+-- with a number behind, where there is one
+abbrev pub with_number : List ℤ → Option ℤ → List ℤ
+with_number ns None = ns
+with_number ns (Some n) = ns ++ n ∷ []
 
 -- ---- cells as they are kept
 

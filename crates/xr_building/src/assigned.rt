@@ -89,6 +89,7 @@ fn array_with<R: Threads + Sync, C: Compute>(
 /// The first of: `BadArgument` for a plain argument; `WrongKind` and `BadArgument` for an entry that can't be what it has to
 /// be; `NoDimension` for a list of a name that is no dimension, or an array with a dimension that isn't there;
 /// `SizeConflict` and `NotAligned` for an entry that doesn't fit its place; `DoesNotFit` for a number that 64 bits don't hold.
+#[tactic(auto, using(crate::proofs::Undeclined::array_answers))]
 pub fn assign_to_array<R: Threads + Sync, C: Compute>(
     rt: &R,
     alloc: Global,

@@ -1,9 +1,8 @@
 //! Cells of a kind from numbers and holes.
 ghost use Rattle.std.specs.Prelude.{◌≡◌, ◌≢◌, List, map, length, All, IfOk, MatchOption, ⊤};
 ghost use Rattle.std.specs.List.{list_all};
-ghost use Rattle.xr_types.specs.Kinds.{wrap_to};
 ghost use Rattle.xr_types.specs.declared.kind.DType.TheVariants as kinds;
-ghost use Rattle.xr_arrays.specs.Arrays.{IsCell, InKind, kind_of, wide};
+ghost use Rattle.xr_arrays.specs.Arrays.{IsCell, kind_of, wide};
 ghost use Rattle.xr_defs.specs.Building as of;
 ghost use Rattle.xr_defs.specs.Building.{fits_kind};
 ghost use Rattle.xr_defs.specs.Meanings.{Value};
@@ -79,8 +78,9 @@ fn number_or_zero(cell: Option<i128>) -> i128
 }
 
 // The numbers that a type's cells keep, 0 for a hole.
-fn wrapped<T: Elem + Drop>(alloc: Global, cells: &[Option<i128>]) -> Result<Items<T>, AllocError>
-    ensures { IfOk result (λ v. map T.number v ≡ map (λ c. wrap_to T.kind (number_or_zero c)) cells.now) }
+fn numbers<T: Elem + Drop>(alloc: Global, cells: &[Option<i128>]) -> Result<Items<T>, AllocError>
+    requires { All (IsCell T.kind) cells.now }
+    ensures { IfOk result (λ v. map T.number v ≡ map number_or_zero cells.now) }
 {
     let mut out = Items::new(alloc);
     for cell in cells {
@@ -89,21 +89,12 @@ fn wrapped<T: Elem + Drop>(alloc: Global, cells: &[Option<i128>]) -> Result<Item
     Ok(out)
 }
 
-#[tactic(auto, using(crate::proofs::Kept::kept))]
-fn numbers<T: Elem + Drop>(alloc: Global, cells: &[Option<i128>]) -> Result<Items<T>, AllocError>
-    requires { All (IsCell T.kind) cells.now }
-    ensures { IfOk result (λ v. map T.number v ≡ map number_or_zero cells.now) }
-{
-    wrapped(alloc, cells)
-}
-
-#[tactic(auto, using(crate::proofs::Kept::bytes_of_truths))]
+#[tactic(auto, using(crate::proofs::Kept::bytes_of_truths, crate::proofs::Kept::same_ints))]
 fn typed(alloc: Global, kind: DType, cells: &[Option<i128>]) -> Result<Cells, AllocError>
     requires kind { kind ≢ kinds.Char }
     requires range { All (IsCell kind) cells.now }
     ensures kind { IfOk result (λ v. kind_of v ≡ kind) }
     ensures numbers { IfOk result (λ v. wide v ≡ map number_or_zero cells.now) }
-    ensures range { IfOk result InKind }
 {
     Ok(match kind {
         DType::Bool => Cells::Bool(numbers(alloc, cells)?),
@@ -134,6 +125,7 @@ fn mask_of(alloc: Global, cells: &[Option<i128>]) -> Result<Items<u8>, AllocErro
 }
 
 /// The array of these cells. A mask is kept where cells may be missing.
+#[tactic(auto, using(crate::proofs::Kept::in_kind, crate::proofs::Kept::masked_are, crate::proofs::Kept::seen_are))]
 pub fn array_value(
     alloc: Global,
     kind: DType,

@@ -70,13 +70,11 @@ fn is_along(name: &TextBytes, array: &DataArray) -> bool
 }
 
 // Numbers alone, or texts alone.
+#[tactic(auto, using(crate::proofs::Items::labels_checked))]
 fn check_list(list: &[Value]) -> Result<(), CallFault>
     ensures { (nodes : List Node) → Answers (λ u. u) result (listed_labels (all_values nodes list.now)) }
 {
-    if are_numbers(list) {
-        return Ok(());
-    }
-    if are_texts(list) {
+    if are_numbers(list) || are_texts(list) {
         Ok(())
     } else {
         Err(CallFault::Refused(Fault::WrongKind))

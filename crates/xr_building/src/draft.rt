@@ -105,20 +105,6 @@ fn coords_relabelled(
     Ok(out)
 }
 
-fn labelled(
-    alloc: Global,
-    draft: &Draft,
-    name: &TextBytes,
-    labels: &Labels,
-) -> Result<Draft, AllocError>
-    ensures { IfOk result (λ d. frame_of d ≡ of.frame_labelled (frame_of draft.now) name.now labels.now) }
-{
-    Ok(Draft {
-        axes: axes_relabelled(alloc, draft.axes.as_slice(), name, labels)?,
-        coords: coords_relabelled(alloc, draft.coords.as_slice(), name, labels)?,
-    })
-}
-
 fn integers(alloc: Global, numbers: &[i128]) -> Result<Integers, AllocError>
     requires { All (InRange kinds.Int64) numbers.now }
     ensures { IfOk result (λ ns. ns ≡ numbers.now) }
@@ -154,7 +140,10 @@ fn with_labels(
     ensures { IfOk result (λ d. frame_of d ≡ of.frame_labelled (frame_of draft.now) name.now (labels_of labels.now)) }
 {
     let labels = labels_of(alloc, labels)?;
-    labelled(alloc, draft, name, &labels)
+    Ok(Draft {
+        axes: axes_relabelled(alloc, draft.axes.as_slice(), name, &labels)?,
+        coords: coords_relabelled(alloc, draft.coords.as_slice(), name, &labels)?,
+    })
 }
 
 // ---- coordinates

@@ -1,15 +1,15 @@
 //! Labels that are given: lists of numbers or of texts, times, and the cells of arrays.
-ghost use Rattle.std.specs.Prelude.{◌≡◌, [], true, false, List, Ok, map, IfOk, MatchOption};
-ghost use Rattle.std.specs.List.{list_all};
+ghost use Rattle.std.specs.Prelude.{◌≡◌, [], true, false, List, Ok, IfOk};
 ghost use Rattle.xr_arrays.specs.declared.node.Node.{Node};
 ghost use Rattle.xr_arrays.specs.Nodes.{value as value_of};
 ghost use Rattle.xr_types.specs.Results.{Answers};
-ghost use Rattle.xr_defs.specs.Meanings.{Array, Number, Sequence};
+ghost use Rattle.xr_defs.specs.Meanings.{Array, Sequence, Values, With};
 ghost use Rattle.xr_defs.specs.Building as of;
 ghost use Rattle.xr_defs.specs.Parts as parts;
 ghost use Rattle.xr_values.specs.Meaning.{meaning, all_values};
 ghost use Rattle.xr_values.specs.Stands.{array_in, IsArrayIn};
 ghost use Rattle.xr_building.specs.Entries.{IsPlain};
+ghost use Rattle.xr_building.specs.Gathered.{with_number};
 ghost use Rattle.xr_building.specs.Puts.{fits_whole, labels_fit, labels_of, texts_put};
 
 use crate::check::{are_numbers, are_texts};
@@ -23,7 +23,7 @@ use xr_values::{DataArray, Value, integers_of};
 
 #[tactic(auto, using(xr_arguments::proofs::Variants::is_number, xr_values::proofs::Meaning::meaning_out))]
 fn number_in(value: &Value) -> Option<i128>
-    ensures { (nodes : List Node) → MatchOption result (of.is_number (meaning nodes value.now) ≡ false) (λ n. meaning nodes value.now ≡ Number n) }
+    ensures { (nodes : List Node) (vs : Values) → of.numbers_in (With vs (meaning nodes value.now)) ≡ with_number (of.numbers_in vs) result }
 {
     match value {
         Value::Number(n) => Some(*n),
@@ -32,13 +32,13 @@ fn number_in(value: &Value) -> Option<i128>
 }
 
 fn numbers_in(alloc: Global, list: &[Value]) -> Result<Items<i128>, AllocError>
-    requires { (nodes : List Node) → list_all of.is_number (map (meaning nodes) list.now) ≡ true }
     ensures { (nodes : List Node) → IfOk result (λ ns. ns ≡ of.numbers_in (all_values nodes list.now)) }
 {
     let mut numbers = Items::new(alloc);
     for value in list {
-        if let Some(n) = number_in(value) {
-            numbers.push(n)?;
+        match number_in(value) {
+            Some(n) => numbers.push(n)?,
+            None => {}
         }
     }
     Ok(numbers)
@@ -63,6 +63,7 @@ fn text_labels(alloc: Global, list: &[Value]) -> Result<NewLabels, CallFault>
     Ok(NewLabels::Labels(plain(alloc, LabelList::Texts(texts))))
 }
 
+#[tactic(auto, using(crate::proofs::Items::labels_listed, crate::proofs::Items::texts_whole))]
 fn list_labels(alloc: Global, list: &[Value]) -> Result<NewLabels, CallFault>
     ensures answers { (nodes : List Node) → Answers labels_of result (of.labels_given (Sequence (all_values nodes list.now))) }
     ensures fits { (nodes : List Node) → IfOk result (λ l. labels_fit l ≡ fits_whole (Sequence (all_values nodes list.now))) }

@@ -29,19 +29,12 @@ fn are_short(axes: &[Axis]) -> bool
     }
 }
 
-// No more positions along an axis than there may be, and no more cells.
-fn is_small(axes: &[Axis]) -> bool
-    ensures { result ≡ (list_all (λ n. nat_le n most_cells) (shape_over axes.now) && nat_le (size (shape_over axes.now)) most_cells) }
-{
-    are_short(axes) && points_over(axes) <= MOST_CELLS
-}
-
 // No more dimensions, positions along an axis and cells than there may be.
 #[tactic(auto, using(crate::proofs::Called::rank))]
 fn is_within(axes: &[Axis]) -> bool
     ensures { result ≡ of.is_within (shape_over axes.now) }
 {
-    axes.len() <= MOST_DIMENSIONS && is_small(axes)
+    axes.len() <= MOST_DIMENSIONS && are_short(axes) && points_over(axes) <= MOST_CELLS
 }
 
 fn are_within(coords: &[Coord]) -> bool

@@ -20,6 +20,7 @@ use crate::puts::Put;
 use xr_types::{Axis, CallFault, Fault, TextBytes};
 use xr_values::{DataArray, Variable};
 
+#[tactic(auto, using(crate::proofs::Called::called_found))]
 fn size_called(axes: &[Axis], name: &TextBytes) -> u64
     ensures { result ≡ (axis_called axes.now name.now).size }
 {
@@ -44,6 +45,7 @@ pub fn check_total(axes: &[Axis], name: &TextBytes, total: u64) -> Result<(), Ca
     }
 }
 
+#[tactic(auto, using(crate::proofs::Called::called_found, crate::proofs::Called::dimension_found, crate::proofs::After::axis_there, crate::proofs::After::axis_gone))]
 fn check_axis(axes: &[Axis], puts: &[Put], own: &Axis) -> Result<(), CallFault>
     ensures { (coords : List Coord) → Answers (λ u. u) result (of.check_axis (after (over axes.now coords) puts.now).axes own.now) }
 {
@@ -70,6 +72,7 @@ fn check_along(axes: &[Axis], name: &TextBytes, array: &DataArray) -> Result<(),
     check_total(axes, name, array.axes.as_slice()[0].size)
 }
 
+#[tactic(auto, using(crate::proofs::After::after_dimension, crate::proofs::After::after_size))]
 fn check_fit(
     axes: &[Axis],
     puts: &[Put],

@@ -10,7 +10,6 @@ ghost use Rattle.xr_files.specs.Classic.{is_name};
 ghost use Rattle.xr_arrays.specs.declared.node.Node.{Node};
 ghost use Rattle.xr_arrays.specs.Nodes.{value as value_of};
 ghost use Rattle.xr_defs.specs.declared.value.Coord.{Coord as Other};
-ghost use Rattle.xr_defs.specs.declared.value.Content.TheVariants as contents;
 ghost use Rattle.xr_defs.specs.Building.{check_entry, check_numbers, frame_labelled, is_dimension, with_coordinate, with_entry, Frame};
 ghost use Rattle.xr_defs.specs.Selecting.{axis_called};
 ghost use Rattle.xr_defs.specs.Values.{present};
@@ -19,7 +18,6 @@ ghost use Rattle.xr_values.specs.Meaning.{meaning, with_key, IsValueIn, IsEntryI
 ghost use Rattle.xr_values.specs.Stands.{array_in, IsArrayIn};
 ghost use Rattle.xr_values.specs.Variables.{names_of};
 ghost use Rattle.xr_building.specs.declared.puts.Put.{Put as PutOf};
-ghost use Rattle.xr_building.specs.declared.puts.Put.TheVariants as made;
 ghost use Rattle.xr_building.specs.Entries.{entry_in, entries_in, Follows, IsPlain};
 ghost use Rattle.xr_building.specs.Placing.{array_put, array_told, IsAlone};
 ghost use Rattle.xr_building.specs.Puts.{after, fits_whole, over, put_fits, put_on};
@@ -75,23 +73,8 @@ fn coord_given(alloc: Global, name: &TextBytes, value: &Value) -> Result<Put, Ca
     }
 }
 
-#[tactic(auto, unfolding(xr_defs::specs::Building::with_entry))]
-fn put_coord(
-    alloc: Global,
-    variables: &[Variable],
-    entry: &(TextBytes, Value),
-) -> Result<Put, CallFault>
-    requires { IsPlain entry.now.1 }
-    ensures answers { (nodes : List Node) (f : Frame) → is_dimension f.axes entry.now.0 ≡ false → Answers (put_on f) result (with_entry (names_of variables.now) f (with_key nodes entry.now)) }
-    ensures fits { (nodes : List Node) → IfOk result (λ p. put_fits p ≡ fits_whole (meaning nodes entry.now.1)) }
-{
-    let put = coord_given(alloc, &entry.0, &entry.1)?;
-    check_taken(variables, &entry.0)?;
-    Ok(put)
-}
-
 // An entry other than an array.
-#[tactic(auto, using(crate::proofs::After::after_dimension, crate::proofs::After::after_size))]
+#[tactic(auto, using(crate::proofs::After::after_dimension, crate::proofs::After::after_size), unfolding(xr_defs::specs::Building::with_entry))]
 fn put_plain(
     alloc: Global,
     variables: &[Variable],
@@ -103,10 +86,11 @@ fn put_plain(
     ensures fits { (nodes : List Node) → IfOk result (λ p. put_fits p ≡ fits_whole (meaning nodes entry.now.1)) }
 {
     if is_dimension(axes, &entry.0) {
-        put_labels(alloc, variables, axes, entry)
-    } else {
-        put_coord(alloc, variables, entry)
+        return put_labels(alloc, variables, axes, entry);
     }
+    let put = coord_given(alloc, &entry.0, &entry.1)?;
+    check_taken(variables, &entry.0)?;
+    Ok(put)
 }
 
 fn labels_put(
@@ -121,22 +105,6 @@ fn labels_put(
 {
     let labels = array_labels(alloc, array, cells)?;
     Ok(Put::Labels(name.deep_copy(alloc)?, NewLabels::Labels(labels)))
-}
-
-fn coord_put(
-    alloc: Global,
-    name: &TextBytes,
-    array: &DataArray,
-    cells: ArrayValue,
-) -> Result<Put, AllocError>
-    ensures { IfOk result (λ p. p ≡ made.Coord (record { name = name.now; axes = array.now.axes; attrs = array.now.attrs; content = contents.Cells cells array.now.masked })) }
-{
-    Ok(Put::Coord(Coord {
-        name: name.deep_copy(alloc)?,
-        axes: array.axes.deep_copy(alloc)?,
-        attrs: array.attrs.deep_copy(alloc)?,
-        content: Content::Cells(cells, array.masked),
-    }))
 }
 
 #[tactic(auto, using(xr_values::proofs::Grown::array_value, crate::proofs::After::after_dimension))]
@@ -154,7 +122,12 @@ fn made_of(
     if is_dimension(axes, name) {
         labels_put(alloc, name, array, &cells)
     } else {
-        coord_put(alloc, name, array, cells)
+        Ok(Put::Coord(Coord {
+            name: name.deep_copy(alloc)?,
+            axes: array.axes.deep_copy(alloc)?,
+            attrs: array.attrs.deep_copy(alloc)?,
+            content: Content::Cells(cells, array.masked),
+        }))
     }
 }
 

@@ -66,6 +66,7 @@ fn with_entries(alloc: Global, outline: Outline, puts: &[Put]) -> Result<Outline
     })
 }
 
+#[tactic(auto, unfolding(crate::specs::Written::array_written))]
 fn written_out<R: Threads + Sync, C: Compute>(
     rt: &R,
     alloc: Global,
@@ -99,6 +100,7 @@ fn written_out<R: Threads + Sync, C: Compute>(
 /// kind; `NoDimension` for an entry whose dimension isn't there; `SizeConflict` for lists of one depth that aren't as long;
 /// `SizeConflict` and `NotAligned` for an entry that doesn't fit its place; `DoesNotFit` for an element that is none of the kind, and
 /// then for an entry's number that 64 bits don't hold; then `TooLarge`.
+#[tactic(auto, using(crate::proofs::Undeclined::written_answers))]
 pub fn array_written_out<R: Threads + Sync, C: Compute>(
     rt: &R,
     alloc: Global,

@@ -20,7 +20,7 @@ use Rattle.xr_defs.specs.WellFormed.{IsDataset, IsVariable}
 use Rattle.xr_defs.proofs.Spans.{back_among, greatest_both, span_up}
 use Rattle.xr_chunks.specs.Chunks.{chunk_set, grid_given}
 use Rattle.plan_core.proofs.Added.{adds_up}
-use Rattle.xr_indexing.proofs.NamedSpans.{named_within}
+use Rattle.xr_reducing.proofs.OneVariable.{within_span}
 use Rattle.xr_values.proofs.Named.{put_behind}
 use Rattle.xr_values.proofs.Rooms.{in_room}
 use Rattle.xr_values.specs.declared.dataset.Dataset.{Dataset}
@@ -45,7 +45,7 @@ few_cells : (nodes : List Node) (axes : List Axis) (vs : List Variable) → AllB
 few_cells nodes axes [] fs = omega arith
 few_cells nodes axes (v ∷ vs) fs =
     let rest = few_cells nodes axes vs fs.1 in
-    let one : size (shape_named axes v.dims) ≤ span axes = named_within axes v.dims fs.0.distinct fs.0.over in
+    let one : size (shape_named axes v.dims) ≤ span axes = within_span axes v.dims fs.0.over fs.0.distinct in
     let next : suc (length vs) * span axes ≡ span axes + length vs * span axes = grind arith in
     omega arith
 

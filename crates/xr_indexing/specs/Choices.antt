@@ -1,9 +1,10 @@
--- What selectors and choices of the program stand for, and which positions an axis has.
-use Rattle.std.specs.Prelude.{◌<◌, ◌++◌, ◌^◌, ℕ, List, length, All, Result, Ok, ⊤}
+-- What selectors and choices of the program stand for.
+use Rattle.std.specs.Prelude.{◌++◌, ℕ, List, Result, Ok}
 use Rattle.xr_types.specs.declared.fault.Fault.{Fault}
 use Rattle.xr_types.specs.Results.{◌>>=◌}
 use Rattle.xr_defs.specs.Selecting as of
 use Rattle.xr_defs.specs.Arguments as calls
+use Rattle.xr_defs.specs.Meanings.{Value}
 use Rattle.xr_indexing.specs.declared.choice.Positions.{Positions}
 use Rattle.xr_indexing.specs.declared.choice.Selector.{Selector}
 use Rattle.xr_indexing.specs.declared.choice.Selector.TheVariants.{At, Span, Each}
@@ -22,16 +23,10 @@ abbrev pub choice_in : Choice → of.Choice
 choice_in (One p) = of.One p
 choice_in (Several ps) = of.Several ps
 
--- positions of an axis of this size
-abbrev pub IsChoice : ℕ → Choice → Type 0
-IsChoice n (One p) = p < n
-IsChoice n (Several ps) = All (λ p. p < n) ps
-
--- 32 bits count the positions
-abbrev pub AreCounted : Choice → Type 0
-AreCounted (One p) = ⊤
-AreCounted (Several ps) = length ps < 2 ^ 32
-
 -- items that come behind others
 abbrev pub behind : {A : Type 0} → List A → Result (List A) Fault → Result (List A) Fault
 behind out more = more >>= λ xs. Ok (out ++ xs)
+
+-- what a dimension of this size is given
+abbrev pub choice_given : ℕ → Value → Result of.Choice Fault
+choice_given n v = of.as_selector v >>= λ s. of.choice_of n s

@@ -1,8 +1,8 @@
 //! The positions of an axis that a call chooses: one, or several.
-ghost use Rattle.std.specs.Prelude.{◌≡◌, ◌<◌, ◌≤◌, ◌^◌, All, IfOk};
+ghost use Rattle.std.specs.Prelude.{◌<◌, ◌^◌};
 ghost use Rattle.xr_types.specs.Results.{Answers};
 ghost use Rattle.xr_defs.specs.Selecting as of;
-ghost use Rattle.xr_indexing.specs.Choices.{choice_in, selector_in, IsChoice};
+ghost use Rattle.xr_indexing.specs.Choices.{choice_in, selector_in};
 
 use crate::slices::slice_positions;
 use std::alloc::Global;
@@ -38,8 +38,7 @@ pub enum Choice {
 #[tactic(auto, unfolding(xr_defs::specs::Selecting::position_in))]
 fn position_in(size: u64, n: i128) -> Result<u32, CallFault>
     requires { size < 2 ^ 32 }
-    ensures answers { Answers (λ p. p) result (of.position_in size n) }
-    ensures inside { IfOk result (λ p. p < size) }
+    ensures { Answers (λ p. p) result (of.position_in size n) }
 {
     let far = n.unsigned_abs();
     let count = u128::from(size);
@@ -59,8 +58,7 @@ fn position_in(size: u64, n: i128) -> Result<u32, CallFault>
 #[tactic(auto, using(crate::proofs::Loops::behind_both), unfolding(xr_defs::specs::Selecting::positions_in))]
 fn positions_in(alloc: Global, size: u64, list: &[i128]) -> Result<Items<u32>, CallFault>
     requires { size < 2 ^ 32 }
-    ensures answers { Answers (λ ps. ps) result (of.positions_in size list.now) }
-    ensures inside { IfOk result (All (λ p. p < size)) }
+    ensures { Answers (λ ps. ps) result (of.positions_in size list.now) }
 {
     let mut out = Items::new(alloc);
     for n in list {
@@ -76,8 +74,7 @@ fn positions_in(alloc: Global, size: u64, list: &[i128]) -> Result<Items<u32>, C
 #[tactic(auto, unfolding(xr_defs::specs::Selecting::choice_of))]
 pub fn choice_of(alloc: Global, size: u64, selector: &Selector) -> Result<Choice, CallFault>
     requires { size < 2 ^ 32 }
-    ensures answers { Answers choice_in result (of.choice_of size (selector_in selector.now)) }
-    ensures inside { IfOk result (IsChoice size) }
+    ensures { Answers choice_in result (of.choice_of size (selector_in selector.now)) }
 {
     match selector {
         Selector::At(n) => Ok(Choice::One(position_in(size, *n)?)),

@@ -1,5 +1,5 @@
 //! The positions of a slice (Python, "Sequence types: s[i:j:k]").
-ghost use Rattle.std.specs.Prelude.{◌≡◌, ◌<◌, ◌≤◌, ◌-◌, ◌^◌, min, IfOk, All, length, unsigned_abs, Some};
+ghost use Rattle.std.specs.Prelude.{◌≡◌, ◌<◌, ◌≤◌, ◌-◌, ◌^◌, min, IfOk, unsigned_abs, Some};
 ghost use Rattle.xr_defs.specs.Slices.{rising_end, falling_end, given, rising, falling, slice_positions};
 
 use std::alloc::{AllocError, Global};
@@ -65,9 +65,7 @@ fn walk_on(alloc: Global, n: u64, start: u64, stop: u64, step: u64) -> Result<Ve
     requires stop { stop ≤ n }
     requires step { 0 < step }
     requires small { n < 2 ^ 32 }
-    ensures positions { IfOk result (λ v. v.items ≡ rising n start stop step) }
-    ensures few { IfOk result (λ v. length v.items ≤ n) }
-    ensures inside { IfOk result (λ v. All (λ p. p < n) v.items) }
+    ensures { IfOk result (λ v. v.items ≡ rising n start stop step) }
 {
     let mut out = Vec::new(alloc);
     let mut at = start;
@@ -83,9 +81,7 @@ fn walk_back(alloc: Global, n: u64, above: u64, low: u64, step: u64) -> Result<V
     requires above { above ≤ n }
     requires step { 0 < step }
     requires small { n < 2 ^ 32 }
-    ensures positions { IfOk result (λ v. v.items ≡ falling n above low step) }
-    ensures few { IfOk result (λ v. length v.items ≤ n) }
-    ensures inside { IfOk result (λ v. All (λ p. p < n) v.items) }
+    ensures { IfOk result (λ v. v.items ≡ falling n above low step) }
 {
     let mut out = Vec::new(alloc);
     let mut at = above;
@@ -104,9 +100,7 @@ fn by_step(
     step: i128,
 ) -> Result<Vec<u32>, AllocError>
     requires { size < 2 ^ 32 }
-    ensures positions { IfOk result (λ v. v.items ≡ slice_positions size start stop (Some step)) }
-    ensures few { IfOk result (λ v. length v.items ≤ size) }
-    ensures inside { IfOk result (λ v. All (λ p. p < size) v.items) }
+    ensures { IfOk result (λ v. v.items ≡ slice_positions size start stop (Some step)) }
 {
     let far = magnitude(step);
     if step < 0 {
@@ -132,9 +126,7 @@ pub fn slice_positions(
     step: Option<i128>,
 ) -> Result<Vec<u32>, AllocError>
     requires { size < 2 ^ 32 }
-    ensures positions { IfOk result (λ v. v.items ≡ slice_positions size start stop step) }
-    ensures few { IfOk result (λ v. length v.items ≤ size) }
-    ensures inside { IfOk result (λ v. All (λ p. p < size) v.items) }
+    ensures { IfOk result (λ v. v.items ≡ slice_positions size start stop step) }
 {
     match step {
         Some(step) => by_step(alloc, size, start, stop, step),

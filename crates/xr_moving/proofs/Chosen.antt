@@ -1,92 +1,169 @@
--- Axes and coordinates with fewer positions of one axis.
-use Rattle.std.proofs.Common.{◌≡◌, ◌<◌, ◌≤◌, ◌*◌, ℕ, zero, suc, List, [], ◌∷◌, length, map, set, get_or, Option, Some, None, All, refl, ap, subst, ◌∙◌, arith}
-use Rattle.std.specs.List.{AllByRecursion}
-use Rattle.xr_types.specs.Names.{shape_over}
-use Rattle.xr_types.specs.Points.{size}
+-- Positions of one dimension that are there: what lies along it is chosen as a change chooses it.
+use Rattle.std.proofs.Common.{◌≡◌, ◌<◌, ◌+◌, ◌&&◌, ◌||◌, ℕ, zero, suc, Bool, true, false, cond, List, [], ◌∷◌, length, map, set, get_or, Option, Some, None, refl, sym, ap, subst, ◌∙◌, add-one, arith}
+use Rattle.std.specs.Prelude.{is_none, option_map}
+use Rattle.std.specs.List.{list_any}
+use Rattle.std.specs.Str.{bytes_eq}
+use Rattle.std.proofs.lemmas.Bool.{or_parts}
+use Rattle.std.proofs.lemmas.List.{length-map}
+use Rattle.xr_types.specs.Names.{among, are_distinct, axis_names, shape_over}
 use Rattle.xr_types.specs.declared.axis.Axis.{Axis}
-use Rattle.xr_defs.specs.Values.{axis_position, chosen_axes, chosen_axis, chosen_content, chosen_coord, no_axis}
-use Rattle.xr_defs.specs.WellFormed.{IsContent, IsCoordinate, IsDimension}
+use Rattle.xr_types.specs.declared.axis.Labels.{Labels}
+use Rattle.xr_arrays.specs.Arrays.{Array, at, made}
+use Rattle.xr_arrays.specs.Nodes.{along, from_source, taken_from}
+use Rattle.xr_defs.specs.Selecting.{place_of}
+use Rattle.xr_defs.specs.Values.{axis_position, chosen_axes, chosen_axis, chosen_cells, chosen_content, chosen_coord, chosen_list, no_axis}
+use Rattle.xr_defs.specs.WellFormed.{IsContent, IsCoordinate}
 use Rattle.xr_defs.specs.declared.value.Content.{Content}
 use Rattle.xr_defs.specs.declared.value.Content.TheVariants as contents
 use Rattle.xr_defs.specs.declared.value.Coord.{Coord}
-use Rattle.xr_indexing.specs.Unbounded.{IsLongAxis, IsLongContent, IsLongCoordinate, IsLongFrame}
-use Rattle.xr_indexing.proofs.Bounds.{long_frame}
-use Rattle.xr_indexing.proofs.Frames.{same_axis}
-use Rattle.xr_indexing.proofs.FramesChosen.{frame_several}
-use Rattle.xr_indexing.proofs.Lists.{each_at, each_set}
-use Rattle.xr_indexing.proofs.Places.{shape_set, size_at}
-use Rattle.xr_moving.specs.Diffs.{IsFramed}
+use Rattle.plan_core.proofs.Tabs.{tab_same}
+use Rattle.xr_values.proofs.Named.{bytes_eq_swap}
+use Rattle.xr_parts.proofs.Axes.{none_called}
+use Rattle.xr_parts.proofs.Words.{distinct_parts, itself, same_text}
+use Rattle.xr_operations.specs.declared.change.Change.{Change}
+use Rattle.xr_operations.specs.Changing.{cells_along, cells_by, changed_axis, changed_content, changed_coord, has_hole, is_open, new_axis, shown}
+use Rattle.xr_changing.proofs.Stepping.{axis_below}
 
-times_up : (m n k : ℕ) → m ≤ n → m * k ≤ n * k
-times_up m n k le = grind arith
+abbrev pub one : List ℕ → List ℕ → Change
+one n ps = record { name = n; labels = None; from = map Some ps }
 
-times_right : (n a b : ℕ) → a ≤ b → n * a ≤ n * b
-times_right n a b le = grind arith
+-- ---- cells
 
-pub size_less : (s : List ℕ) (k m : ℕ) → m ≤ get_or s k 0 → size (set s k m) ≤ size s
-size_less [] k m le = omega arith
-size_less (n ∷ ns) zero m le = times_up m n (size ns) le
-size_less (n ∷ ns) (suc k) m le = times_right n (size (set ns k m)) (size ns) (size_less ns k m le)
+pub some_at : (ps : List ℕ) (i : ℕ) → i < length ps → get_or (map Some ps) i None ≡ Some (get_or ps i 0)
+some_at [] i lt = absurd (omega arith)
+some_at (p ∷ ps) zero lt = refl
+some_at (p ∷ ps) (suc i) lt = some_at ps i (omega arith)
 
-set_here : {X : Type 0} (xs : List X) (k : ℕ) (y d : X) → k < length xs → get_or (set xs k y) k d ≡ y
-set_here [] k y d lt = absurd (omega arith)
-set_here (x ∷ xs) zero y d lt = refl
-set_here (x ∷ xs) (suc k) y d lt = set_here xs k y d (omega arith)
+pub taken_is_chosen : (a : Array) (k : ℕ) (ps : List ℕ) → k < length a.shape → taken_from a k (map Some ps) None ≡ chosen_cells a k ps
+taken_is_chosen a k ps lt =
+    let step = λ (p : List ℕ) (o : Option ℕ). from_source a None (λ i. along k i p) o in
+    ap (λ n. made a.kind (set a.shape k n) (λ p. step p (get_or (map Some ps) (get_or p k 0) None))) (length-map ps Some)
+    ∙ ap (λ cells. record { kind = a.kind; shape = set a.shape k (length ps); cells = cells })
+    (tab_same (set a.shape k (length ps)) (λ p. step p (get_or (map Some ps) (get_or p k 0) None)) (λ p. at a (along k (get_or ps (get_or p k 0) 0) p))
+    (λ p here. ap (step p) (some_at ps (get_or p k 0) (axis_below a.shape k (length ps) p lt here))))
 
-set_length : {X : Type 0} (xs : List X) (k : ℕ) (y : X) → length (set xs k y) ≡ length xs
-set_length [] k y = refl
-set_length (x ∷ xs) zero y = refl
-set_length (x ∷ xs) (suc k) y = ap suc (set_length xs k y)
+-- ---- the place of a name
 
-module _ (axes : List Axis) (coords : List Coord) (k : ℕ) (ps : List ℕ) (is : IsFramed axes coords) (lt : k < length axes) (few : length ps ≤ (get_or axes k no_axis).size) (below : All (λ p. p < (get_or axes k no_axis).size) ps) where
-  abbrev x : Axis
-  x = get_or axes k no_axis
+absent_at : (xs : List Axis) (k : ℕ) (n : List ℕ) → k < length xs → among (axis_names xs) n ≡ false → bytes_eq n (get_or xs k no_axis).name ≡ false
+absent_at [] k n lt lacks = absurd (omega arith)
+absent_at (x ∷ xs) zero n lt lacks = (or_parts (bytes_eq n x.name) (among (axis_names xs) n) lacks).0
+absent_at (x ∷ xs) (suc k) n lt lacks = absent_at xs k n (omega arith) (or_parts (bytes_eq n x.name) (among (axis_names xs) n) lacks).1
 
-  abbrev left : List Axis
-  left = chosen_axes axes k ps
+pub placed : (n : List ℕ) (xs : List Axis) (k : ℕ) → axis_position n xs ≡ Some k → (k < length xs) × ((get_or xs k no_axis).name ≡ n)
+placed n [] k e = absurd cc
+placed n (x ∷ xs) k e = by (bytes_eq x.name n) refl (axis_position n xs) (placed n xs) e
+  where
+    by : (b : Bool) → bytes_eq x.name n ≡ b → (o : Option ℕ) → ((j : ℕ) → o ≡ Some j → (j < length xs) × ((get_or xs j no_axis).name ≡ n)) → cond b (Some 0) (option_map (λ i. i + 1) o) ≡ Some k
+        → (k < suc (length xs)) × ((get_or (x ∷ xs) k no_axis).name ≡ n)
+    by true same o rest is = let z : 0 ≡ k = cc in subst (λ i. (i < suc (length xs)) × ((get_or (x ∷ xs) i no_axis).name ≡ n)) z (omega arith, same_text x.name n same)
+    by false same None rest is = absurd cc
+    by false same (Some j) rest is =
+        let y : suc j ≡ k = sym (add-one j) ∙ cc in
+        let here = rest j refl in
+        subst (λ i. (i < suc (length xs)) × ((get_or (x ∷ xs) i no_axis).name ≡ n)) y (let lt = here.0 in omega arith, here.1)
 
-  old : IsDimension (get_or axes k no_axis)
-  old = each_at IsDimension axes k no_axis is.axes.each lt
+pub place_is : (n : List ℕ) (xs : List Axis) → axis_position n xs ≡ place_of n (axis_names xs)
+place_is n [] = refl
+place_is n (x ∷ xs) = by (bytes_eq x.name n) (axis_position n xs) (place_of n (axis_names xs)) (place_is n xs)
+  where
+    by : (b : Bool) (o p : Option ℕ) → o ≡ p → cond b (Some 0) (option_map (λ i. i + 1) o) ≡ cond b (Some 0) (elim p [ None ↦ None | Some k ↦ Some (suc k) ])
+    by true o p e = refl
+    by false o None e = ap (option_map (λ i. i + 1)) e
+    by false o (Some k) e = ap (option_map (λ i. i + 1)) e ∙ ap Some (add-one k)
 
-  old_long : IsLongFrame axes coords
-  old_long = long_frame axes coords is.axes is.coords is.distinct
+-- ---- a change of one dimension
 
-  long : IsLongFrame (chosen_axes axes k ps) (map (chosen_coord (get_or axes k no_axis).name ps) coords)
-  long = frame_several axes coords k ps old_long lt (let most = old.few in omega arith) below
+shown_all : (ps : List ℕ) → shown (map Some ps) ≡ ps
+shown_all [] = refl
+shown_all (p ∷ ps) = ap (λ t. p ∷ t) (shown_all ps)
 
-  new : IsDimension (chosen_axis (get_or axes k no_axis) ps)
-  new =
-      let at : IsLongAxis (get_or (set axes k (chosen_axis (get_or axes k no_axis) ps)) k no_axis) = each_at IsLongAxis left k no_axis long.each (let same = set_length axes k (chosen_axis (get_or axes k no_axis) ps) in omega (arith, same)) in
-      let one = subst IsLongAxis (set_here axes k (chosen_axis (get_or axes k no_axis) ps) no_axis lt) at in
-      record { name = one.name; few = let most = old.few in omega arith; index = one.index }
+none_open : (ps : List ℕ) → list_any is_none (map Some ps) ≡ false
+none_open [] = refl
+none_open (p ∷ ps) = none_open ps
 
-  content_left : (c : Coord) (j : ℕ) (content : Content) → axis_position (get_or axes k no_axis).name c.axes ≡ Some j → get_or c.axes j no_axis ≡ get_or axes k no_axis → IsContent (shape_over c.axes) content → IsLongContent (shape_over (chosen_axes c.axes j ps)) (chosen_content content j ps)
-      → IsContent (shape_over (chosen_axes c.axes j ps)) (chosen_content content j ps)
-  content_left c j (contents.Cells a masked) e same was is =
-      let here : get_or (shape_over c.axes) j 0 ≡ (get_or axes k no_axis).size = size_at c.axes j ∙ ap (λ (y : Axis). y.size) same in
-      let less = size_less (shape_over c.axes) j (length ps) (omega (arith, here, few)) in
-      let shape = ap size (shape_set c.axes j (chosen_axis (get_or c.axes j no_axis) ps)) in
-      let most = was.1.few in
-      (is.0, record { whole = is.1.whole; range = is.1.range; seen = is.1.seen; low_rank = is.1.low_rank; few = omega (arith, less, shape, most) })
-  content_left c j (contents.Text text) e same was is = is
-  content_left c j (contents.Time coding t) e same was is = is
+module _ (n ps : List ℕ) where
+  abbrev pub cs : List Change
+  cs = one n ps ∷ []
 
-  coord_left : (c : Coord) → IsCoordinate axes c → IsLongCoordinate left (chosen_coord (get_or axes k no_axis).name ps c) → IsCoordinate left (chosen_coord (get_or axes k no_axis).name ps c)
-  coord_left c was then = record { name = then.name; over = then.over; distinct = then.distinct; attrs = then.attrs; content = by (axis_position (get_or axes k no_axis).name c.axes) refl then.content }
+  abbrev by_test : Bool → Option Change
+  by_test b = cond b (Some (one n ps)) None
+
+  pub axis_chosen : (x : Axis) → n ≡ x.name → new_axis cs x ≡ chosen_axis x ps
+  axis_chosen x e =
+      ap (λ b. changed_axis x (by_test b)) (ap (bytes_eq n) (sym e) ∙ itself n) ∙ ap (λ m. record x { size = m; labels = option_map (λ (l : Labels). record l { list = chosen_list l.list (shown (map Some ps)) }) x.labels }) (length-map ps Some)
+      ∙ ap (λ qs. record x { size = length ps; labels = option_map (λ (l : Labels). record l { list = chosen_list l.list qs }) x.labels }) (shown_all ps)
+
+  pub axes_stay : (xs : List Axis) → among (axis_names xs) n ≡ false → map (new_axis cs) xs ≡ xs
+  axes_stay [] lacks = refl
+  axes_stay (x ∷ xs) lacks =
+      let parts = or_parts (bytes_eq n x.name) (among (axis_names xs) n) lacks in
+      ap (λ b. changed_axis x (by_test b) ∷ map (new_axis cs) xs) parts.0 ∙ ap (λ ys. x ∷ ys) (axes_stay xs parts.1)
+
+  other_there : (x : Axis) (xs : List Axis) (k : ℕ) → k < length xs → among (axis_names xs) x.name ≡ false → (get_or xs k no_axis).name ≡ n → bytes_eq n x.name ≡ false
+  other_there x xs k lt lacks named = bytes_eq_swap n x.name ∙ ap (bytes_eq x.name) (sym named) ∙ absent_at xs k x.name lt lacks
+
+  pub axes_chosen : (xs : List Axis) (k : ℕ) → k < length xs → are_distinct (axis_names xs) ≡ true → (get_or xs k no_axis).name ≡ n → map (new_axis cs) xs ≡ chosen_axes xs k ps
+  axes_chosen [] k lt d named = absurd (omega arith)
+  axes_chosen (x ∷ xs) zero lt d named =
+      ap (λ y. y ∷ map (new_axis cs) xs) (axis_chosen x (sym named)) ∙ ap (λ ys. chosen_axis x ps ∷ ys) (axes_stay xs (ap (among (axis_names xs)) (sym named) ∙ (distinct_parts x.name (axis_names xs) d).0))
+  axes_chosen (x ∷ xs) (suc k) lt d named =
+      let parts = distinct_parts x.name (axis_names xs) d in
+      ap (λ b. changed_axis x (by_test b) ∷ map (new_axis cs) xs) (other_there x xs k (omega arith) parts.0 named) ∙ ap (λ ys. x ∷ ys) (axes_chosen xs k (omega arith) parts.1 named)
+
+  cells_stay : (dims : List (List ℕ)) (k : ℕ) (a : Array) → among dims n ≡ false → cells_along cs None k dims a ≡ a
+  cells_stay [] k a lacks = refl
+  cells_stay (d ∷ dims) k a lacks =
+      let parts = or_parts (bytes_eq n d) (among dims n) lacks in
+      ap (λ b. cells_along cs None (suc k) dims (cells_by None a k (by_test b))) parts.0 ∙ cells_stay dims (suc k) a parts.1
+
+  cells_taken : (xs : List Axis) (k j : ℕ) (a : Array) → k < length xs → are_distinct (axis_names xs) ≡ true → (get_or xs k no_axis).name ≡ n → cells_along cs None j (axis_names xs) a ≡ taken_from a (j + k) (map Some ps) None
+  cells_taken [] k j a lt d named = absurd (omega arith)
+  cells_taken (x ∷ xs) zero j a lt d named =
+      ap (λ b. cells_along cs None (suc j) (axis_names xs) (cells_by None a j (by_test b))) (ap (bytes_eq n) named ∙ itself n)
+      ∙ cells_stay (axis_names xs) (suc j) (taken_from a j (map Some ps) None) (ap (among (axis_names xs)) (sym named) ∙ (distinct_parts x.name (axis_names xs) d).0)
+      ∙ ap (λ i. taken_from a i (map Some ps) None) (let e : j ≡ j + 0 = omega arith in e)
+  cells_taken (x ∷ xs) (suc k) j a lt d named =
+      let parts = distinct_parts x.name (axis_names xs) d in
+      ap (λ b. cells_along cs None (suc j) (axis_names xs) (cells_by None a j (by_test b))) (other_there x xs k (omega arith) parts.0 named)
+      ∙ cells_taken xs k (suc j) a (omega arith) parts.1 named ∙ ap (λ i. taken_from a i (map Some ps) None) (let e : suc j + k ≡ j + suc k = omega arith in e)
+
+  no_hole : (dims : List (List ℕ)) → has_hole cs dims ≡ false
+  no_hole [] = refl
+  no_hole (d ∷ dims) = by (bytes_eq n d) (no_hole dims)
     where
-      by : (o : Option ℕ) → axis_position (get_or axes k no_axis).name c.axes ≡ o
-          → IsLongContent (shape_over (elim o as (λ o. Coord) [ None ↦ c | Some j ↦ record c { axes = chosen_axes c.axes j ps; content = chosen_content c.content j ps } ]).axes) (elim o as (λ o. Coord) [ None ↦ c | Some j ↦ record c { axes = chosen_axes c.axes j ps; content = chosen_content c.content j ps } ]).content
-          → IsContent (shape_over (elim o as (λ o. Coord) [ None ↦ c | Some j ↦ record c { axes = chosen_axes c.axes j ps; content = chosen_content c.content j ps } ]).axes) (elim o as (λ o. Coord) [ None ↦ c | Some j ↦ record c { axes = chosen_axes c.axes j ps; content = chosen_content c.content j ps } ]).content
-      by None e l = was.content
-      by (Some j) e l = content_left c j c.content e (same_axis axes c.axes k j lt is.axes.distinct was.over e) was.content l
+      by : (b : Bool) → has_hole cs dims ≡ false → (is_open (by_test b) || has_hole cs dims) ≡ false
+      by true rest = ap (λ b. b || has_hole cs dims) (none_open ps) ∙ rest
+      by false rest = rest
 
-  coords_left : (cs : List Coord) → AllByRecursion (IsCoordinate axes) cs → AllByRecursion (IsLongCoordinate left) (map (chosen_coord (get_or axes k no_axis).name ps) cs) → AllByRecursion (IsCoordinate left) (map (chosen_coord (get_or axes k no_axis).name ps) cs)
-  coords_left [] was then = tt
-  coords_left (c ∷ cs) was then = (coord_left c was.0 then.0, coords_left cs was.1 then.1)
+  -- the cells of a coordinate, masked as they were
+  content_is : (dims : List (List ℕ)) (a b : Array) (masked : Bool) → cells_along cs None 0 dims a ≡ b → changed_content cs dims None (contents.Cells a masked) ≡ contents.Cells b masked
+  content_is dims a b masked e =
+      ap (λ h. contents.Cells (cells_along cs (cond h None None) 0 dims a) (masked || h && true)) (no_hole dims) ∙ ap (λ c. contents.Cells c (masked || false)) e ∙ ap (contents.Cells b) (or_none masked)
+    where
+      or_none : (m : Bool) → (m || false) ≡ m
+      or_none true = refl
+      or_none false = refl
 
-  pub frame_left : IsFramed (chosen_axes axes k ps) (map (chosen_coord (get_or axes k no_axis).name ps) coords)
-  frame_left = record {
-    axes = record { each = each_set IsDimension axes k (chosen_axis (get_or axes k no_axis) ps) new is.axes.each; distinct = long.axes_distinct };
-    coords = coords_left coords is.coords long.over;
-    distinct = long.distinct;
-  }
+  content_stays : (dims : List (List ℕ)) (content : Content) → among dims n ≡ false → changed_content cs dims None content ≡ content
+  content_stays dims (contents.Cells a masked) lacks = content_is dims a a masked (cells_stay dims 0 a lacks)
+  content_stays dims (contents.Text t) lacks = refl
+  content_stays dims (contents.Time coding t) lacks = refl
+
+  content_chosen : (xs : List Axis) (k : ℕ) (content : Content) → k < length xs → are_distinct (axis_names xs) ≡ true → (get_or xs k no_axis).name ≡ n → IsContent (shape_over xs) content → changed_content cs (axis_names xs) None content ≡ chosen_content content k ps
+  content_chosen xs k (contents.Cells a masked) lt d named is =
+      let rank : length a.shape ≡ length xs = ap length is.0 ∙ length-map xs (λ (x : Axis). x.size) in
+      content_is (axis_names xs) a (chosen_cells a k ps) masked (cells_taken xs k 0 a lt d named ∙ ap (λ i. taken_from a i (map Some ps) None) (let e : 0 + k ≡ k = omega arith in e) ∙ taken_is_chosen a k ps (omega arith))
+  content_chosen xs k (contents.Text t) lt d named is = refl
+  content_chosen xs k (contents.Time coding t) lt d named is = refl
+
+  pub coord_chosen : (axes : List Axis) (c : Coord) → IsCoordinate axes c → changed_coord cs None c ≡ chosen_coord n ps c
+  coord_chosen axes c is = by (axis_position n c.axes) refl
+    where
+      by : (o : Option ℕ) → axis_position n c.axes ≡ o
+          → changed_coord cs None c ≡ (elim o as (λ o. Coord) [ None ↦ c | Some k ↦ record c { axes = chosen_axes c.axes k ps; content = chosen_content c.content k ps } ])
+      by None e =
+          let lacks = none_called c.axes n e in
+          (λ i. record c { axes = axes_stay c.axes lacks i; content = content_stays (axis_names c.axes) c.content lacks i })
+      by (Some k) e =
+          let at = placed n c.axes k e in
+          (λ i. record c { axes = axes_chosen c.axes k at.0 is.distinct at.1 i; content = content_chosen c.axes k c.content at.0 is.distinct at.1 is.content i })

@@ -1,7 +1,11 @@
 -- Differences of neighbours.
-use Rattle.std.proofs.Common.{◌≡◌, ◌<◌, ◌≤◌, ◌+◌, ◌-◌, ◌*◌, ℕ, ℤ, Bool, true, false, List, length, map, set, get_or, Option, Some, None, is_some, All, refl, sym, ap, subst, ◌∙◌, arith, lit<}
+use Rattle.std.proofs.Common.{◌≡◌, ◌||◌, ◌<◌, ◌≤◌, ◌+◌, ◌-◌, ◌*◌, ℕ, ℤ, zero, suc, Bool, true, false, List, [], ◌∷◌, length, map, set, get_or, Option, Some, None, is_some, All, refl, sym, ap, subst, ◌∙◌, arith, lit<}
 use Rattle.std.specs.List.{range_with_len}
+use Rattle.std.proofs.Math.ListN.{get_or-map}
+use Rattle.std.proofs.lemmas.List.{length-map, length-set, map-set}
+use Rattle.std.proofs.lemmas.List.Elements.{All-map}
 use Rattle.std.proofs.lemmas.List.FromFn.{get_or-range_with_len, length-range_with_len}
+use Rattle.std.proofs.lemmas.Nat.{mul-le}
 use Rattle.xr_types.specs.Names.{shape_over}
 use Rattle.xr_types.specs.Points.{size, IsPoint}
 use Rattle.xr_types.specs.declared.axis.Axis.{Axis}
@@ -10,16 +14,13 @@ use Rattle.xr_types.specs.declared.operation.OpKind.TheVariants.{Subtract}
 use Rattle.xr_arrays.specs.declared.node.Node.{Node}
 use Rattle.xr_arrays.specs.Arrays.{Array, at}
 use Rattle.xr_arrays.specs.Elements.{elem}
-use Rattle.xr_arrays.specs.Nodes.{taken_from, value, most_axes, most_node_cells}
+use Rattle.xr_arrays.specs.Nodes.{taken_from, value, most_axes, most_node_cells, IsBelow}
 use Rattle.xr_arrays.proofs.ElementRanges.{elem_of_two}
-use Rattle.xr_defs.specs.Values.{array_of, chosen_axes, chosen_axis, chosen_cells, chosen_coord, no_axis, without_fills}
+use Rattle.xr_defs.specs.Values.{array_of, chosen_axis, chosen_cells, no_axis, without_fills}
 use Rattle.xr_defs.specs.WellFormed.{AreCells, IsDataArray}
 use Rattle.xr_values.specs.declared.data_array.DataArray.{DataArray}
 use Rattle.xr_values.specs.Stands.{array_in, IsArrayIn}
 use Rattle.xr_values.proofs.Grown.{array_value}
-use Rattle.xr_indexing.proofs.Bounds.{many_cells}
-use Rattle.xr_indexing.proofs.CellsAt.{chosen_many, some_below, taken_is_chosen}
-use Rattle.xr_indexing.proofs.Places.{shape_rank, shape_set, size_at}
 use Rattle.xr_operations.specs.Arithmetic.{is_truths}
 use Rattle.xr_operations.specs.Moves.{array_differences, differences, labels_kept}
 use Rattle.xr_formulas.specs.declared.made.Made.{Made}
@@ -28,8 +29,9 @@ use Rattle.xr_formulas.specs.Mades.{formula_cells, formula_value, made_with, pai
 use Rattle.xr_formulas.proofs.Answered.{attributes_left}
 use Rattle.xr_formulas.proofs.Cells.{cell_in, cell_seen, cells_made}
 use Rattle.xr_formulas.proofs.Changes.{own_span}
-use Rattle.xr_moving.specs.Diffs.{chain_to, neighbours, step_to, IsFramed}
-use Rattle.xr_moving.proofs.Chosen.{frame_left, size_less}
+use Rattle.xr_moving.specs.Diffs.{axes_left, chain_to, coords_left, kept, neighbours, step_to, IsFramed}
+use Rattle.xr_moving.proofs.Chosen.{some_at, taken_is_chosen}
+use Rattle.xr_changing.proofs.Stepping.{taken_all, AreAll}
 
 -- ---- the positions of neighbours
 
@@ -50,6 +52,11 @@ kept_long true n = length-range_with_len 1 (n - 1)
 kept_long false n = length-range_with_len 0 (n - 1)
 
 -- ---- cells
+
+size_less : (s : List ℕ) (k m : ℕ) → m ≤ get_or s k 0 → size (set s k m) ≤ size s
+size_less [] k m le = omega arith
+size_less (n ∷ ns) zero m le = mul-le m (size ns) n (size ns) le (omega arith)
+size_less (n ∷ ns) (suc k) m le = mul-le n (size (set ns k m)) n (size ns) (omega arith) (size_less ns k m le)
 
 both_seen : (t : DType) (x y : Option ℤ) → is_some x ≡ true → is_some y ≡ true → is_some (elem Subtract t x y) ≡ true
 both_seen t (Some x) (Some y) a b = refl
@@ -72,13 +79,22 @@ module _ (s : List ℕ) (kind : DType) (masked : Bool) (cells : List (Option ℤ
   pub to_few : size to ≤ size s
   to_few = size_less s k (get_or s k 0 - 1) (omega arith)
 
+  part_all : (upper : Bool) → AreAll masked (part upper)
+  part_all upper =
+      let ps = labels_kept upper (get_or s k 0) in
+      let long = length-map ps Some in
+      subst (AreAll masked) (taken_is_chosen own k ps lt) (taken_all own masked (record { whole = is.whole; range = is.range; seen = is.seen }) k (map Some ps) None lt (All-map (IsBelow (get_or s k 0)) Some ps (kept_below upper (get_or s k 0))) tt
+      (λ plain i here. ap (λ (o : Option ℕ). is_some o || false) (some_at ps i (omega arith))))
+
   part_cells : (upper : Bool) → AreCells (part upper).shape kind masked (part upper).cells
   part_cells upper =
-      let many = chosen_many own masked k (labels_kept upper (get_or s k 0)) (many_cells s kind masked cells is) lt (kept_below upper (get_or s k 0)) in
+      let all = part_all upper in
+      let rank = length-set s k (length (labels_kept upper (get_or s k 0))) in
+      let low = is.low_rank in
       let points = ap size (part_shape upper) in
       let less = to_few in
       let most = is.few in
-      record { whole = many.whole; range = many.range; seen = many.seen; low_rank = many.low_rank; few = omega (arith, points, less, most) }
+      record { whole = all.whole; range = all.range; seen = all.seen; low_rank = omega (arith, rank, low); few = omega (arith, points, less, most) }
 
   pub differences_cells : AreCells to kind masked (differences own k).cells
   differences_cells =
@@ -117,7 +133,7 @@ module _ (nodes : List Node) (node : ℕ) (s : List ℕ) (kind : DType) (masked 
   step_fits b =
       let same = sym (taken_is_chosen whole k (labels_kept b (get_or s k 0)) lt) in
       record {
-        fits = (lit< tt, lt, some_below (get_or s k 0) (labels_kept b (get_or s k 0)) (kept_below b (get_or s k 0)), tt, λ e. absurd cc);
+        fits = (lit< tt, lt, All-map (IsBelow (get_or s k 0)) Some (labels_kept b (get_or s k 0)) (kept_below b (get_or s k 0)), tt, λ e. absurd cc);
         small = subst (λ (v : Array). size v.shape ≤ most_node_cells) same (let less = half_few b in let most = is.few in omega (arith, less, most));
         low_rank = subst (λ (v : Array). length v.shape ≤ most_axes) same (half_rank b);
       }
@@ -161,7 +177,7 @@ module _ (nodes : List Node) (node : ℕ) (s : List ℕ) (kind : DType) (masked 
 
 -- ---- the array
 
-module _ (nodes : List Node) (a : DataArray) (k : ℕ) (upper : Bool) (is : IsArrayIn nodes a) (framed : IsFramed a.axes a.coords) (inside : k < length a.axes) (numbers : is_truths a.kind ≡ false) where
+module _ (nodes : List Node) (a : DataArray) (k : ℕ) (upper : Bool) (is : IsArrayIn nodes a) (left : IsFramed (axes_left upper a.axes k) (coords_left upper a.axes k a.coords)) (inside : k < length a.axes) (numbers : is_truths a.kind ≡ false) where
   abbrev x : Axis
   x = get_or a.axes k no_axis
 
@@ -171,23 +187,17 @@ module _ (nodes : List Node) (a : DataArray) (k : ℕ) (upper : Bool) (is : IsAr
   abbrev n : ℕ
   n = get_or (shape_over a.axes) k 0
 
-  abbrev ps : List ℕ
-  ps = labels_kept upper (get_or a.axes k no_axis).size
-
   abbrev made_by : ℕ → Made
-  made_by m = record { name = a.name; axes = chosen_axes a.axes k ps; kind = a.kind; masked = a.masked; attrs = without_fills a.attrs; coords = map (chosen_coord x.name ps) a.coords; cells = neighbours a.node k m }
+  made_by m = record { name = a.name; axes = axes_left upper a.axes k; kind = a.kind; masked = a.masked; attrs = without_fills a.attrs; coords = coords_left upper a.axes k a.coords; cells = neighbours a.node k m }
 
   in_shape : k < length (shape_over a.axes)
-  in_shape = let rank = shape_rank a.axes in omega arith
+  in_shape = let rank = length-map a.axes (λ (x : Axis). x.size) in omega arith
 
   sized : get_or (shape_over a.axes) k 0 ≡ (get_or a.axes k no_axis).size
-  sized = size_at a.axes k
+  sized = get_or-map (λ (x : Axis). x.size) a.axes k no_axis
 
-  final_shape : set s k (get_or s k 0 - 1) ≡ shape_over (chosen_axes a.axes k ps)
-  final_shape = ap (λ m. set s k (m - 1)) sized ∙ ap (set s k) (sym (kept_long upper x.size)) ∙ sym (shape_set a.axes k (chosen_axis x ps))
-
-  left : IsFramed (chosen_axes a.axes k ps) (map (chosen_coord (get_or a.axes k no_axis).name ps) a.coords)
-  left = frame_left a.axes a.coords k ps framed inside (let long = kept_long upper x.size in omega (arith, long)) (kept_below upper x.size)
+  final_shape : set s k (get_or s k 0 - 1) ≡ shape_over (axes_left upper a.axes k)
+  final_shape = ap (λ m. set s k (m - 1)) sized ∙ ap (set s k) (sym (kept_long upper x.size)) ∙ sym (map-set (λ (x : Axis). x.size) a.axes k (chosen_axis x (kept upper a.axes k)))
 
   formed : IsDataArray (array_differences upper k (array_in nodes a))
   formed = record {

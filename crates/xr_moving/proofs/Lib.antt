@@ -7,6 +7,7 @@ pub mod ArrayMade
 pub mod Answered
 pub mod Chosen
 pub mod Differences
+pub mod Left
 pub mod Formulas
 pub mod Realized
 pub mod Placed

@@ -1,7 +1,8 @@
 -- Datasets that a call makes, in a plan.
-use Rattle.std.proofs.Common.{◌≡◌, ◌≤◌, ◌+◌, ◌*◌, ◌++◌, ℕ, zero, suc, true, List, [], ◌∷◌, length, map, All, refl, sym, ap, subst, ◌∙◌, arith}
+use Rattle.std.proofs.Common.{◌≡◌, ◌≤◌, ◌+◌, ◌*◌, ◌++◌, suc, true, List, [], ◌∷◌, length, map, All, refl, sym, ap, subst, ◌∙◌, arith}
 use Rattle.std.specs.List.{AllByRecursion}
 use Rattle.std.proofs.lemmas.List.{length-map}
+use Rattle.std.proofs.lemmas.List.Elements.{All-from_recursion}
 use Rattle.std.proofs.lemmas.Nat.{mul-le}
 use Rattle.xr_types.specs.declared.axis.Axis.{Axis}
 use Rattle.xr_arrays.specs.declared.node.Node.{Node}
@@ -24,17 +25,8 @@ use Rattle.xr_defs.specs.WellFormed.{labelled, names_of, variable_names, IsDatas
 use Rattle.xr_values.proofs.Named.{put_behind}
 use Rattle.xr_moving.specs.declared.sets.VarMade.{VarMade}
 use Rattle.xr_moving.specs.Sets.{set_made_in, sizes, var_made_in, vars_cells, AddsForAnySet, AreVarsOf, IsSetMade, IsSetOf, IsVarFit, IsVarOf}
-use Rattle.xr_indexing.proofs.Names.{distinct_parts}
+use Rattle.xr_parts.proofs.Words.{split}
 use Rattle.xr_moving.specs.declared.sets.SetMade.{SetMade}
-
-all_of : {X : Type 0} (P : X → Type 0) (xs : List X) → AllByRecursion P xs → All P xs
-all_of P [] all i x lt = absurd (omega arith)
-all_of P (y ∷ ys) all zero x lt = all.0
-all_of P (y ∷ ys) all (suc i) x lt = all_of P ys all.1 i x (omega arith)
-
-distinct_behind : (xs ys : List (List ℕ)) → are_distinct (xs ++ ys) ≡ true → are_distinct ys ≡ true
-distinct_behind [] ys d = d
-distinct_behind (x ∷ xs) ys d = distinct_behind xs ys (distinct_parts x (xs ++ ys) d).1
 
 module _ (old new : List Node) where
   the_same : (ms : List VarMade) (vs : List Variable) → AreVarsOf old new ms vs → map (variable_in new) vs ≡ map (var_made_in old) ms
@@ -83,8 +75,8 @@ module _ (old new : List Node) where
 
     distinct : are_distinct (named.names_of vs) ≡ true
     distinct =
-        let behind = distinct_behind (axis_names (labelled m.axes)) (names_of m.coords ++ variable_names (map (var_made_in old) m.vars)) is.formed.vars_distinct in
-        ap are_distinct (the_names vs ∙ ap variable_names (the_same m.vars vs are)) ∙ distinct_behind (names_of m.coords) (variable_names (map (var_made_in old) m.vars)) behind
+        let behind = split (axis_names (labelled m.axes)) (names_of m.coords ++ variable_names (map (var_made_in old) m.vars)) is.formed.vars_distinct in
+        ap are_distinct (the_names vs ∙ ap variable_names (the_same m.vars vs are)) ∙ (split (names_of m.coords) (variable_names (map (var_made_in old) m.vars)) behind.second).second
 
     out_is : out ≡ vs
     out_is = put ∙ put_behind [] vs distinct
@@ -96,7 +88,7 @@ module _ (old new : List Node) where
     set_placed = record {
       is = means_is;
       inside = record {
-        nodes_of = subst (All (λ (v : Variable). IsNodeOf new v.node (sizes m.axes v.dims) v.kind)) (sym out_is) (all_of (λ (v : Variable). IsNodeOf new v.node (sizes m.axes v.dims) v.kind) vs (nodes m.axes m.vars vs is.vars are));
+        nodes_of = subst (All (λ (v : Variable). IsNodeOf new v.node (sizes m.axes v.dims) v.kind)) (sym out_is) (All-from_recursion (λ (v : Variable). IsNodeOf new v.node (sizes m.axes v.dims) v.kind) vs (nodes m.axes m.vars vs is.vars are));
         formed = subst IsDataset (sym means_is) is.formed;
       };
     }

@@ -69,5 +69,5 @@ covers_by Roll fill by n e i lt = ap (λ b. b || is_some fill) (all_some (roll_s
 
 -- ---- positions one after the other
 
-pub run_on : (from i : ℕ) → range_with_len from (i + 1) ≡ range_with_len from i ++ (from + i) ∷ []
-run_on from i = range_with_len-add from i 1
+pub run_on : (from i : ℕ) → map Some (range_with_len from (i + 1)) ≡ map Some (range_with_len from i) ++ Some (from + i) ∷ []
+run_on from i = ap (map Some) (range_with_len-add from i 1) ∙ map-append Some (range_with_len from i) ((from + i) ∷ [])

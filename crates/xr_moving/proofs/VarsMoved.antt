@@ -17,14 +17,14 @@ use Rattle.xr_defs.specs.WellFormed.{labelled, names_of, variable_names, AreCell
 use Rattle.xr_values.specs.declared.dataset.Dataset.{Dataset}
 use Rattle.xr_values.specs.declared.variable.Variable.{Variable}
 use Rattle.xr_values.specs.Stands.{dataset_in, variable_in, IsDatasetIn, IsNodeOf}
-use Rattle.xr_indexing.proofs.NamedSpans.{named_within}
-use Rattle.xr_indexing.proofs.Took.{long_value}
+use Rattle.xr_reducing.proofs.OneVariable.{within_span}
 use Rattle.xr_operations.specs.Moves.{distance, is_moved, moved_along, moved_at, var_moved}
 use Rattle.xr_formulas.specs.Chains.{steps_cells, steps_value, StepsFit}
 use Rattle.xr_moving.specs.declared.moves.Moves.{Moves}
 use Rattle.xr_moving.specs.Sets.{set_made, set_made_in, set_moved_by, sizes, var_made, var_made_in, Fit, IsVarFit, MakesSet}
 use Rattle.xr_moving.specs.Steps.{hides, positions_by, sides_named, step_at, steps_along}
 use Rattle.xr_moving.proofs.ArrayMade.{times_up}
+use Rattle.xr_moving.proofs.Realized.{variable_value}
 use Rattle.xr_moving.proofs.Moved as moved
 use Rattle.xr_moving.proofs.Moved.{all_at, names, steps_move, AreAt, IsMoved}
 
@@ -104,7 +104,7 @@ module _ (nodes : List Node) (set : of.Dataset) (m : Moves) where
     after = moves (is_moved m.by v.dims) refl
 
     node_is : value nodes v.node ≡ own
-    node_is = long_value nodes v.node (sizes set.axes v.dims) v.kind node
+    node_is = variable_value nodes set.axes v node
 
     value_is : steps_value (steps_along m 0 xs) (value nodes v.node) ≡ then v.dims
     value_is = ap (steps_value (steps_along m 0 xs)) node_is ∙ after.value
@@ -113,7 +113,7 @@ module _ (nodes : List Node) (set : of.Dataset) (m : Moves) where
     few_steps =
         let cells = ap (steps_cells (steps_along m 0 xs)) node_is in
         let room = after.room in
-        let over = named_within set.axes v.dims var.distinct var.over in
+        let over = within_span set.axes v.dims var.over var.distinct in
         let low : length (sizes set.axes v.dims) ≤ 16 = var.cells.low_rank in
         let rank : length (sizes set.axes v.dims) ≡ length v.dims = length-map v.dims (λ d. (axis_called set.axes d).size) in
         let count : length (sides_named set.axes v.dims) ≡ length v.dims = length-map v.dims (λ d. (d, (axis_called set.axes d).size)) in

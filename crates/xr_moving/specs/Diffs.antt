@@ -12,6 +12,7 @@ use Rattle.xr_defs.specs.Values as of
 use Rattle.xr_defs.specs.Values.{axis_position, chosen_axes, chosen_coord, no_axis, without_fills}
 use Rattle.xr_defs.specs.WellFormed.{names_of, AreDimensions, IsCoordinate}
 use Rattle.xr_defs.specs.declared.value.Coord.{Coord}
+use Rattle.xr_operations.specs.declared.change.Change.{Change}
 use Rattle.xr_operations.specs.Moves.{check_numbers, labels_kept, set_differences}
 use Rattle.xr_formulas.specs.declared.chain.Chain.{Chain}
 use Rattle.xr_formulas.specs.declared.chain.Start.TheVariants as starts
@@ -44,6 +45,19 @@ pub record IsFramed (xs : List Axis) (cs : List Coord) : Type 0 where
   pub coords : AllByRecursion (IsCoordinate xs) cs
   pub distinct : are_distinct (axis_names xs ++ names_of cs) ≡ true
 
+-- the labels of axis number k that are kept, and what lies along it there
+abbrev pub kept : Bool → List Axis → ℕ → List ℕ
+kept upper xs k = labels_kept upper (get_or xs k no_axis).size
+
+abbrev pub change_to : Bool → Axis → List Change
+change_to upper x = record { name = x.name; labels = None; from = map Some (labels_kept upper x.size) } ∷ []
+
+abbrev pub axes_left : Bool → List Axis → ℕ → List Axis
+axes_left upper xs k = chosen_axes xs k (kept upper xs k)
+
+abbrev pub coords_left : Bool → List Axis → ℕ → List Coord → List Coord
+coords_left upper xs k cs = map (chosen_coord (get_or xs k no_axis).name (kept upper xs k)) cs
+
 -- ---- a dataset
 
 abbrev pub same_made : Variable → VarMade
@@ -59,10 +73,9 @@ var_differed dim n v = elim (place_of dim v.dims) [ None ↦ same_made v | Some 
 abbrev pub set_made : Bool → ℕ → Dataset → Frame → SetMade
 set_made upper k s f =
     let x = get_or f.axes k no_axis in
-    let ps = labels_kept upper x.size in
     record {
-      axes = chosen_axes f.axes k ps;
-      coords = map (chosen_coord x.name ps) s.coords;
+      axes = axes_left upper f.axes k;
+      coords = coords_left upper f.axes k s.coords;
       vars = map (var_differed x.name x.size) f.vars;
       attrs = without_fills s.attrs;
       skipped = s.skipped;

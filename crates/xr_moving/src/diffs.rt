@@ -1,24 +1,24 @@
 //! `diff(dim, label="upper")` of an array.
-ghost use Rattle.std.specs.Prelude.{◌≡◌, ◌<◌, ◌+◌, ◌^◌, ◌-◌, List, Some, false, length, map, get_or, option_map, All, IfOk};
+ghost use Rattle.std.specs.Prelude.{◌≡◌, ◌<◌, ◌+◌, ◌^◌, ◌-◌, List, Some, false, length, map, option_map, IfOk};
 ghost use Rattle.std.specs.List.{range_with_len};
 ghost use Rattle.xr_types.specs.Results.{Answers};
 ghost use Rattle.xr_arrays.specs.declared.node.Node.{Node};
-ghost use Rattle.xr_defs.specs.Values.{chosen_axes, chosen_coord, no_axis};
 ghost use Rattle.xr_operations.specs.Arithmetic.{is_truths as of_truths};
 ghost use Rattle.xr_operations.specs.Moves as of;
 ghost use Rattle.xr_values.specs.Meaning.{given, meaning};
 ghost use Rattle.xr_values.specs.Stands.{array_in, IsArrayIn};
 ghost use Rattle.xr_formulas.specs.Mades.{AnswersMade, Makes};
-ghost use Rattle.xr_moving.specs.Diffs.{asked, neighbours, step_to, IsFramed};
+ghost use Rattle.xr_moving.specs.Diffs.{asked, axes_left, change_to, coords_left, neighbours, step_to, IsFramed};
 
-use crate::coords::{Chosen, axes_with, chosen_coords, sources};
-use crate::labels::chosen_axis;
 use crate::names::position_of;
 use std::alloc::{AllocError, Global};
 use xr_arguments::{argument, as_text, bound, option, required};
+use xr_arrays::Sources;
+use xr_changing::{changed_coords, new_axes};
 use xr_defs::Coord;
 use xr_formulas::{Formula, Made, Step, is_chars, is_truths, one_step};
-use xr_types::{Axis, CallFault, DeepCopy, Fault, Items, NodeId, OpKind, TextBytes};
+use xr_operations::Change;
+use xr_types::{Axis, CallFault, DeepCopy, Fault, Items, NoMemory, NodeId, OpKind, TextBytes};
 use xr_values::{Args, DataArray, Value, without_fills};
 
 /// What `diff` is asked for.
@@ -70,21 +70,21 @@ pub fn diff_given<'a>(alloc: Global, args: &'a Args) -> Result<Asked<'a>, CallFa
 
 // So many positions from one on.
 #[tactic(auto, using(crate::proofs::Sources::run_on))]
-fn run(alloc: Global, from: u64, count: u64) -> Result<Items<u32>, AllocError>
+fn run(alloc: Global, from: u64, count: u64) -> Result<Sources, AllocError>
     requires { from + count < 2 ^ 32 }
-    ensures { IfOk result (λ ps. ps ≡ range_with_len from count) }
+    ensures { IfOk result (λ ps. ps ≡ map Some (range_with_len from count)) }
 {
     let mut out = Items::new(alloc);
     for i in 0..count {
-        out.push((from + i) as u32)?;
+        out.push(Some((from + i) as u32))?;
     }
     Ok(out)
 }
 
-/// The positions whose labels are kept.
-pub fn kept(alloc: Global, upper: bool, n: u64) -> Result<Items<u32>, AllocError>
+// The positions whose labels are kept.
+fn kept(alloc: Global, upper: bool, n: u64) -> Result<Sources, AllocError>
     requires { n < 2 ^ 31 }
-    ensures { IfOk result (λ ps. ps ≡ of.labels_kept upper n) }
+    ensures { IfOk result (λ ps. ps ≡ map Some (of.labels_kept upper n)) }
 {
     let count = n.saturating_sub(1);
     if upper {
@@ -98,8 +98,7 @@ fn step_to(alloc: Global, k: usize, upper: bool, n: u64) -> Result<Step, AllocEr
     requires { n < 2 ^ 31 }
     ensures { IfOk result (λ s. s ≡ step_to k upper n) }
 {
-    let ps = kept(alloc, upper, n)?;
-    let from = sources(alloc, ps.as_slice())?;
+    let from = kept(alloc, upper, n)?;
     Ok(Step::Take {
         axis: k,
         from,
@@ -125,36 +124,43 @@ pub struct Framed {
     pub coords: Items<Coord>,
 }
 
-/// What lies along an axis at positions of it.
-pub fn chosen_along(
+// The labels of an axis that are kept.
+fn change_to(alloc: Global, upper: bool, axis: &Axis) -> Result<Items<Change>, AllocError>
+    requires { axis.now.size < 2 ^ 31 }
+    ensures { IfOk result (λ cs. cs ≡ change_to upper axis.now) }
+{
+    let name = axis.name.deep_copy(alloc)?;
+    let labels = None;
+    let from = kept(alloc, upper, axis.size)?;
+    let mut changes = Items::new(alloc);
+    changes.push(Change { name, labels, from })?;
+    Ok(changes)
+}
+
+/// What lies along an axis, at the labels of it that are kept.
+pub fn left_along(
     alloc: Global,
+    upper: bool,
     axes: &Items<Axis>,
-    coords: &[Coord],
+    coords: &Items<Coord>,
     k: usize,
-    ps: &[u32],
-) -> Result<Framed, AllocError>
+) -> Result<Framed, NoMemory>
     requires axis { k < length axes.now }
     requires framed { IsFramed axes.now coords.now }
-    requires inside { All (λ p. p < (get_or axes.now k no_axis).size) ps.now }
-    ensures axes { IfOk result (λ f. f.axes ≡ chosen_axes axes.now k ps.now) }
-    ensures coords { IfOk result (λ f. f.coords ≡ map (chosen_coord (get_or axes.now k no_axis).name ps.now) coords.now) }
+    ensures axes { IfOk result (λ f. f.axes ≡ axes_left upper axes.now k) }
+    ensures coords { IfOk result (λ f. f.coords ≡ coords_left upper axes.now k coords.now) }
+    ensures framed { IfOk result (λ f. IsFramed (axes_left upper axes.now k) (coords_left upper axes.now k coords.now)) }
 {
-    let axis = &axes.as_slice()[k];
-    let from = sources(alloc, ps)?;
-    let left = chosen_axis(alloc, axis, ps)?;
-    let chosen = Chosen {
-        axis,
-        left: &left,
-        ps,
-        from: from.as_slice(),
-    };
-    let coords = chosen_coords(alloc, &chosen, coords)?;
-    let axes = axes_with(alloc, axes, k, &left)?;
-    Ok(Framed { axes, coords })
+    let axes = axes.as_slice();
+    let changes = change_to(alloc, upper, &axes[k])?;
+    let changes = changes.as_slice();
+    let left = new_axes(alloc, changes, axes)?;
+    let coords = changed_coords(alloc, changes, left.as_slice(), None, coords.as_slice())?;
+    Ok(Framed { axes: left, coords })
 }
 
 // The differences along an axis.
-fn differences(alloc: Global, on: &DataArray, k: usize, upper: bool) -> Result<Made, AllocError>
+fn differences(alloc: Global, on: &DataArray, k: usize, upper: bool) -> Result<Made, NoMemory>
     requires axis { k < length on.now.axes }
     requires framed { IsFramed on.now.axes on.now.coords }
     requires numbers { of_truths on.now.kind ≡ false }
@@ -162,8 +168,7 @@ fn differences(alloc: Global, on: &DataArray, k: usize, upper: bool) -> Result<M
 {
     let n = on.axes.as_slice()[k].size;
     let cells = neighbours(alloc, on.node, k, n)?;
-    let ps = kept(alloc, upper, n)?;
-    let framed = chosen_along(alloc, &on.axes, on.coords.as_slice(), k, ps.as_slice())?;
+    let framed = left_along(alloc, upper, &on.axes, &on.coords, k)?;
     let name = on.name.deep_copy(alloc)?;
     let attrs = without_fills(alloc, on.attrs.as_slice())?;
     Ok(Made {

@@ -2,10 +2,8 @@
 #![tactic(auto)]
 
 mod arrays;
-mod coords;
 mod diffs;
 mod fills;
-mod labels;
 mod moves;
 mod names;
 mod set_diffs;

@@ -11,17 +11,17 @@ ghost use Rattle.xr_values.specs.Answers.{AnswersSet};
 ghost use Rattle.xr_values.specs.Meaning.{given};
 ghost use Rattle.xr_values.specs.Stands.{dataset_in, variable_in, IsDatasetIn};
 ghost use Rattle.xr_reducing.specs.Reduced.{charless, framed_in, IsFrameIn};
-ghost use Rattle.xr_moving.specs.Diffs.{differed_of, differed_made, same_made, set_made, var_differed, IsFramed};
+ghost use Rattle.xr_moving.specs.Diffs.{axes_left, coords_left, differed_of, differed_made, same_made, set_made, var_differed, IsFramed};
 ghost use Rattle.xr_moving.specs.Sets.{AnswersSetMade};
 
-use crate::diffs::{Asked, chosen_along, diff_given, kept, neighbours};
+use crate::diffs::{Asked, diff_given, left_along, neighbours};
 use crate::names::position_of;
 use crate::sets::{SetMade, VarMade, realize_set};
 use plan_core::Plan;
 use std::alloc::{AllocError, Global};
 use xr_formulas::{Formula, cells_of, is_truths};
 use xr_reducing::{Frame, without_chars};
-use xr_types::{CallFault, DeepCopy, Fault, Items, Name, TextBytes};
+use xr_types::{CallFault, DeepCopy, Fault, Items, Name, NoMemory, TextBytes};
 use xr_values::{Args, Dataset, Variable, without_fills};
 
 // The first place of a name.
@@ -125,14 +125,14 @@ fn set_made(
     k: usize,
     on: &Dataset,
     frame: &Frame,
-) -> Result<SetMade, AllocError>
+) -> Result<SetMade, NoMemory>
     requires axis { k < length frame.now.axes }
     requires framed { IsFramed frame.now.axes on.now.coords }
-    ensures { IfOk result (λ m. m ≡ set_made upper k on.now frame.now) }
+    ensures is { IfOk result (λ m. m ≡ set_made upper k on.now frame.now) }
+    ensures framed { IfOk result (λ m. IsFramed (axes_left upper frame.now.axes k) (coords_left upper frame.now.axes k on.now.coords)) }
 {
     let axis = &frame.axes.as_slice()[k];
-    let ps = kept(alloc, upper, axis.size)?;
-    let framed = chosen_along(alloc, &frame.axes, on.coords.as_slice(), k, ps.as_slice())?;
+    let framed = left_along(alloc, upper, &frame.axes, &on.coords, k)?;
     let vars = vars_differed(alloc, &axis.name, axis.size, frame.vars.as_slice())?;
     let attrs = without_fills(alloc, on.attrs.as_slice())?;
     let skipped = on.skipped.deep_copy(alloc)?;

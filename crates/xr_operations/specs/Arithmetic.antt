@@ -1,7 +1,7 @@
 -- Operators (xarray user guide, "Computation", "Basic array math" and "Automatic alignment"; NumPy, "Data type promotion in
 -- NumPy"). Two arrays are joined by `inner` along each dimension that both have; an array and a whole number or truth value work
 -- cell by cell.
-use Rattle.std.specs.Prelude.{◌&&◌, ◌||◌, ℕ, ℤ, pos, Bool, true, false, not, List, [], ◌∷◌, ◌++◌, map, Option, Some, None, Result, Ok, Err, if◌then◌else◌}
+use Rattle.std.specs.Prelude.{◌&&◌, ◌||◌, ℕ, ℤ, Bool, true, false, not, List, [], ◌∷◌, map, Option, Some, None, Result, Ok, Err, if◌then◌else◌}
 use Rattle.std.specs.Str.{bytes_eq}
 use Rattle.xr_types.specs.Kinds.{in_range, promoted}
 use Rattle.xr_types.specs.Names.{shape_over}
@@ -15,7 +15,7 @@ use Rattle.xr_types.specs.declared.kind.DType.TheVariants as kinds
 use Rattle.xr_types.specs.declared.operation.How.TheVariants as how
 use Rattle.xr_types.specs.declared.operation.OpKind.{OpKind}
 use Rattle.xr_types.specs.declared.operation.OpKind.TheVariants as ops
-use Rattle.xr_arrays.specs.Arrays.{Array, at}
+use Rattle.xr_arrays.specs.Arrays.{at}
 use Rattle.xr_arrays.specs.Elements.{elem, is_comparison, result_kind, unary_of}
 use Rattle.xr_defs.specs.Arguments.{wrong}
 use Rattle.xr_defs.specs.Building.{is_chars, is_integer_kind, truth_number}

@@ -3,5 +3,7 @@ pub mod Arithmetic
 pub mod CellMethods
 pub mod Methods
 pub mod Reductions
+pub mod Changing
+pub mod Indexing
 pub mod Selection
 pub mod Moves

@@ -22,7 +22,8 @@ use Rattle.xr_times.specs.declared.time.Period.{Period}
 use Rattle.xr_defs.specs.Arguments.{wrong, unfit, as_text, check_dimension}
 use Rattle.xr_defs.specs.Building.{all_values, given_value, keyword}
 use Rattle.xr_defs.specs.Meanings.{Value, Values, Number, Text, Sequence, Slice, NoValue, With, Given}
-use Rattle.xr_defs.specs.Selecting.{Selector, as_number, as_selector, axis_called, check_selector, choice_of, isel_array, isel_set}
+use Rattle.xr_defs.specs.Selecting.{Selector, as_number, as_selector, axis_called, check_selector, choice_of}
+use Rattle.xr_operations.specs.Indexing.{isel_array, isel_set}
 use Rattle.xr_defs.specs.Values.{DataArray, Dataset, axis_position}
 use Rattle.xr_defs.specs.declared.slice.Part.{Part}
 use Rattle.xr_defs.specs.declared.slice.Part.TheVariants as part

@@ -12,7 +12,7 @@ use xr_types::{Axis, DeepCopy, Items, Name, TextBytes};
 use xr_values::copy_coord;
 
 /// The axes that aren't reduced.
-pub(crate) fn axes_left(
+pub fn axes_left(
     alloc: Global,
     names: &[TextBytes],
     axes: &[Axis],
@@ -29,7 +29,7 @@ pub(crate) fn axes_left(
 }
 
 /// The dimensions that aren't reduced.
-pub(crate) fn names_left(
+pub fn names_left(
     alloc: Global,
     names: &[TextBytes],
     dims: &[Name],
@@ -83,7 +83,7 @@ fn feed_of(names: &[TextBytes], dim: &TextBytes) -> Feed
 }
 
 /// What a fold does with each axis of an array.
-pub(crate) fn feeds_over(
+pub fn feeds_over(
     alloc: Global,
     names: &[TextBytes],
     axes: &[Axis],
@@ -98,7 +98,7 @@ pub(crate) fn feeds_over(
 }
 
 /// What a fold does with each dimension of a variable.
-pub(crate) fn feeds_of(
+pub fn feeds_of(
     alloc: Global,
     names: &[TextBytes],
     dims: &[Name],

@@ -14,6 +14,7 @@ mod sets;
 pub use arrays::reduced_array;
 pub use chars::{Frame, without_chars};
 pub use folds::reduction_named;
-pub use realized::{SetMade, VarMade, realize_set};
+pub use left::{axes_left, feeds_of, feeds_over, names_left};
+pub use realized::{SetMade, VarMade, by_name, realize_set, realize_vars};
 pub use running::{cumsum_array, cumsum_set, set_summed};
 pub use sets::{reduced_set, set_reduced};

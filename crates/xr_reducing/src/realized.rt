@@ -53,8 +53,8 @@ fn realize_var(alloc: Global, plan: &mut Plan, made: &VarMade) -> Result<Variabl
     })
 }
 
-// The variables of the plan, in their order.
-fn realize_vars(
+/// The variables of the plan that a call makes, in their order.
+pub fn realize_vars(
     alloc: Global,
     plan: &mut Plan,
     made: &[VarMade],
@@ -71,7 +71,8 @@ fn realize_vars(
     Ok(out)
 }
 
-fn by_name(alloc: Global, vars: &[Variable]) -> Result<Variables, AllocError>
+/// Variables by their names.
+pub fn by_name(alloc: Global, vars: &[Variable]) -> Result<Variables, AllocError>
     ensures { IfOk result (λ vs. vs ≡ with_variables [] vars.now) }
 {
     let mut out = Variables::new(alloc);

@@ -1,13 +1,14 @@
--- The arguments that name dimensions.
-use Rattle.std.specs.Prelude.{◌++◌, ℕ, Bool, not, List, Result, Ok}
-use Rattle.xr_types.specs.Results.{◌>>=◌}
+-- The arguments that name dimensions, and the fill of a variable.
+use Rattle.std.specs.Prelude.{ℕ, Bool, not, List, Result}
 use Rattle.xr_types.specs.declared.fault.Fault.{Fault}
 use Rattle.xr_defs.specs.Meanings.{Value}
-use Rattle.xr_relations.specs.Reindexing.{is_option}
+use Rattle.xr_operations.specs.declared.change.Change.{Change}
+use Rattle.xr_relations.specs.Reindexing.{check_fit, is_option}
+use Rattle.xr_values.specs.declared.variable.Variable.{Variable}
 
 abbrev pub names_dimension : List ℕ × Value → Bool
 names_dimension kv = not (is_option kv.0)
 
--- what is read one after the other
-abbrev pub behind : {A : Type 0} → List A → Result (List A) Fault → Result (List A) Fault
-behind out r = r >>= λ xs. Ok (out ++ xs)
+-- whether the fill is one for a variable of a plan
+unfoldable pub check_named : List Change → Value → Variable → Result (Unit {0}) Fault
+check_named cs w v = check_fit cs w v.dims v.kind

@@ -1,5 +1,1 @@
 pub mod Asked
-pub mod Steps
-pub mod Sizes
-pub mod Changed
-pub mod Made

@@ -8,14 +8,15 @@ ghost use Rattle.xr_defs.specs.WellFormed.{IsDimension};
 ghost use Rattle.xr_relations.specs.Reindexing as of;
 ghost use Rattle.xr_values.specs.Meaning.{all_values, given, meaning, with_key};
 ghost use Rattle.xr_selecting.specs.Searches.{search_in};
-ghost use Rattle.xr_reindexing.specs.Asked.{behind, names_dimension};
+ghost use Rattle.xr_indexing.specs.Choices.{behind};
+ghost use Rattle.xr_reindexing.specs.Asked.{names_dimension};
 
 use crate::asked::{check_lists, check_names, fill_given, is_option};
 use label_index::Index;
 use std::alloc::Global;
 use xr_arrays::Sources;
 use xr_indexing::position_of;
-use xr_relations::Change;
+use xr_operations::Change;
 use xr_selecting::{Search, are_kin, as_labels, check_search, found};
 use xr_types::{Axis, CallFault, DeepCopy, Fault, Items, Label, LabelList, NoMemory, TextBytes};
 use xr_values::{Args, Value};
@@ -112,7 +113,11 @@ fn change_on(
         return Err(CallFault::Refused(Fault::WouldPromote));
     }
     let name = name.deep_copy(alloc)?;
-    Ok(Change { name, labels, from })
+    Ok(Change {
+        name,
+        labels: Some(labels),
+        from,
+    })
 }
 
 // The values of a list.
@@ -153,7 +158,7 @@ fn change_along(
     }
 }
 
-#[tactic(auto, using(crate::proofs::Loops::behind_both, crate::proofs::Loops::behind_nothing), unfolding(xr_relations::specs::Reindexing::changes))]
+#[tactic(auto, using(xr_indexing::proofs::Loops::behind_both, xr_indexing::proofs::Loops::behind_nothing), unfolding(xr_relations::specs::Reindexing::changes))]
 fn push_changes(
     alloc: Global,
     out: &mut Items<Change>,
@@ -178,7 +183,7 @@ fn push_changes(
     }
 }
 
-#[tactic(auto, using(crate::proofs::Loops::behind_none))]
+#[tactic(auto, using(xr_indexing::proofs::Loops::behind_none))]
 fn changes(
     alloc: Global,
     by: Search,
@@ -216,10 +221,15 @@ fn are_held(labels: &[Label]) -> bool
 fn check_held(change: &Change) -> Result<(), CallFault>
     ensures { Answers (λ u. u) result (of.check_held change.now) }
 {
-    if are_held(change.labels.as_slice()) {
-        Ok(())
-    } else {
-        Err(CallFault::Refused(Fault::DoesNotFit))
+    match &change.labels {
+        None => Ok(()),
+        Some(labels) => {
+            if are_held(labels.as_slice()) {
+                Ok(())
+            } else {
+                Err(CallFault::Refused(Fault::DoesNotFit))
+            }
+        }
     }
 }
 

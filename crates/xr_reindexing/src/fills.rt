@@ -5,15 +5,15 @@ ghost use Rattle.xr_types.specs.Results.{Answers, all_of};
 ghost use Rattle.xr_defs.specs.Building.{element_cell};
 ghost use Rattle.xr_operations.specs.Moves as fills;
 ghost use Rattle.xr_relations.specs.Reindexing as of;
-ghost use Rattle.xr_reindexing.specs.Made.{check_named};
+ghost use Rattle.xr_reindexing.specs.Asked.{check_named};
 ghost use Rattle.xr_values.specs.Meaning.{meaning};
 ghost use Rattle.xr_values.specs.Stands.{variable_in};
 
-use crate::named::{has_hole, names_of};
 use std::alloc::Global;
+use xr_changing::{has_hole, names_of};
 use xr_defs::{Content, Coord};
 use xr_formulas::{fits, is_truths};
-use xr_relations::Change;
+use xr_operations::Change;
 use xr_types::{CallFault, DType, Fault, Name};
 use xr_values::{Value, Variable};
 
@@ -189,7 +189,7 @@ pub fn check_coords(
     }
 }
 
-#[tactic(auto, unfolding(crate::specs::Made::check_named))]
+#[tactic(auto, unfolding(crate::specs::Asked::check_named))]
 fn check_one(changes: &[Change], value: Option<&Value>, var: &Variable) -> Result<(), CallFault>
     ensures { (nodes : List Node) → Answers (λ u. u) result (check_named changes.now (of.fill_or_missing (option_map (λ v. meaning nodes v.now) value.entry)) var.now) }
 {

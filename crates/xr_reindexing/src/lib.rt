@@ -3,17 +3,10 @@
 
 mod arrays;
 mod asked;
-mod axes;
 mod changes;
-mod coords;
 mod fills;
-mod limits;
-mod named;
-mod placing;
 mod sets;
-mod steps;
 mod time_labels;
-mod variables;
 
 pub use arrays::reindex_array;
 pub use sets::reindex_set;

@@ -1,59 +1,24 @@
 //! `reindex(x=..)` of a dataset.
-ghost use Rattle.std.specs.Prelude.{◌≡◌, ◌∷◌, Ok, List, [], map, option_map, IfOk};
+ghost use Rattle.std.specs.Prelude.{◌∷◌, List, [], option_map, IfOk};
 ghost use Rattle.xr_arrays.specs.declared.node.Node.{Node};
 ghost use Rattle.xr_arrays.specs.Added.{AddsAtMost};
 ghost use Rattle.xr_defs.specs.Room.{of_set, room};
-ghost use Rattle.xr_defs.specs.Selecting as limits;
 ghost use Rattle.plan_core.specs.Plans.{Grows};
 ghost use Rattle.xr_relations.specs.Reindexing as of;
 ghost use Rattle.xr_values.specs.Answers.{AnswersSet};
 ghost use Rattle.xr_values.specs.Meaning.{given, meaning};
 ghost use Rattle.xr_values.specs.Stands.{dataset_in, IsDatasetIn};
-ghost use Rattle.xr_reindexing.specs.Changed.{IsSetChanged};
 
 use crate::asked::fill_given;
-use crate::axes::new_axes;
 use crate::changes::changes_given;
-use crate::coords::changed_coords;
 use crate::fills::{cell_of, check_coords, check_literal, check_variables};
-use crate::limits::check_set;
-use crate::variables::{by_name, realize_vars, vars_made};
 use plan_core::Plan;
 use std::alloc::Global;
-use xr_relations::Change;
+use xr_changing::{check_set, set_placed};
+use xr_operations::Change;
 use xr_selecting::search_given;
-use xr_types::{CallFault, DeepCopy, Fault, NoMemory};
+use xr_types::{CallFault, Fault};
 use xr_values::{Args, Dataset, Value};
-
-// The dataset at new labels, which isn't too large.
-fn placed(
-    alloc: Global,
-    plan: &mut Plan,
-    changes: &[Change],
-    fill: Option<i128>,
-    on: &Dataset,
-) -> Result<Dataset, NoMemory>
-    requires inside { IsDatasetIn plan.old on.now }
-    requires within { limits.check_set (of.changed_set changes.now fill (dataset_in plan.old on.now)) ≡ Ok tt }
-    ensures is { IfOk result (IsSetChanged plan.old plan.new (of.changed_set changes.now fill (dataset_in plan.old on.now)) (dataset_in plan.old on.now)) }
-    ensures grows { Grows plan.old plan.new }
-{
-    let own = on.axes.as_slice();
-    let axes = new_axes(alloc, changes, own)?;
-    let coords = changed_coords(alloc, changes, fill, on.coords.as_slice())?;
-    let attrs = on.attrs.deep_copy(alloc)?;
-    let skipped = on.skipped.deep_copy(alloc)?;
-    let made = vars_made(alloc, changes, fill, own, on.vars.as_slice())?;
-    let vars = realize_vars(alloc, plan, made.as_slice())?;
-    let vars = by_name(alloc, vars.as_slice())?;
-    Ok(Dataset {
-        axes,
-        coords,
-        vars,
-        attrs,
-        skipped,
-    })
-}
 
 // The dataset at new labels, once a fill fits its variables and coordinates and it isn't too large.
 #[tactic(auto, unfolding(xr_relations::specs::Reindexing::set_changed))]
@@ -72,7 +37,7 @@ fn set_changed(
     check_variables(changes, fill, on.vars.as_slice())?;
     check_coords(alloc, changes, fill, on.coords.as_slice())?;
     check_set(alloc, changes, on)?;
-    let set = placed(alloc, plan, changes, cell_of(fill), on)?;
+    let set = set_placed(alloc, plan, changes, cell_of(fill), on)?;
     Ok(set)
 }
 

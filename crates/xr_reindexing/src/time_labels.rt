@@ -5,36 +5,16 @@ ghost use Rattle.xr_times.specs.Times.{IsTime};
 ghost use Rattle.xr_times.specs.Units.{calendar_named};
 ghost use Rattle.xr_types.specs.Results.{Answers};
 ghost use Rattle.xr_defs.specs.Meanings as meant;
-ghost use Rattle.xr_defs.specs.Selecting as numbers;
 ghost use Rattle.xr_relations.specs.Times as of;
-ghost use Rattle.xr_values.specs.Meaning.{all_values, given, meaning, IsValueIn};
-ghost use Rattle.xr_reindexing.specs.Asked.{behind};
+ghost use Rattle.xr_values.specs.Meaning.{given, meaning, IsValueIn};
+ghost use Rattle.xr_indexing.specs.Choices.{behind};
 
 use cf_time::{calendar_named, decode, read_units};
 use std::alloc::Global;
 use xr_arguments::{argument, as_text, bound, option, required};
+use xr_indexing::as_numbers;
 use xr_types::{CallFault, DeepCopy, Fault, Items, NoMemory, Shared, TextBytes, TimeCoding, Units};
 use xr_values::{Args, Value};
-
-#[tactic(auto, using(xr_arguments::proofs::Variants::is_number, xr_values::proofs::Meaning::meaning_out), unfolding(xr_defs::specs::Selecting::as_number))]
-fn as_number(value: &Value) -> Result<i128, CallFault>
-    ensures { (nodes : List Node) → Answers (λ n. n) result (numbers.as_number (meaning nodes value.now)) }
-{
-    match value {
-        Value::Number(n) => Ok(*n),
-        _ => Err(CallFault::Refused(Fault::WrongKind)),
-    }
-}
-
-fn as_numbers(alloc: Global, list: &[Value]) -> Result<Items<i128>, CallFault>
-    ensures { (nodes : List Node) → Answers (λ ns. ns) result (numbers.as_numbers (all_values nodes list.now)) }
-{
-    let mut out = Items::new(alloc);
-    for value in list {
-        out.push(as_number(value)?)?;
-    }
-    Ok(out)
-}
 
 #[tactic(auto, using(xr_arguments::proofs::Variants::is_list, xr_values::proofs::Meaning::meaning_out), unfolding(xr_relations::specs::Times::counts_given))]
 fn counts_given(alloc: Global, value: &Value) -> Result<Items<i128>, CallFault>
@@ -98,7 +78,7 @@ fn time_at(units: &Units, count: i128) -> Result<i64, CallFault>
     }
 }
 
-#[tactic(auto, using(crate::proofs::Loops::behind_both, crate::proofs::Loops::behind_nothing), unfolding(xr_relations::specs::Times::times_at))]
+#[tactic(auto, using(xr_indexing::proofs::Loops::behind_both, xr_indexing::proofs::Loops::behind_nothing), unfolding(xr_relations::specs::Times::times_at))]
 fn push_times(times: &mut Items<i64>, units: &Units, counts: &[i128]) -> Result<(), CallFault>
     requires { All (IsTime units.now.calendar) times.old }
     ensures answers { Answers (λ u. times.new) result (behind times.old (of.times_at units.now counts.now)) }
@@ -114,7 +94,7 @@ fn push_times(times: &mut Items<i64>, units: &Units, counts: &[i128]) -> Result<
     }
 }
 
-#[tactic(auto, using(crate::proofs::Loops::behind_none))]
+#[tactic(auto, using(xr_indexing::proofs::Loops::behind_none))]
 fn times_at(alloc: Global, units: &Units, counts: &[i128]) -> Result<Items<i64>, CallFault>
     ensures answers { Answers (λ ts. ts) result (of.times_at units.now counts.now) }
     ensures times { IfOk result (All (IsTime units.now.calendar)) }

@@ -1,8 +1,8 @@
 -- New labels for dimensions (xarray user guide, "Indexing and selecting data", `reindex`; `Dataset.reindex`): each new label shows
 -- the cells that the old one has, or where there is none the fill. That a fill has to be given there, and has to fit, is this
 -- project's own, since whole numbers have no NaN.
-use Rattle.std.specs.Prelude.{◌==◌, ◌&&◌, ◌||◌, ℕ, ℤ, suc, Bool, true, false, not, codes, List, [], ◌∷◌, length, map, filter, Option, Some, None, is_some, is_none, option_map, Result, Ok, Err, if◌then◌else◌}
-use Rattle.std.specs.List.{list_all, list_any}
+use Rattle.std.specs.Prelude.{◌==◌, ◌||◌, ℕ, Bool, true, false, not, codes, List, [], ◌∷◌, length, map, filter, Option, Some, None, is_some, Result, Ok, Err, if◌then◌else◌}
+use Rattle.std.specs.List.{list_all}
 use Rattle.std.specs.Result.{result_ok}
 use Rattle.std.specs.Str.{bytes_eq}
 use Rattle.xr_types.specs.Kinds.{in_range}
@@ -12,28 +12,24 @@ use Rattle.xr_types.specs.declared.axis.Axis.{Axis}
 use Rattle.xr_types.specs.declared.axis.Label.{Label}
 use Rattle.xr_types.specs.declared.axis.Label.TheVariants as label
 use Rattle.xr_types.specs.declared.axis.LabelList.{LabelList}
-use Rattle.xr_types.specs.declared.axis.Labels.{Labels}
 use Rattle.xr_types.specs.declared.fault.Fault.{Fault}
 use Rattle.xr_types.specs.declared.fault.Fault.TheVariants.{BadArgument, DoesNotFit, LabelKind, NotUnique, WouldPromote, WrongKind}
 use Rattle.xr_types.specs.declared.kind.DType.{DType}
 use Rattle.xr_types.specs.declared.kind.DType.TheVariants.{Int64}
-use Rattle.xr_arrays.specs.Arrays.{Array}
 use Rattle.xr_arrays.specs.Labels.{is_kin, labels_of, repeats}
-use Rattle.xr_arrays.specs.Nodes.{taken_from}
 use Rattle.xr_defs.specs.Arguments.{check_dimension}
 use Rattle.xr_defs.specs.Building.{all_values, element_cell, given_value, keyword}
 use Rattle.xr_defs.specs.Meanings as of
 use Rattle.xr_defs.specs.Meanings.{Given, Value, Values}
-use Rattle.xr_defs.specs.Selecting.{axis_called, check_array, check_set, variable_array}
-use Rattle.xr_defs.specs.Values.{DataArray, Dataset, Variable, array_of}
-use Rattle.xr_defs.specs.declared.value.Content.{Content}
+use Rattle.xr_defs.specs.Selecting.{axis_called, check_array, check_set}
+use Rattle.xr_defs.specs.Values.{DataArray, Dataset, Variable}
 use Rattle.xr_defs.specs.declared.value.Content.TheVariants as contents
 use Rattle.xr_defs.specs.declared.value.Coord.{Coord}
-use Rattle.xr_operations.specs.Alignment.{relisted}
 use Rattle.xr_operations.specs.Moves.{check_fill, fill_called, fill_for, is_literal}
 use Rattle.xr_operations.specs.Selection.{Search, as_labels, check_search, found, is_label, search_given}
 use Rattle.xr_operations.specs.Selection as selection
-use Rattle.xr_relations.specs.declared.change.Change.{Change}
+use Rattle.xr_operations.specs.declared.change.Change.{Change}
+use Rattle.xr_operations.specs.Changing.{changed_array, changed_set, has_hole}
 
 -- ---- what is given: labels for each dimension that is named
 
@@ -72,7 +68,7 @@ abbrev pub source : Search → LabelList → Label → Option ℕ
 source by list l = result_ok (found by list l)
 
 abbrev pub change_to : List ℕ → List Label → List (Option ℕ) → Change
-change_to name ls from = record { name = name; labels = ls; from = from }
+change_to name ls from = record { name = name; labels = Some ls; from = from }
 
 -- without a fill each new label is there
 unfoldable pub change_on : Search → Bool → List ℕ → LabelList → Values → Result Change Fault
@@ -89,83 +85,6 @@ unfoldable pub changes : Search → Bool → List Axis → List (List ℕ × Val
 changes by filled axes [] = Ok []
 changes by filled axes (kv ∷ kvs) = change_along by filled axes kv >>= λ c. changes by filled axes kvs >>= λ cs. Ok (c ∷ cs)
 
--- ---- the new axes
-
-abbrev pub change_called : List Change → List ℕ → Option Change
-change_called [] name = None
-change_called (c ∷ cs) name = if bytes_eq c.name name then Some c else change_called cs name
-
--- labels of the sort of the old ones, whole numbers of kind int64. The index keeps its attributes, and times their units.
-abbrev pub new_labels : Change → Labels → Labels
-new_labels c l = record l { list = relisted Int64 l.list c.labels }
-
-abbrev pub changed_axis : Axis → Option Change → Axis
-changed_axis x None = x
-changed_axis x (Some c) = record x { size = length c.from; labels = option_map (new_labels c) x.labels }
-
-abbrev pub new_axis : List Change → Axis → Axis
-new_axis cs x = changed_axis x (change_called cs x.name)
-
--- ---- cells along the new axes
-
--- along axis number k
-abbrev pub cells_by : Option ℤ → Array → ℕ → Option Change → Array
-cells_by fill a k None = a
-cells_by fill a k (Some c) = taken_from a k c.from fill
-
--- along the axes of these names, which stand from number k on
-abbrev pub cells_along : List Change → Option ℤ → ℕ → List (List ℕ) → Array → Array
-cells_along cs fill k [] a = a
-cells_along cs fill k (d ∷ dims) a = cells_along cs fill (suc k) dims (cells_by fill a k (change_called cs d))
-
--- whether some position of a dimension shows no old one
-abbrev pub is_open : Option Change → Bool
-is_open None = false
-is_open (Some c) = list_any is_none c.from
-
-abbrev pub has_hole : List Change → List (List ℕ) → Bool
-has_hole cs dims = list_any (λ d. is_open (change_called cs d)) dims
-
--- what stands there: a number, or a missing cell
-abbrev pub fill_along : List Change → List (List ℕ) → Option ℤ → Option ℤ
-fill_along cs dims fill = if has_hole cs dims then fill else None
-
--- masked where a missing cell comes in
-abbrev pub masked_along : List Change → List (List ℕ) → Option ℤ → Bool → Bool
-masked_along cs dims fill masked = masked || has_hole cs dims && is_none fill
-
-abbrev pub changed_cells : List Change → List (List ℕ) → Option ℤ → Array → Array
-changed_cells cs dims fill a = cells_along cs (fill_along cs dims fill) 0 dims a
-
-abbrev pub changed_content : List Change → List (List ℕ) → Option ℤ → Content → Content
-changed_content cs dims fill (contents.Cells a masked) = contents.Cells (changed_cells cs dims fill a) (masked_along cs dims fill masked)
-changed_content cs dims fill (contents.Text t) = contents.Text t
-changed_content cs dims fill (contents.Time coding t) = contents.Time coding t
-
-abbrev pub changed_coord : List Change → Option ℤ → Coord → Coord
-changed_coord cs fill c = record c { axes = map (new_axis cs) c.axes; content = changed_content cs (axis_names c.axes) fill c.content }
-
-abbrev pub changed_array : List Change → Option ℤ → DataArray → DataArray
-changed_array cs fill a =
-    record a {
-      axes = map (new_axis cs) a.axes;
-      masked = masked_along cs (axis_names a.axes) fill a.masked;
-      coords = map (changed_coord cs fill) a.coords;
-      cells = (changed_cells cs (axis_names a.axes) fill (array_of a)).cells;
-    }
-
-abbrev pub changed_variable : List Change → Option ℤ → List Axis → Variable → Variable
-changed_variable cs fill axes v =
-    record v { masked = masked_along cs v.dims fill v.masked; cells = (changed_cells cs v.dims fill (variable_array axes v)).cells }
-
-abbrev pub changed_set : List Change → Option ℤ → Dataset → Dataset
-changed_set cs fill s =
-    record s {
-      axes = map (new_axis cs) s.axes;
-      coords = map (changed_coord cs fill) s.coords;
-      vars = map (changed_variable cs fill s.axes) s.vars;
-    }
-
 -- ---- what has to fit: new whole numbers their kind, and the fill the kind of what has a position without a source
 
 abbrev pub is_held : Label → Bool
@@ -174,7 +93,7 @@ is_held (label.Time t) = true
 is_held (label.Text t) = true
 
 unfoldable pub check_held : Change → Result (Unit {0}) Fault
-check_held c = unless (list_all is_held c.labels) DoesNotFit
+check_held c = elim c.labels [ None ↦ Ok tt | Some ls ↦ unless (list_all is_held ls) DoesNotFit ]
 
 unfoldable pub check_fit : List Change → Value → List (List ℕ) → DType → Result (Unit {0}) Fault
 check_fit cs w dims t = if has_hole cs dims then (fill_for t w >>= λ fill. check_fill t fill) else Ok tt

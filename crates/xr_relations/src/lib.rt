@@ -1,7 +1,3 @@
 //! The definitions of calls that relate labels: new labels for dimensions, times, and values aligned with one another. Each says
 //! in `specs/` what a call has to give.
 #![tactic(auto)]
-
-mod change;
-
-pub use change::Change;

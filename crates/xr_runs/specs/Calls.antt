@@ -14,7 +14,7 @@ use Rattle.xr_defs.specs.Values.{DataArray, Dataset}
 use Rattle.xr_defs.specs.Decoding.{set_in}
 use Rattle.xr_defs.specs.Encoding.{file_of}
 use Rattle.xr_defs.specs.Printing.{array_text, set_text}
-use Rattle.xr_defs.specs.Selecting.{isel_array, isel_set}
+use Rattle.xr_operations.specs.Indexing.{isel_array, isel_set}
 use Rattle.xr_defs.specs.Parts.{picked_of_set, picked_of_array, renamed, to_dataset, own_name, as_set, array_with_attrs, set_with_attrs, transposed, dropped_of_array, dropped_of_set}
 use Rattle.xr_defs.specs.Building.{bound, argument, option, required, data_array, assigned_to_array, assigned_to_set}
 use Rattle.xr_operations.specs.CellMethods.{where_called, where_method}

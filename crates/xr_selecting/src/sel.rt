@@ -1,7 +1,6 @@
 //! `sel(x=..)` of an array or a dataset: what stands at the labels of the dimensions that are named.
-ghost use Rattle.std.specs.Prelude.{◌≡◌, true, List, [], ◌∷◌, IfOk};
+ghost use Rattle.std.specs.Prelude.{List, [], ◌∷◌, IfOk};
 ghost use Rattle.xr_arrays.specs.declared.node.Node.{Node};
-ghost use Rattle.xr_types.specs.Names.{are_distinct};
 ghost use Rattle.xr_arrays.specs.Added.{AddsAtMost};
 ghost use Rattle.xr_defs.specs.Room.{of_array, of_set, room};
 ghost use Rattle.xr_operations.specs.Selection as of;
@@ -9,7 +8,6 @@ ghost use Rattle.plan_core.specs.Plans.{Grows};
 ghost use Rattle.xr_values.specs.Answers.{AnswersArray, AnswersSet};
 ghost use Rattle.xr_values.specs.Meaning.{given};
 ghost use Rattle.xr_values.specs.Stands.{array_in, dataset_in, IsArrayIn, IsDatasetIn};
-ghost use Rattle.xr_indexing.specs.Taken.{keywords};
 
 use crate::positions::positions_given;
 use plan_core::Plan;
@@ -35,7 +33,7 @@ pub fn sel_array(
     requires { IsArrayIn plan.old on.now }
     ensures answers { (nodes : List Node) → AnswersArray plan.new result (of.sel_array (array_in plan.old on.now) (given nodes args.now)) }
     ensures grows { Grows plan.old plan.new }
-    ensures room { are_distinct (keywords args.now) ≡ true → IfOk result (λ b. AddsAtMost plan.old plan.new (room (of_array (array_in plan.old on.now) ∷ of_array (array_in plan.new b) ∷ []))) }
+    ensures room { IfOk result (λ b. AddsAtMost plan.old plan.new (room (of_array (array_in plan.old on.now) ∷ of_array (array_in plan.new b) ∷ []))) }
 {
     let positions = positions_given(alloc, on.axes.as_slice(), args)?;
     isel_array(alloc, plan, on, &positions)
@@ -55,7 +53,7 @@ pub fn sel_set(
     requires { IsDatasetIn plan.old on.now }
     ensures answers { (nodes : List Node) → AnswersSet plan.new result (of.sel_set (dataset_in plan.old on.now) (given nodes args.now)) }
     ensures grows { Grows plan.old plan.new }
-    ensures room { are_distinct (keywords args.now) ≡ true → IfOk result (λ t. AddsAtMost plan.old plan.new (room (of_set (dataset_in plan.old on.now) ∷ of_set (dataset_in plan.new t) ∷ []))) }
+    ensures room { IfOk result (λ t. AddsAtMost plan.old plan.new (room (of_set (dataset_in plan.old on.now) ∷ of_set (dataset_in plan.new t) ∷ []))) }
 {
     let positions = positions_given(alloc, on.axes.as_slice(), args)?;
     isel_set(alloc, plan, on, &positions)

@@ -29,10 +29,10 @@ pub returns-in_ok-array_value-in-Array-clause-room : goal.returns-in_ok-array_va
 returns-in_ok-array_value-in-Array-clause-room c =
     let new = c.sel_array.new.plan in
     let r = c.in_ok-array_value-in-Array.field-0 in
-    λ distinct. room_on_array c.args.plan.now new c.args.on.now r _ (ap portions (c.in_ok-array_value-in-Array.ensures.means new)) c.in-Array.array c.deref.result.now c.in-Array.is c.deref.ensures (c.in_ok-answer-in-Array.ensures.room distinct)
+    room_on_array c.args.plan.now new c.args.on.now r _ (ap portions (c.in_ok-array_value-in-Array.ensures.means new)) c.in-Array.array c.deref.result.now c.in-Array.is c.deref.ensures c.in_ok-answer-in-Array.ensures.room
 
 pub returns-in_ok-set_value-in-Set-clause-room : goal.returns-in_ok-set_value-in-Set-clause-room
 returns-in_ok-set_value-in-Set-clause-room c =
     let new = c.sel_set.new.plan in
     let r = c.in_ok-set_value-in-Set.field-0 in
-    λ distinct. room_on_set c.args.plan.now new c.args.on.now r _ (ap portions (c.in_ok-set_value-in-Set.ensures.means new)) c.in-Set.set c.deref-in-Set.result.now c.in-Set.is c.deref-in-Set.ensures (c.in_ok-answer-in-Set.ensures.room distinct)
+    room_on_set c.args.plan.now new c.args.on.now r _ (ap portions (c.in_ok-set_value-in-Set.ensures.means new)) c.in-Set.set c.deref-in-Set.result.now c.in-Set.is c.deref-in-Set.ensures c.in_ok-answer-in-Set.ensures.room

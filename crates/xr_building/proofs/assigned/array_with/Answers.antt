@@ -1,5 +1,5 @@
-use Rattle.xr_building.proofs.Common.{DataArray, IsArrayIn, Ok, [], after, ap, array_assigned, array_in, frame_in, frame_of, over, subst, sym, ◌∙◌, ◌≡◌}
-use Rattle.xr_building.proofs.Held.{array_told, reframed}
+use Rattle.xr_building.proofs.Common.{after, ap, frame_of, ◌∙◌}
+use Rattle.xr_building.proofs.Held.{array_told}
 use Rattle.xr_building.proofs.assigned.array_with.Goals as goal
 
 pub returns-clause-told : goal.returns-clause-told
@@ -10,7 +10,5 @@ returns-clause-told g c =
     let first = c.in_ok-draft.draft in
     let d = c.in_ok-draft-2.draft in
     let puts = c.in_ok-puts.puts in
-    subst (λ (b : DataArray). (array_assigned declines nodes on c.args.args.now ≡ Ok (array_in nodes (reframed b d.axes d.coords))) × IsArrayIn nodes (reframed b d.axes d.coords)) (sym c.in_ok-array.ensures)
-    (array_told declines nodes on c.args.args.now puts d.axes d.coords
-    (c.in_ok-draft-2.ensures ∙ ap (after (frame_of first)) c.as_slice-2.ensures ∙ ap (λ h. after h puts) c.in_ok-draft.ensures)
-    (subst (λ xs. frame_in declines nodes [] (over xs on.coords) c.args.args.now ≡ Ok (after (over xs on.coords) puts)) c.as_slice.ensures (c.in_ok-puts.ensures.told on.coords)) c.requires.inside c.requires.given c.in_ok-puts.ensures.named)
+    let same = c.in_ok-draft-2.ensures ∙ ap (after (frame_of first)) c.as_slice-2.ensures ∙ ap (λ h. after h puts) c.in_ok-draft.ensures in
+    rw c.in_ok-array.ensures (array_told declines nodes on c.args.args.now puts d.axes d.coords same (rw c.as_slice.ensures at (c.in_ok-puts.ensures.told on.coords)) c.requires.inside c.requires.given c.in_ok-puts.ensures.named)

@@ -1,6 +1,6 @@
-use Rattle.xr_building.proofs.Common.{All, Numbers, ap, is_some, present, size, subst, sym, true, wide, ◌∙◌, ◌≡◌}
+use Rattle.xr_building.proofs.Common.{All, ap, is_some, present, refl, size, subst, sym, true, wide, ◌∙◌, ◌≡◌}
 use Rattle.xr_arrays.specs.Arrays.{Array}
-use Rattle.xr_building.proofs.Fits.{same_given, seen_numbers}
+use Rattle.xr_building.proofs.Fits.{seen_numbers}
 use Rattle.xr_building.proofs.labels.array_labels.Goals as goal
 
 pub returns : goal.returns
@@ -11,4 +11,5 @@ returns c = λ nodes is same.
     let all = is.formed.cells.seen c.requires in
     let held = subst (λ (a : Array). All (λ x. is_some x ≡ true) a.cells) (sym here) all in
     let found = seen_numbers _ numbers typed.cells (size typed.shape) c.parts.result.1 c.parts.ensures.cells c.parts.ensures.mask c.parts.ensures.whole held in
-    sym (same_given _ _ _ _ (ap (Numbers c.args.array.now.kind) (c.in_ok-integers_of.ensures ∙ sym found ∙ ap (λ (a : Array). present a.cells) here)) c.in_ok-deep_copy.ensures)
+    let list = c.in_ok-integers_of.ensures ∙ sym found ∙ ap (λ (a : Array). present a.cells) here in
+    rw (list, c.in_ok-deep_copy.ensures) refl

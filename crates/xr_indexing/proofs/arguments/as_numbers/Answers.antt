@@ -1,7 +1,7 @@
 use Rattle.std.proofs.Common.{arith, rules}
 use Rattle.xr_values.proofs.Meaning.{no_values}
 use Rattle.xr_defs.specs.Selecting.{as_numbers}
-use Rattle.xr_indexing.proofs.Listed.{number_on, number_err}
+use Rattle.xr_indexing.proofs.Numbers.{number_on, number_err}
 use Rattle.xr_indexing.proofs.arguments.as_numbers.Goals as goal
 
 pub loop-value-init : goal.loop-value-init

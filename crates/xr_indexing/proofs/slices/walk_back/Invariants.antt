@@ -1,5 +1,4 @@
 use Rattle.std.proofs.Common.{◌≡◌, ◌++◌, ◌-◌, ◌%◌, ◌<◌, ◌≤◌}
-use Rattle.std.specs.List.{All}
 use Rattle.xr_defs.specs.Slices.{falling}
 use Rattle.xr_indexing.proofs.Walks.{falling_from}
 use Rattle.xr_indexing.proofs.slices.walk_back.Given as goal
@@ -7,7 +6,6 @@ use Rattle.xr_indexing.proofs.slices.walk_back.Given as goal
 abbrev pub invariant-walk : goal.invariant-walk
 invariant-walk l = record {
   so_far : l.out.items ++ falling_from l.above l.low l.step l.at ≡ falling l.n l.above l.low l.step;
-  inside : All (λ p. p < l.n) l.out.items;
   from : l.at ≤ l.above;
   on : l.low < l.at → (l.above - l.at) % l.step ≡ 0;
 }

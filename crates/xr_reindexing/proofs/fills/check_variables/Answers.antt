@@ -1,6 +1,6 @@
 use Rattle.std.proofs.Common.{subst}
 use Rattle.xr_types.specs.Results.{Answers}
-use Rattle.xr_reindexing.proofs.NewAxes.{named_checked}
+use Rattle.xr_reindexing.proofs.Checked.{named_checked}
 use Rattle.xr_reindexing.proofs.fills.check_variables.Goals as goal
 
 pub returns : goal.returns

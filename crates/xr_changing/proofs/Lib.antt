@@ -1,0 +1,8 @@
+pub mod Common
+pub mod ChosenLabels
+pub mod Below
+pub mod NewAxes
+pub mod Stepping
+pub mod Formed
+pub mod PlacedArrays
+pub mod SetsPlaced

@@ -1,0 +1,4 @@
+pub mod Steps
+pub mod Sizes
+pub mod Changed
+pub mod Made

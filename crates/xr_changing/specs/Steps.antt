@@ -1,0 +1,76 @@
+-- The steps from old cells to those at new labels, and what a plan takes of them.
+use Rattle.std.specs.Prelude.{◌≡◌, ◌<◌, ◌≤◌, ◌++◌, ℕ, ℤ, suc, Bool, true, false, nat_lt, List, [], ◌∷◌, length, Option, Some, None, get_or, slice_set, All, MatchOption, ⊤}
+use Rattle.std.specs.List.{AllByRecursion}
+use Rattle.xr_types.specs.Names.{axis_names}
+use Rattle.xr_types.specs.Points.{size}
+use Rattle.xr_types.specs.declared.axis.Axis.{Axis}
+use Rattle.xr_types.specs.declared.kind.DType.{DType}
+use Rattle.xr_arrays.specs.Arrays.{IsCell}
+use Rattle.xr_arrays.specs.Nodes.{most_node_cells, IsBelow}
+use Rattle.xr_defs.specs.Selecting.{axis_called}
+use Rattle.xr_defs.specs.WellFormed.{IsIndex}
+use Rattle.xr_defs.specs.declared.value.Content.{Content}
+use Rattle.xr_defs.specs.declared.value.Content.TheVariants as contents
+use Rattle.xr_defs.specs.declared.value.Coord.{Coord}
+use Rattle.xr_formulas.specs.declared.chain.Step.{Step}
+use Rattle.xr_formulas.specs.declared.chain.Step.TheVariants.{Take, Unary, Widen, Reorder, Fold, Scan}
+use Rattle.xr_operations.specs.declared.change.Change.{Change}
+use Rattle.xr_operations.specs.Changing.{change_called, fill_along, new_axis}
+
+-- ---- axes
+
+abbrev pub HasIndex : Axis → Type 0
+HasIndex x = MatchOption x.labels ⊤ (IsIndex x.size)
+
+-- an axis with an index has one after the changes
+abbrev pub AreIndexed : List Change → List Axis → Type 0
+AreIndexed cs xs = AllByRecursion (λ (x : Axis). HasIndex x → HasIndex (new_axis cs x)) xs
+
+-- ---- steps
+
+abbrev pub step_by : Option ℤ → ℕ → Option Change → List Step
+step_by fill k None = []
+step_by fill k (Some c) = Take k c.from fill false ∷ []
+
+-- along the axes of these names, which stand from number k on
+abbrev pub steps_from : List Change → Option ℤ → ℕ → List (List ℕ) → List Step
+steps_from cs fill k [] = []
+steps_from cs fill k (d ∷ dims) = step_by fill k (change_called cs d) ++ steps_from cs fill (suc k) dims
+
+abbrev pub steps_along : List Change → Option ℤ → List (List ℕ) → List Step
+steps_along cs fill dims = steps_from cs (fill_along cs dims fill) 0 dims
+
+-- whether a position is one of an axis of this size, if there is one
+abbrev pub is_below : ℕ → Option ℕ → Bool
+is_below n None = true
+is_below n (Some i) = nat_lt i n
+
+-- a plan takes positions of an axis of these sizes
+pub record TakeFits (k : ℕ) (from : List (Option ℕ)) (fill : Option ℤ) (s : List ℕ) (t : DType) : Type 0 where
+  pub axis : k < length s
+  pub below : All (IsBelow (get_or s k 0)) from
+  pub cell : IsCell t fill
+  pub small : size (slice_set s k (length from)) ≤ most_node_cells
+
+abbrev pub TakesFit : List Step → List ℕ → DType → Type 0
+TakesFit [] s t = ⊤
+TakesFit (Take k from fill drops ∷ steps) s t = (drops ≡ false) × TakeFits k from fill s t × TakesFit steps (slice_set s k (length from)) t
+TakesFit (Unary op kind ∷ steps) s t = ⊥
+TakesFit (Widen k n ∷ steps) s t = ⊥
+TakesFit (Reorder order ∷ steps) s t = ⊥
+TakesFit (Fold fold feeds ∷ steps) s t = ⊥
+TakesFit (Scan fold k ∷ steps) s t = ⊥
+
+-- ---- coordinates
+
+abbrev pub ContentFits : List Change → Option ℤ → List (List ℕ) → Content → Type 0
+ContentFits cs fill dims (contents.Cells a masked) = TakesFit (steps_along cs fill dims) a.shape a.kind
+ContentFits cs fill dims (contents.Text t) = ⊤
+ContentFits cs fill dims (contents.Time coding t) = ⊤
+
+abbrev pub CoordFits : List Change → Option ℤ → Coord → Type 0
+CoordFits cs fill c = ContentFits cs fill (axis_names c.axes) c.content
+
+-- its new axes are among these, by their names
+abbrev pub IsRenewed : List Change → List Axis → Coord → Type 0
+IsRenewed cs news c = AllByRecursion (λ (x : Axis). axis_called news x.name ≡ new_axis cs x) c.axes

@@ -1,0 +1,130 @@
+//! Coordinates along dimensions that are given other positions.
+ghost use Rattle.std.specs.Prelude.{◌≡◌, map, IfOk};
+ghost use Rattle.std.specs.List.{AllByRecursion};
+ghost use Rattle.xr_operations.specs.Changing as of;
+ghost use Rattle.xr_types.specs.declared.axis.Axis.{Axis as OneAxis};
+ghost use Rattle.xr_defs.specs.Selecting.{axis_called};
+ghost use Rattle.xr_changing.specs.Steps.{steps_along, ContentFits, CoordFits, IsRenewed, TakesFit};
+
+use crate::named::names_of;
+use crate::steps::{MOST_NODE_CELLS, masked_along, steps_along, taken, takes_fit};
+use std::alloc::Global;
+use xr_arrays::ArrayValue;
+use xr_defs::{Content, Coord};
+use xr_operations::Change;
+use xr_types::{Axis, DeepCopy, Items, Name, NoMemory};
+
+// Steps that a plan wouldn't take, of which no coordinate has any, want memory.
+#[tactic(auto, using(crate::proofs::Stepping::value_along))]
+fn changed_cells(
+    alloc: Global,
+    changes: &[Change],
+    fill: Option<i128>,
+    dims: &[Name],
+    cells: &ArrayValue,
+) -> Result<ArrayValue, NoMemory>
+    ensures is { IfOk result (λ a. a ≡ of.changed_cells changes.now dims.now fill cells.now) }
+    ensures fits { IfOk result (λ a. TakesFit (steps_along changes.now fill dims.now) cells.now.shape cells.now.kind) }
+{
+    let steps = steps_along(alloc, changes, fill, dims)?;
+    if !takes_fit(alloc, steps.as_slice(), cells.shape(), cells.kind())? {
+        return Err(NoMemory);
+    }
+    if arrangement::points(cells.shape()) > MOST_NODE_CELLS {
+        return Err(NoMemory);
+    }
+    let copy = cells.copy(alloc)?;
+    taken(alloc, steps.as_slice(), copy)
+}
+
+fn changed_content(
+    alloc: Global,
+    changes: &[Change],
+    fill: Option<i128>,
+    dims: &[Name],
+    content: &Content,
+) -> Result<Content, NoMemory>
+    ensures is { IfOk result (λ c. c ≡ of.changed_content changes.now dims.now fill content.now) }
+    ensures fits { IfOk result (λ c. ContentFits changes.now fill dims.now content.now) }
+{
+    match content {
+        Content::Cells(cells, masked) => {
+            let masked = masked_along(changes, dims, fill, *masked);
+            let cells = changed_cells(alloc, changes, fill, dims, cells)?;
+            Ok(Content::Cells(cells, masked))
+        }
+        Content::Text(text) => Ok(Content::Text(text.deep_copy(alloc)?)),
+        Content::Time(coding, time) => Ok(Content::Time(coding.deep_copy(alloc)?, *time)),
+    }
+}
+
+// The one of these axes that has the name of another.
+#[tactic(auto, using(xr_parts::proofs::Axes::called_cons))]
+fn axis_called(alloc: Global, axes: &[Axis], axis: &Axis) -> Result<Axis, NoMemory>
+    ensures { IfOk result (λ x. x ≡ axis_called axes.now axis.now.name) }
+{
+    match axes {
+        [] => Err(NoMemory),
+        [first, rest @ ..] => {
+            if first.name.is(&axis.name) {
+                Ok(first.deep_copy(alloc)?)
+            } else {
+                axis_called(alloc, rest, axis)
+            }
+        }
+    }
+}
+
+fn axes_called(alloc: Global, axes: &[Axis], own: &[Axis]) -> Result<Items<Axis>, NoMemory>
+    ensures { IfOk result (λ xs. xs ≡ map (λ (x : OneAxis). axis_called axes.now x.name) own.now) }
+{
+    let mut out = Items::new(alloc);
+    for axis in own {
+        out.push(axis_called(alloc, axes, axis)?)?;
+    }
+    Ok(out)
+}
+
+fn changed_coord(
+    alloc: Global,
+    changes: &[Change],
+    news: &[Axis],
+    fill: Option<i128>,
+    coord: &Coord,
+) -> Result<Coord, NoMemory>
+    requires { IsRenewed changes.now news.now coord.now }
+    ensures is { IfOk result (λ c. c ≡ of.changed_coord changes.now fill coord.now) }
+    ensures fits { IfOk result (λ c. CoordFits changes.now fill coord.now) }
+{
+    let own = coord.axes.as_slice();
+    let names = names_of(alloc, own)?;
+    let axes = axes_called(alloc, news, own)?;
+    let content = changed_content(alloc, changes, fill, names.as_slice(), &coord.content)?;
+    let name = coord.name.deep_copy(alloc)?;
+    let attrs = coord.attrs.deep_copy(alloc)?;
+    Ok(Coord {
+        name,
+        axes,
+        attrs,
+        content,
+    })
+}
+
+/// Coordinates at other positions, with the fill where there is no old one, and with those of the new axes that they have.
+pub fn changed_coords(
+    alloc: Global,
+    changes: &[Change],
+    news: &[Axis],
+    fill: Option<i128>,
+    coords: &[Coord],
+) -> Result<Items<Coord>, NoMemory>
+    requires { AllByRecursion (IsRenewed changes.now news.now) coords.now }
+    ensures is { IfOk result (λ cs. cs ≡ map (of.changed_coord changes.now fill) coords.now) }
+    ensures fits { IfOk result (λ cs. AllByRecursion (CoordFits changes.now fill) coords.now) }
+{
+    let mut out = Items::new(alloc);
+    for coord in coords {
+        out.push(changed_coord(alloc, changes, news, fill, coord)?)?;
+    }
+    Ok(out)
+}

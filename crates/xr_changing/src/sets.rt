@@ -1,0 +1,47 @@
+//! Datasets of a plan whose dimensions are given other positions.
+ghost use Rattle.std.specs.Prelude.{◌≡◌, Ok, IfOk};
+ghost use Rattle.xr_defs.specs.Selecting as limits;
+ghost use Rattle.plan_core.specs.Plans.{Grows};
+ghost use Rattle.xr_operations.specs.Changing as of;
+ghost use Rattle.xr_values.specs.Stands.{dataset_in, IsDatasetIn};
+ghost use Rattle.xr_changing.specs.Changed.{IsSetChanged};
+
+use crate::axes::new_axes;
+use crate::coords::changed_coords;
+use crate::variables::vars_made;
+use plan_core::Plan;
+use std::alloc::Global;
+use xr_operations::Change;
+use xr_reducing::{by_name, realize_vars};
+use xr_types::{DeepCopy, NoMemory};
+use xr_values::Dataset;
+
+/// The dataset where dimensions are given other positions, which isn't too large.
+pub fn set_placed(
+    alloc: Global,
+    plan: &mut Plan,
+    changes: &[Change],
+    fill: Option<i128>,
+    on: &Dataset,
+) -> Result<Dataset, NoMemory>
+    requires inside { IsDatasetIn plan.old on.now }
+    requires within { limits.check_set (of.changed_set changes.now fill (dataset_in plan.old on.now)) ≡ Ok tt }
+    ensures is { IfOk result (IsSetChanged plan.old plan.new (of.changed_set changes.now fill (dataset_in plan.old on.now)) (dataset_in plan.old on.now)) }
+    ensures grows { Grows plan.old plan.new }
+{
+    let own = on.axes.as_slice();
+    let axes = new_axes(alloc, changes, own)?;
+    let coords = changed_coords(alloc, changes, axes.as_slice(), fill, on.coords.as_slice())?;
+    let attrs = on.attrs.deep_copy(alloc)?;
+    let skipped = on.skipped.deep_copy(alloc)?;
+    let made = vars_made(alloc, changes, fill, own, on.vars.as_slice())?;
+    let vars = realize_vars(alloc, plan, made.as_slice())?;
+    let vars = by_name(alloc, vars.as_slice())?;
+    Ok(Dataset {
+        axes,
+        coords,
+        vars,
+        attrs,
+        skipped,
+    })
+}

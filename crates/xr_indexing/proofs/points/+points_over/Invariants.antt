@@ -1,5 +1,0 @@
-use Rattle.std.proofs.Common.{length}
-use Rattle.xr_indexing.proofs.points.+points_over.Given as goal
-
-abbrev pub decreases-points_over : goal.decreases-points_over
-decreases-points_over l = length l.axes.now

@@ -1,5 +1,0 @@
-use Rattle.std.proofs.Common.{length}
-use Rattle.xr_moving.proofs.coords.+points.Given as goal
-
-abbrev pub decreases-points : goal.decreases-points
-decreases-points l = length l.shape.now

@@ -1,5 +1,0 @@
-use Rattle.std.proofs.Common.{length}
-use Rattle.xr_reindexing.proofs.limits.+are_axes_short.Given as goal
-
-abbrev pub decreases-are_axes_short : goal.decreases-are_axes_short
-decreases-are_axes_short l = length l.axes.now

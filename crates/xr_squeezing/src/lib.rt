@@ -1,0 +1,13 @@
+//! Dimensions of one position that go, and leave their labels as coordinates without dimensions.
+#![tactic(auto)]
+
+mod alone;
+mod arrays;
+mod coords;
+mod labels;
+mod sets;
+mod shapes;
+mod steps;
+
+pub use arrays::squeezed_array;
+pub use sets::{are_few, squeezed_set};
