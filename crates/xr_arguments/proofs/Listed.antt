@@ -40,13 +40,9 @@ module _ {Y : Type 0} (f : Values → Result (List Y) Fault) (g : of.Value → R
 
 -- ---- texts
 
-texts_more : (vs : Values) (v : of.Value) → texts_in (With vs v) ≡ (texts_in vs >>= λ ts. as_text v >>= λ t. Ok (ts ++ t ∷ []))
+pub texts_more : (vs : Values) (v : of.Value) → texts_in (With vs v) ≡ (texts_in vs >>= λ ts. as_text v >>= λ t. Ok (ts ++ t ∷ []))
 unfolding texts_in
 texts_more vs v = refl
-
-pub text_on : (nodes : List Node) (vs : List Value) (i : ℕ) (v : Value) (out new : List (List ℕ)) (t : List ℕ) → i < length vs → v ≡ get_or vs i v → texts_in (all_values nodes (take i vs)) ≡ Ok out → as_text (meaning nodes v) ≡ Ok t → new ≡ out ++ t ∷ []
-    → texts_in (all_values nodes (take (i + 1) vs)) ≡ Ok new
-text_on = read_on texts_in as_text texts_more
 
 pub text_err : (nodes : List Node) (vs : List Value) (i : ℕ) (v : Value) (out : List (List ℕ)) (e : Fault) → i < length vs → v ≡ get_or vs i v → texts_in (all_values nodes (take i vs)) ≡ Ok out → as_text (meaning nodes v) ≡ Err e → texts_in (all_values nodes vs) ≡ Err e
 text_err = read_err texts_in as_text texts_more

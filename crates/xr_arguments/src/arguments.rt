@@ -13,23 +13,16 @@ use xr_values::{Args, Value};
 pub fn only<'a>(args: &'a Args, name: &str) -> Result<&'a Value, CallFault>
     ensures { (nodes : List Node) → Answers (λ v. meaning nodes v.now) result (calls.only name.now (given nodes args.now)) }
 {
-    match args.plain.as_slice() {
-        [] => match args.keyed.as_slice() {
-            [] => Err(CallFault::Refused(Fault::BadArgument)),
-            [argument] => {
-                if argument.0.as_str() == name {
-                    Ok(&argument.1)
-                } else {
-                    Err(CallFault::Refused(Fault::BadArgument))
-                }
+    match (args.plain.as_slice(), args.keyed.as_slice()) {
+        ([argument], []) => Ok(argument),
+        ([], [argument]) => {
+            if argument.0.as_str() == name {
+                Ok(&argument.1)
+            } else {
+                Err(CallFault::Refused(Fault::BadArgument))
             }
-            [_, _, ..] => Err(CallFault::Refused(Fault::BadArgument)),
-        },
-        [argument] => match args.keyed.as_slice() {
-            [] => Ok(argument),
-            [_, ..] => Err(CallFault::Refused(Fault::BadArgument)),
-        },
-        [_, _, ..] => Err(CallFault::Refused(Fault::BadArgument)),
+        }
+        _ => Err(CallFault::Refused(Fault::BadArgument)),
     }
 }
 

@@ -1,6 +1,5 @@
 -- Axes with what is put on them: they keep their names and sizes, and have the labels that are put last.
-use Rattle.xr_building.proofs.Common.{Axis, Bool, Coord, Frame, Labels, List, None, NotAligned, Option, Put, SizeConflict, Some, [], after, among, ap, are_aligned, axis_called, axis_names, bytes_eq, called_kept, check_axis, checked_axis, cond_both, equal_labels, false, if◌then◌else◌, is_dimension, labels_at, labels_of, labels_or, last_labels, names_kept, over, put_on, refl, relabelled, shape_over, size_alike, sizes_kept, sym, true, unless, ℕ, ◌++◌, ◌>>=◌, ◌∙◌, ◌∷◌, ◌≡◌}
-use Rattle.std.specs.Prelude.{◌==◌}
+use Rattle.xr_building.proofs.Common.{Axis, Bool, Coord, Frame, Labels, List, None, NotAligned, Option, Put, SizeConflict, Some, [], after, among, ap, are_aligned, axis_called, axis_names, bytes_eq, called_kept, check_axis, checked_axis, cond_both, equal_labels, false, if◌then◌else◌, is_dimension, labels_at, labels_of, labels_or, last_labels, names_kept, over, put_on, refl, relabelled, shape_over, size_alike, sizes_kept, sym, true, unless, ℕ, ◌++◌, ◌>>=◌, ◌∙◌, ◌∷◌, ◌≡◌, ◌==◌, coord_place, put_over, set, with_coord, placed_behind, placed_there}
 use Rattle.std.specs.Option.{option_or}
 use Rattle.xr_building.specs.declared.puts.NewLabels.{NewLabels}
 use Rattle.xr_building.specs.declared.puts.Put.TheVariants as puts
@@ -64,9 +63,8 @@ against : (x y : Axis) → (unless (x.size == y.size) SizeConflict >>= λ u. unl
 against x y = ap (λ b. unless (x.size == y.size) SizeConflict >>= λ u. unless b NotAligned) (by x.labels y.labels)
   where
     by : (o p : Option Labels) → elim o as (λ o. Bool) [ None ↦ true | Some l ↦ elim p as (λ o. Bool) [ None ↦ false | Some m ↦ equal_labels l.list m.list ] ] ≡ are_aligned o p
-    by None p = refl
-    by (Some l) None = refl
     by (Some l) (Some m) = refl
+    by o p = refl
 
 module _ (axes : List Axis) (coords : List Coord) (ps : List Put) (x : Axis) where
   abbrev then_called : Axis
@@ -80,3 +78,17 @@ module _ (axes : List Axis) (coords : List Coord) (ps : List Put) (x : Axis) whe
   pub axis_gone : is_dimension axes x.name ≡ false → check_axis (after (over axes coords) ps).axes x ≡ checked_axis x 0 None
   unfolding check_axis
   axis_gone gone = against x then_called ∙ ap (λ (z : Axis). checked_axis x z.size z.labels) (not_called (after (over axes coords) ps).axes x.name (after_dimension (over axes coords) ps x.name ∙ gone))
+
+-- ---- coordinates that are put in the place of those of their name, or behind
+
+by_name : (coords : List Coord) (d : Coord) → with_coord coords d ≡ put_over (λ (c : Coord). bytes_eq c.name d.name) coords d
+by_name [] d = refl
+by_name (c ∷ rest) d = ap (λ t. if bytes_eq c.name d.name then d ∷ rest else (c ∷ t)) (by_name rest d)
+
+pub put_there : (coords : List Coord) (d : Coord) (k : ℕ) → coord_place coords d.name ≡ Some k → with_coord coords d ≡ set coords k d
+unfolding coord_place
+put_there coords d k e = by_name coords d ∙ placed_there _ coords d k e
+
+pub put_behind : (coords : List Coord) (d : Coord) → coord_place coords d.name ≡ None → with_coord coords d ≡ coords ++ d ∷ []
+unfolding coord_place
+put_behind coords d e = by_name coords d ∙ placed_behind _ coords d e

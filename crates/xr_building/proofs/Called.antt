@@ -1,6 +1,5 @@
 -- Axes of which each is changed, but for its name and its size.
-use Rattle.xr_building.proofs.Common.{Axis, Bool, List, None, Option, Some, [], among, ap, axis_called, axis_names, axis_or_none, axis_position, bytes_eq, bytes_eq_swap, called_cons, cond, false, find, get_or, if◌then◌else◌, is_dimension, is_some, length, name_called, no_axis, refl, shape_over, suc, sym, true, ℕ, ◌+◌, ◌||◌, ◌∙◌, ◌∷◌, ◌≡◌}
-use Rattle.std.specs.Prelude.{option_map}
+use Rattle.xr_building.proofs.Common.{Axis, Bool, List, None, Option, Some, [], among, ap, axis_called, axis_names, axis_or_none, axis_position, bytes_eq, bytes_eq_swap, called_cons, cond, false, find, get_or, if◌then◌else◌, is_dimension, is_some, length, name_called, no_axis, refl, shape_over, suc, sym, true, ℕ, ◌+◌, ◌||◌, ◌∙◌, ◌∷◌, ◌≡◌, option_map}
 
 -- the first axis of a name, where there is one
 abbrev named : List ℕ → List Axis → Option Axis

@@ -1,28 +1,22 @@
 -- Entries that are put in their places, as the definitions say.
-use Rattle.xr_building.proofs.Common.{Answers, Array, Axis, BadArgument, Bool, CallFault, Coord, DataArray, Declined, DoesNotFit, DuplicateName, Err, Fault, Follows, Frame, Global, Held as Value, IsAlone, IsPlain, List, NoMemory, Node, None, Numbers, Ok, Option, Put, Refused, Result, SizeConflict, Some, TextBytes, Value-F, WrongKind, [], all_of, among, and-true, and_parts, ap, array_checks, array_in, array_of, array_put, array_told, axis_called, axis_names, check_axis, check_coordinate, check_entry, check_labels, check_numbers, computed, coordinate_given, entries_in, entry_in, false, fits_whole, frame_labelled, if◌then◌else◌, is_along, is_array, is_dimension, is_free, is_integer_kind, label_total, length, list_all, list_all-append, map, meaning, node_of, not, not-true, out-Value, out-roll-Value, over_called, present, put_fits, put_on, refl, refused, roll-Value, roll-out-Value, subst, sym, true, unless, with_coord, with_coordinate, with_entry, with_key, with_labels, ℕ, ◌&&◌, ◌++◌, ◌>>=◌, ◌∙◌, ◌∷◌, ◌≡◌}
-use Rattle.std.specs.Prelude.{◌==◌}
+use Rattle.xr_building.proofs.Common.{Answers, Array, Axis, BadArgument, Bool, CallFault, Coord, DataArray, Declined, DoesNotFit, DuplicateName, Err, Fault, Follows, Frame, Global, Held as Value, IsAlone, IsPlain, List, NoMemory, Node, None, Numbers, Ok, Option, Put, Refused, Result, SizeConflict, Some, TextBytes, Value-F, WrongKind, [], all_of, among, and_parts, ap, array_checks, array_in, array_of, array_put, array_told, axis_called, axis_names, check_axis, check_coordinate, check_entry, check_labels, check_numbers, check_put, computed, coordinate_given, entries_in, entry_in, false, fits_whole, frame_labelled, if◌then◌else◌, is_along, is_array, is_dimension, is_free, is_integer_kind, label_total, length, map, meaning, node_of, not, not-true, out-Value, out-roll-Value, over_called, present, put_fits, put_on, refl, refused, roll-Value, roll-out-Value, subst, sym, true, unless, with_coord, with_coordinate, with_entry, with_key, with_labels, ℕ, ◌&&◌, ◌++◌, ◌>>=◌, ◌∙◌, ◌∷◌, ◌≡◌, MeantArray, LayerArray, ContentCells, HeldArray, ◌==◌, equal, first_passes, unless_holds}
 use Rattle.std.specs.declared.rc.Rc.{Rc}
-use Rattle.xr_defs.specs.declared.value.Content.TheVariants as contents
-use Rattle.xr_defs.specs.Values as of
-use Rattle.xr_values.specs.declared.value.Value.TheVariants as variants
-use Rattle.xr_values.specs.declared.value.Value.TheOpen as held
-use Rattle.xr_building.proofs.Fits.{numbers_checked}
-use Rattle.xr_building.proofs.Framed.{equal, first_passes, unless_holds}
+use Rattle.xr_building.proofs.Fitting.{numbers_checked}
 
 -- ---- what is computed
 
 abbrev node_computed : (ℕ → Bool) → Option ℕ → Result (Unit {0}) CallFault
 node_computed declines o = elim o as (λ o. Result (Unit {0}) CallFault) [ None ↦ Ok tt | Some n ↦ unless (not (declines n)) (Declined n) ]
 
-computed_array : (declines : ℕ → Bool) (v : Value) (a : Rc DataArray Global) → v ≡ variants.Array a → computed declines v ≡ unless (not (declines a.value.node)) (Declined a.value.node)
+computed_array : (declines : ℕ → Bool) (v : Value) (a : Rc DataArray Global) → v ≡ HeldArray a → computed declines v ≡ unless (not (declines a.value.node)) (Declined a.value.node)
 unfolding computed roll-Value denote.Hole.Carrier.roll
-computed_array declines v a is = ap (λ y. node_computed declines (node_of y)) (ap (λ w. out-Value w) is ∙ out-roll-Value (held.Array a))
+computed_array declines v a is = ap (λ y. node_computed declines (node_of y)) (ap (λ w. out-Value w) is ∙ out-roll-Value (LayerArray a))
 
-plain_layer : (x : Value-F Value) → ((a : Rc DataArray Global) → x ≡ held.Array a → ⊥) → node_of x ≡ None
-plain_layer (held.Array a) other = absurd (other a refl)
+plain_layer : (x : Value-F Value) → ((a : Rc DataArray Global) → x ≡ LayerArray a → ⊥) → node_of x ≡ None
+plain_layer (LayerArray a) other = absurd (other a refl)
 plain_layer x other = refl
 
-pub plain : (v : Value) → ((a : Rc DataArray Global) → v ≡ variants.Array a → ⊥) → IsPlain v
+pub plain : (v : Value) → ((a : Rc DataArray Global) → v ≡ HeldArray a → ⊥) → IsPlain v
 unfolding roll-Value denote.Hole.Carrier.roll
 plain v other = plain_layer (out-Value v) (λ a e. other a (sym (roll-out-Value v) ∙ ap (λ y. roll-Value y) e))
 
@@ -40,7 +34,7 @@ plain_told declines nodes variables f kv r other is = by r (with_entry variables
 
 -- ---- an array
 
-module _ (variables : List (List ℕ)) (f : Frame) (name : List ℕ) (a : of.DataArray) where
+module _ (variables : List (List ℕ)) (f : Frame) (name : List ℕ) (a : MeantArray) where
   array_entry : with_entry variables f (name, Array a) ≡ (is_free variables name (array_checks f name a) >>= λ u. Ok (array_put f name a))
   unfolding with_entry with_labels with_coordinate coordinate_given
   array_entry = by (is_dimension f.axes name) (unless (not (among variables name)) DuplicateName)
@@ -57,11 +51,11 @@ module _ (variables : List (List ℕ)) (f : Frame) (name : List ℕ) (a : of.Dat
           → ((if b then with_labels f name (Array a) else with_coordinate f name (Array a)) >>= λ g. t >>= λ u. Ok g)
           ≡ (((if b then unless (label_total (Numbers a.kind (present a.cells)) == (axis_called f.axes name).size) SizeConflict else all_of (check_axis f.axes) a.axes) >>= λ u. t) >>= λ u.
           Ok (if b then frame_labelled f name (record { list = Numbers a.kind (present a.cells); attrs = a.attrs })
-          else record f { coords = with_coord f.coords (over_called f.axes (record { name = name; axes = a.axes; attrs = a.attrs; content = contents.Cells (array_of a) a.masked })) }))
+          else record f { coords = with_coord f.coords (over_called f.axes (record { name = name; axes = a.axes; attrs = a.attrs; content = ContentCells (array_of a) a.masked })) }))
       by true t = on (unless (label_total (Numbers a.kind (present a.cells)) == (axis_called f.axes name).size) SizeConflict) _ t
       by false t = ap (λ r. r >>= λ g. t >>= λ u. Ok g) (onto (all_of (check_axis f.axes) a.axes) _ (λ c. record f { coords = with_coord f.coords c })) ∙ on (all_of (check_axis f.axes) a.axes) _ t
 
-pub array_is : (declines : ℕ → Bool) (nodes : List Node) (variables : List (List ℕ)) (f : Frame) (kv : TextBytes × Value) (a : Rc DataArray Global) (x : DataArray) → kv.1 ≡ variants.Array a → x ≡ a.value
+pub array_is : (declines : ℕ → Bool) (nodes : List Node) (variables : List (List ℕ)) (f : Frame) (kv : TextBytes × Value) (a : Rc DataArray Global) (x : DataArray) → kv.1 ≡ HeldArray a → x ≡ a.value
     → entry_in declines nodes variables f kv ≡ array_told declines nodes variables f kv.0 x
 unfolding entry_in
 array_is declines nodes variables f kv a x is same =
@@ -75,7 +69,7 @@ array_is declines nodes variables f kv a x is same =
     by (Err e) c g = refl
 
 -- labels that are checked lie along their dimension alone
-pub alone : (nodes : List Node) (axes : List Axis) (kv : TextBytes × Value) (a : Rc DataArray Global) (x : DataArray) → kv.1 ≡ variants.Array a → x ≡ a.value → check_entry axes (with_key nodes kv) ≡ Ok (tt {0}) → is_dimension axes kv.0 ≡ true → IsAlone x
+pub alone : (nodes : List Node) (axes : List Axis) (kv : TextBytes × Value) (a : Rc DataArray Global) (x : DataArray) → kv.1 ≡ HeldArray a → x ≡ a.value → check_entry axes (with_key nodes kv) ≡ Ok (tt {0}) → is_dimension axes kv.0 ≡ true → IsAlone x
 unfolding check_entry check_labels
 alone nodes axes kv a x is same checked there =
     let m : meaning nodes kv.1 ≡ Array (array_in nodes x) = is_array nodes kv.1 a is ∙ ap (λ (y : DataArray). Array (array_in nodes y)) (sym same) in
@@ -114,14 +108,22 @@ module _ (d : ℕ → Bool) (nodes : List Node) (variables : List (List ℕ)) (f
 
   -- the numbers of the entries before it fit or not, and then those of this one
   pub numbers_on : (p : Put) (ps new : List Put) (rest kvs : List (TextBytes × Value)) (whole : Result (Unit {0}) Fault) → kvs ≡ kv ∷ rest → new ≡ ps ++ p ∷ [] → put_fits p ≡ fits_whole (meaning nodes kv.1)
-      → whole ≡ (unless (list_all put_fits ps) DoesNotFit >>= λ u. all_of check_numbers (map (with_key nodes) kvs)) → whole ≡ (unless (list_all put_fits new) DoesNotFit >>= λ u. all_of check_numbers (map (with_key nodes) rest))
-  unfolding unless
+      → whole ≡ (all_of check_put ps >>= λ u. all_of check_numbers (map (with_key nodes) kvs)) → whole ≡ (all_of check_put new >>= λ u. all_of check_numbers (map (with_key nodes) rest))
   numbers_on p ps new rest kvs whole is pushed fits so_far =
-      so_far ∙ ap (λ ks. unless (list_all put_fits ps) DoesNotFit >>= λ u. all_of check_numbers (map (with_key nodes) ks)) is
-      ∙ ap (λ r. unless (list_all put_fits ps) DoesNotFit >>= λ u. r >>= λ v. all_of check_numbers (map (with_key nodes) rest)) (numbers_checked (with_key nodes kv) ∙ ap (λ b. unless b DoesNotFit) (sym fits))
-      ∙ by (list_all put_fits ps) (put_fits p) (all_of check_numbers (map (with_key nodes) rest))
-      ∙ ap (λ b. unless b DoesNotFit >>= λ u. all_of check_numbers (map (with_key nodes) rest)) (sym (ap (list_all put_fits) pushed ∙ list_all-append put_fits ps (p ∷ []) ∙ ap (λ b. list_all put_fits ps && b) (and-true (put_fits p))))
+      so_far ∙ ap (λ ks. all_of check_put ps >>= λ u. all_of check_numbers (map (with_key nodes) ks)) is
+      ∙ ap (λ r. all_of check_put ps >>= λ u. r >>= λ v. left) (numbers_checked (with_key nodes kv) ∙ ap (λ b. unless b DoesNotFit) (sym fits)) ∙ by ps ∙ ap (λ qs. all_of check_put qs >>= λ u. left) (sym pushed)
     where
-      by : (a b : Bool) (r : Result (Unit {0}) Fault) → (unless a DoesNotFit >>= λ u. unless b DoesNotFit >>= λ v. r) ≡ (unless (a && b) DoesNotFit >>= λ u. r)
-      by true b r = refl
-      by false b r = refl
+      left : Result (Unit {0}) Fault
+      left = all_of check_numbers (map (with_key nodes) rest)
+
+      one : (r : Result (Unit {0}) Fault) → (r >>= λ v. left) ≡ ((r >>= λ u. Ok (tt {0})) >>= λ v. left)
+      one (Ok u) = refl
+      one (Err e) = refl
+
+      on : (r s t k : Result (Unit {0}) Fault) → (s >>= λ u. k) ≡ (t >>= λ v. left) → ((r >>= λ u. s) >>= λ u. k) ≡ ((r >>= λ u. t) >>= λ v. left)
+      on (Ok u) s t k same = same
+      on (Err e) s t k same = refl
+
+      by : (qs : List Put) → (all_of check_put qs >>= λ u. check_put p >>= λ v. left) ≡ (all_of check_put (qs ++ p ∷ []) >>= λ v. left)
+      by [] = one (check_put p)
+      by (q ∷ qs) = on (check_put q) (all_of check_put qs) (all_of check_put (qs ++ p ∷ [])) (check_put p >>= λ v. left) (by qs)

@@ -1,14 +1,5 @@
 -- Axes and coordinates stay as they have to be while entries are put in.
-use Rattle.xr_building.proofs.Common.{All, All-cons, All-head, All-nil, All-tail, AllByRecursion, AreAttributes, AreCells, AreLabels, Array, Axis, Bool, Coord, DoesNotFit, DuplicateName, Err, Fault, Frame, Held, IfOk, IsCell, IsCoordinate, IsDataArray, IsEntryIn, IsFrame, IsIndex, IsLayerIn, IsOpenAxis, IsThere, IsValueIn, LabelList, Labels, List, NoDimension, Node, Number, Numbers, Ok, Result, Sequence, SizeConflict, Some, Text, TextBytes, Texts, Value, Value-F, WrongKind, [], absent_both, absent_left, absent_parts, all_of, among, and_parts, ap, append-nil, are_distinct, arith, as_labels, axis_called, axis_names, both_hold, bytes_eq, bytes_eq_swap, called_holds, check_axis, check_coordinate, check_entry, check_labels, check_numbers, check_place, computed, cond, cond_both, coord_kept, coord_relabelled, coordinate_given, distinct_cons, distinct_parts, each_map, entries_in, entry_in, false, frame_labelled, if◌then◌else◌, in_range, is_dimension, is_integer_kind, is_name, is_number, is_some, is_text, is_there, kept_absent, label_count, label_total, labelled, labels_given, layer, length, length-map, list_all, map, map-map, meaning, meaning_out, name_called, names_kept, nat_tests, neither, not, not-true, numbers_in, or_parts, out-Value, over, over_called, own_axes, refl, refused, relabelled, same_text, shape_over, subst, sym, texts_in, true, unless, value_out, with_coord, with_coordinate, with_entry, with_key, with_labels, ℕ, ℤ, ⊤, ◌++◌, ◌==◌, ◌>>=◌, ◌∙◌, ◌∷◌, ◌≡◌}
-use Rattle.xr_types.specs.declared.axis.LabelList.TheVariants.{Times}
-use Rattle.xr_types.specs.declared.kind.DType.TheVariants as kinds
-use Rattle.xr_arrays.specs.Labels.{labels_of}
-use Rattle.xr_defs.specs.declared.value.Content.TheVariants as contents
-use Rattle.xr_defs.specs.Values as of
-use Rattle.xr_defs.specs.Meanings as meanings
-use Rattle.xr_defs.specs.Building.{all_values}
-use Rattle.xr_defs.specs.WellFormed.{names_of}
-use Rattle.xr_values.specs.declared.value.Value.TheOpen as held
+use Rattle.xr_building.proofs.Common.{All, All-cons, All-head, All-nil, All-tail, AllByRecursion, AreAttributes, AreCells, AreLabels, Array, Axis, Bool, Coord, DoesNotFit, DuplicateName, Err, Fault, Frame, Held, IfOk, IsCell, IsCoordinate, IsDataArray, IsEntryIn, IsFrame, IsIndex, IsLayerIn, IsOpenAxis, IsThere, IsValueIn, LabelList, Labels, List, NoDimension, Node, Number, Numbers, Ok, Result, Sequence, SizeConflict, Some, Stays, Text, TextBytes, Texts, Value, Value-F, WrongKind, [], absent_both, absent_left, absent_parts, all_of, among, and_parts, ap, append-nil, are_distinct, arith, as_labels, axis_called, axis_names, both_hold, bytes_eq, bytes_eq_swap, called_holds, check_axis, check_coordinate, check_entry, check_labels, check_numbers, check_place, computed, cond, cond_both, coord_kept, coord_relabelled, coordinate_given, distinct_cons, distinct_parts, each_map, entries_in, entry_in, false, frame_labelled, if◌then◌else◌, in_range, is_dimension, is_integer_kind, is_name, is_number, is_some, is_text, is_there, kept_absent, label_count, label_total, labelled, labels_given, layer, length, length-map, list_all, map, map-map, meaning, meaning_out, name_called, names_kept, neither, not, not-true, numbers_in, or_parts, out-Value, over, over_called, own_axes, refl, refused, relabelled, same_text, shape_over, sizes_kept, subst, sym, texts_in, true, unless, value_out, with_coord, with_coordinate, with_entry, with_key, with_labels, ℕ, ℤ, ⊤, ◌++◌, ◌==◌, ◌>>=◌, ◌∙◌, ◌∷◌, ◌≡◌, array_of, Int64, MeantTimes, LayerArray, LayerTimes, ContentCells, coord_names as names_of, each_value as all_values, Times, label_numbers as labels_of, unless_holds, passes, first_passes, not_refused, equal}
 use Rattle.xr_building.proofs.After.{label_name, label_size}
 use Rattle.xr_building.proofs.Names.{absent_behind}
 use Rattle.xr_building.proofs.Called.{dimension_named}
@@ -87,13 +78,6 @@ module _ (d : Coord) where
 
 -- ---- the names of indexes, coordinates and variables
 
--- none stands twice
-abbrev pub Apart : List (List ℕ) → Frame → Type 0
-Apart variables f = are_distinct (axis_names (labelled f.axes) ++ (names_of f.coords ++ variables)) ≡ true
-
-abbrev pub Holds : List (List ℕ) → Frame → Frame → Type 0
-Holds variables f g = IsFrame g.axes g.coords × (Apart variables f → Apart variables g)
-
 abbrev has_labels : Axis → Bool
 has_labels x = is_some x.labels
 
@@ -121,37 +105,18 @@ labelled_apart name l ns absent (x ∷ xs) distinct all =
 
 abbrev pub IsWhole : Value → Type 0
 IsWhole (Array a) = IsDataArray a
-IsWhole (meanings.Times coding ts) = AreLabels (Times coding ts)
+IsWhole (MeantTimes coding ts) = AreLabels (Times coding ts)
 IsWhole v = ⊤
 
 whole_layer : (nodes : List Node) (x : Value-F Held) → IsLayerIn nodes x → IsWhole (layer nodes x)
-whole_layer nodes (held.Array a) is = is.formed
-whole_layer nodes (held.Times coding times) is = is
+whole_layer nodes (LayerArray a) is = is.formed
+whole_layer nodes (LayerTimes coding times) is = is
 whole_layer nodes x is = tt
 
 whole_in : (nodes : List Node) (v : Held) → IsValueIn nodes v → IsWhole (meaning nodes v)
 whole_in nodes v is = subst IsWhole (sym (meaning_out nodes v)) (whole_layer nodes (out-Value v) (value_out nodes v is))
 
 -- ---- what an entry gives
-
-pub unless_holds : (b : Bool) (f : Fault) → unless b f ≡ Ok (tt {0}) → b ≡ true
-unfolding unless
-unless_holds true f is = refl
-unless_holds false f is = absurd cc
-
-pub passes : {A B E : Type 0} (r : Result A E) (next : A → Result B E) (b : B) → (r >>= next) ≡ Ok b → (a : A) × (r ≡ Ok a) × (next a ≡ Ok b)
-passes (Ok a) next b is = (a, refl, is)
-passes (Err e) next b is = absurd cc
-
-pub first_passes : {A : Type 0} (r : Result (Unit {0}) Fault) (s : Result A Fault) (a : A) → (r >>= λ u. s) ≡ Ok a → (r ≡ Ok tt) × (s ≡ Ok a)
-first_passes r s a is = let p = passes r (λ u. s) a is in (p.1, p.2)
-
-pub not_refused : {A : Type 0} (r : Result A Fault) (a : A) → refused r ≡ Ok a → r ≡ Ok a
-not_refused (Ok b) a is = cc
-not_refused (Err e) a is = absurd cc
-
-pub equal : (m n : ℕ) → (m == n) ≡ true → m ≡ n
-equal m n is = grind (arith, nat_tests)
 
 no_attrs : AreAttributes []
 no_attrs = record { each = tt; distinct = refl }
@@ -170,12 +135,11 @@ given_index name (Array a) whole is fit =
     ((unless_holds (is_integer_kind a.kind) WrongKind (first_passes (unless (is_integer_kind a.kind) WrongKind) _ tt is).0, present_in a.kind a.cells whole.cells.range), whole.attrs)
 given_index name (Sequence vs) whole is fit = by (all_values is_number vs) (all_values is_text vs) (texts_in vs)
   where
-    by : (p t : Bool) (r : Result (List (List ℕ)) Fault) → IfOk ((if p then Ok (Numbers kinds.Int64 (numbers_in vs)) else if t then (r >>= λ ts. Ok (Texts ts)) else Err WrongKind) >>= λ l. Ok (record { list = l; attrs = [] })) Ready
-    by true t r = ((refl, fit_in_range kinds.Int64 (numbers_in vs) (unless_holds _ DoesNotFit fit)), no_attrs)
+    by : (p t : Bool) (r : Result (List (List ℕ)) Fault) → IfOk ((if p then Ok (Numbers Int64 (numbers_in vs)) else if t then (r >>= λ ts. Ok (Texts ts)) else Err WrongKind) >>= λ l. Ok (record { list = l; attrs = [] })) Ready
+    by true t r = ((refl, fit_in_range Int64 (numbers_in vs) (unless_holds _ DoesNotFit fit)), no_attrs)
     by false true (Ok ts) = (tt, no_attrs)
-    by false true (Err x) = tt
-    by false false r = tt
-given_index name (meanings.Times coding times) whole is fit = (whole, no_attrs)
+    by n t r = tt
+given_index name (MeantTimes coding times) whole is fit = (whole, no_attrs)
 given_index name v whole is fit = tt
 
 -- ---- a coordinate
@@ -199,11 +163,11 @@ called_names : (axes xs : List Axis) → AllByRecursion (λ (x : Axis). among (a
 called_names axes [] all = refl
 called_names axes (x ∷ xs) all = ap (λ n. n ∷ axis_names (map (λ (x : Axis). axis_called axes x.name) xs)) (name_called axes x.name all.0) ∙ ap (λ ns. x.name ∷ ns) (called_names axes xs all.1)
 
-number_cells : (n : ℤ) → in_range kinds.Int64 n ≡ true → AreCells [] kinds.Int64 false (Some n ∷ [])
+number_cells : (n : ℤ) → in_range Int64 n ≡ true → AreCells [] Int64 false (Some n ∷ [])
 number_cells n fit =
     record {
       whole = refl;
-      range = All-cons (IsCell kinds.Int64) (Some n) [] (fits_in_range kinds.Int64 n fit) (All-nil (IsCell kinds.Int64));
+      range = All-cons (IsCell Int64) (Some n) [] (fits_in_range Int64 n fit) (All-nil (IsCell Int64));
       seen = λ bare. All-cons (λ c. is_some c ≡ true) (Some n) [] refl (All-nil (λ c. is_some c ≡ true));
       low_rank = omega arith;
       few = omega arith;
@@ -215,12 +179,12 @@ Named axes name c = IsCoordinate axes c × (c.name ≡ name)
 given_coordinate : (axes : List Axis) (name : List ℕ) (v : Value) → are_distinct (axis_names axes) ≡ true → IsWhole v → is_name name ≡ true → check_place axes (name, v) ≡ Ok tt → check_numbers (name, v) ≡ Ok tt → IfOk (coordinate_given axes name v) (Named axes name)
 unfolding check_place check_numbers coordinate_given
 given_coordinate axes name (Number n) distinct whole named place fit =
-    (record { name = named; over = tt; distinct = refl; attrs = no_attrs; content = (refl, number_cells n (unless_holds (in_range kinds.Int64 n) DoesNotFit fit)) }, refl)
+    (record { name = named; over = tt; distinct = refl; attrs = no_attrs; content = (refl, number_cells n (unless_holds (in_range Int64 n) DoesNotFit fit)) }, refl)
 given_coordinate axes name (Text t) distinct whole named place fit = (record { name = named; over = tt; distinct = refl; attrs = no_attrs; content = refl }, refl)
 given_coordinate axes name (Array a) distinct whole named place fit = by (all_of (check_axis axes) a.axes) refl
   where
     by : (r : Result (Unit {0}) Fault) → all_of (check_axis axes) a.axes ≡ r
-        → IfOk (r >>= λ u. Ok (over_called axes (record { name = name; axes = a.axes; attrs = a.attrs; content = contents.Cells (of.array_of a) a.masked }))) (Named axes name)
+        → IfOk (r >>= λ u. Ok (over_called axes (record { name = name; axes = a.axes; attrs = a.attrs; content = ContentCells (array_of a) a.masked }))) (Named axes name)
     by (Err e) fits = tt
     by (Ok u) fits =
         let shape = sym (called_shape axes a.axes fits) in
@@ -237,11 +201,6 @@ given_coordinate axes name (Array a) distinct whole named place fit = by (all_of
 given_coordinate axes name v distinct whole named place fit = tt
 
 -- ---- an entry
-
-pub record Stays (variables : List (List ℕ)) (f g : Frame) : Type 0 where
-  pub frame : IsFrame g.axes g.coords
-  pub names : axis_names g.axes ≡ axis_names f.axes
-  pub apart : Apart variables f → Apart variables g
 
 entry_frame : (variables : List (List ℕ)) (f g : Frame) (kv : List ℕ × Value) → IsWhole kv.1 → is_name kv.0 ≡ true → check_entry f.axes kv ≡ Ok tt → check_place f.axes kv ≡ Ok tt → check_numbers kv ≡ Ok tt → with_entry variables f kv ≡ Ok g → IsFrame f.axes f.coords → Stays variables f g
 unfolding check_entry with_entry with_labels with_coordinate
@@ -263,6 +222,7 @@ entry_frame variables f g kv whole named is place fit told frame =
         (record {
           frame = index_frame kv.0 l f.axes f.coords (record { whole = sym (count_is l.list) ∙ long; range = ready.0; attrs = ready.1 }) frame;
           names = axes_on kv.0 l f.axes;
+          sizes = sizes_kept (relabelled kv.0 l) (label_name kv.0 l) (label_size kv.0 l) f.axes;
           apart = λ all. ap (λ ns. are_distinct (axis_names (labelled (map (relabelled kv.0 l) f.axes)) ++ (ns ++ variables))) (names_on kv.0 l f.coords) ∙ labelled_apart kv.0 l (names_of f.coords ++ variables) absent f.axes frame.axes_distinct all;
         })
     by false other checked told untaken =
@@ -272,7 +232,7 @@ entry_frame variables f g kv whole named is place fit told frame =
         let same : over f.axes (with_coord f.coords c) ≡ g = let q = given.2 in cc in
         let unlike = ap (is_dimension f.axes) one.1 ∙ other in
         let before = absent_left (λ (x : Axis). x.name) has_labels f.axes c.name (sym (dimension_named f.axes c.name) ∙ unlike) in
-        subst (Stays variables f) same (record { frame = coord_frame c f.axes f.coords unlike one.0 frame; names = refl; apart = named_apart c (axis_names (labelled f.axes)) variables f.coords before (ap (among variables) one.1 ∙ untaken) })
+        subst (Stays variables f) same (record { frame = coord_frame c f.axes f.coords unlike one.0 frame; names = refl; sizes = refl; apart = named_apart c (axis_names (labelled f.axes)) variables f.coords before (ap (among variables) one.1 ∙ untaken) })
 
 -- ---- the entries behind it
 
@@ -295,11 +255,11 @@ module _ (axes xs : List Axis) (named : axis_names axes ≡ axis_names xs) where
 
 module _ (declines : ℕ → Bool) (nodes : List Node) (variables : List (List ℕ)) where
   pub entries_frame : (f g : Frame) (kvs : List (TextBytes × Held)) → All (IsEntryIn nodes) kvs → list_all (λ (kv : TextBytes × Held). is_name kv.0) kvs ≡ true → all_of (check_entry f.axes) (map (with_key nodes) kvs) ≡ Ok tt → all_of (check_place f.axes) (map (with_key nodes) kvs) ≡ Ok tt
-      → all_of check_numbers (map (with_key nodes) kvs) ≡ Ok tt → entries_in declines nodes variables f kvs ≡ Ok g → IsFrame f.axes f.coords → Holds variables f g
+      → all_of check_numbers (map (with_key nodes) kvs) ≡ Ok tt → entries_in declines nodes variables f kvs ≡ Ok g → IsFrame f.axes f.coords → Stays variables f g
   unfolding entries_in entry_in
   entries_frame f g [] inside named checked placed fits told frame =
       let same : f ≡ g = cc in
-      subst (Holds variables f) same (frame, λ all. all)
+      subst (Stays variables f) same (record { frame = frame; names = refl; sizes = refl; apart = λ all. all })
   entries_frame f g (kv ∷ kvs) inside named checked placed fits told frame =
       let p = first_passes (check_entry f.axes (with_key nodes kv)) _ tt checked in
       let q = first_passes (check_place f.axes (with_key nodes kv)) _ tt placed in
@@ -311,4 +271,4 @@ module _ (declines : ℕ → Bool) (nodes : List Node) (variables : List (List �
       let done = passes (computed declines kv.1) _ h put.2 in
       let here = entry_frame variables f h (with_key nodes kv) (whole_in nodes kv.1 (All-head (IsEntryIn nodes) kv kvs inside)) t.0 p.0 q.0 n.0 (not_refused (with_entry variables f (with_key nodes kv)) h (put.1 ∙ done.2)) frame in
       let rest = entries_frame h g kvs (All-tail (IsEntryIn nodes) kv kvs inside) t.1 (entries_still h.axes f.axes here.names (map (with_key nodes) kvs) ∙ p.1) (places_still h.axes f.axes here.names (map (with_key nodes) kvs) ∙ q.1) n.1 on.2 here.frame in
-      (rest.0, λ all. rest.1 (here.apart all))
+      record { frame = rest.frame; names = rest.names ∙ here.names; sizes = rest.sizes ∙ here.sizes; apart = λ all. rest.apart (here.apart all) }

@@ -1,17 +1,12 @@
 -- Items and elements of lists of values.
-use Rattle.xr_building.proofs.Common.{Absent, Bool, Elements, Err, Fault, Held as Value, LabelList, Labels, List, NoValue, Node, Numbers, Ok, Option, Result, Sequence, Texts, Values, With, WrongKind, [], all_more, all_values as listed, and-true, and_assoc, and_parts, ap, append-nil, append_assoc, arith, as_labels, drop, drop_all, element_cell, elements, elements_of, false, first_item, fits_whole, get_or, is_missing, is_nested, is_number, is_regular, is_text, is_truth_cell, is_whole_cell, item_count, items, labels_given, length, length-map, list_all, list_all-append, list_any, list_any-append, map, map-append, meaning, nat_tests, nested_shape, nil_from_length, numbers_in, or-false, or_assoc, refl, suc, sym, take, take_all, texts_in, texts_put, true, with_elements, with_number, zero, ℕ, ℤ, ◌&&◌, ◌++◌, ◌+◌, ◌-◌, ◌<◌, ◌==◌, ◌>>=◌, ◌||◌, ◌∙◌, ◌∷◌, ◌≡◌, ◌≤◌}
-use Rattle.std.proofs.Common.{if◌then◌else◌}
+use Rattle.xr_building.proofs.Common.{Absent, Bool, Elements, Err, Fault, Held as Value, LabelList, Labels, List, NoValue, Node, Numbers, Ok, Option, Result, Sequence, Texts, Values, With, WrongKind, [], all_more, all_values as listed, and-true, and_assoc, and_parts, ap, append-nil, append_assoc, arith, as_labels, drop, drop_all, element_cell, elements, elements_of, false, first_item, fits_whole, get_or, is_missing, is_nested, is_number, is_regular, is_text, is_truth_cell, is_whole_cell, item_count, items, labels_given, length, length-map, list_all, list_all-append, list_any, list_any-append, map, map-append, meaning, nat_tests, nested_shape, nil_from_length, numbers_in, or-false, or_assoc, refl, suc, sym, take, take_all, texts_in, texts_put, true, with_elements, with_number, zero, ℕ, ℤ, ◌&&◌, ◌++◌, ◌+◌, ◌-◌, ◌<◌, ◌==◌, ◌>>=◌, ◌||◌, ◌∙◌, ◌∷◌, ◌≡◌, ◌≤◌, Int64, Text, Value as Meant, each_value as all_values, if◌then◌else◌, values_behind as values}
 use Rattle.std.proofs.Math.Seq.{drop-cons}
 use Rattle.xr_defs.specs.Arguments.{as_text}
-use Rattle.xr_defs.specs.Meanings as of
-use Rattle.xr_types.specs.declared.kind.DType.TheVariants as kinds
-use Rattle.xr_defs.specs.Building.{all_values}
-use Rattle.xr_values.specs.Meaning.{values}
 use Rattle.xr_arguments.proofs.Listed.{take_one}
 
 -- ---- items
 
-items_from : (ws : Values) (vs : List of.Value) → items (values ws vs) ≡ items ws ++ vs
+items_from : (ws : Values) (vs : List Meant) → items (values ws vs) ≡ items ws ++ vs
 items_from ws [] = sym (append-nil (items ws))
 items_from ws (v ∷ vs) = items_from (With ws v) vs ∙ append_assoc (items ws) (v ∷ []) vs
 
@@ -38,7 +33,7 @@ built cells whole truths missing = record { cells = cells; whole = whole; truths
 same : {a b : List (Option ℤ)} {c d f g h i : Bool} → a ≡ b → c ≡ d → f ≡ g → h ≡ i → built a c f h ≡ built b d g i
 same p q r s = cc
 
-joined : (e : Elements) (vs ws : List of.Value) → with_elements (with_elements e vs) ws ≡ with_elements e (vs ++ ws)
+joined : (e : Elements) (vs ws : List Meant) → with_elements (with_elements e vs) ws ≡ with_elements e (vs ++ ws)
 joined e vs ws =
     same (append_assoc e.cells (map element_cell vs) (map element_cell ws) ∙ ap (λ cs. e.cells ++ cs) (sym (map-append element_cell vs ws)))
     (and_assoc e.whole (list_all is_whole_cell vs) (list_all is_whole_cell ws) ∙ ap (λ b. e.whole && b) (sym (list_all-append is_whole_cell vs ws)))
@@ -57,12 +52,12 @@ gathered_on nodes start now next vs i v lt is so_far here =
 
 -- ---- a list of numbers, or of texts
 
-module _ (all : Values → Bool) (test : of.Value → Bool) (more : (ws : Values) (v : of.Value) → all (With ws v) ≡ (all ws && test v)) where
-  all_from : (ws : Values) (vs : List of.Value) → all (values ws vs) ≡ (all ws && list_all test vs)
+module _ (all : Values → Bool) (test : Meant → Bool) (more : (ws : Values) (v : Meant) → all (With ws v) ≡ (all ws && test v)) where
+  all_from : (ws : Values) (vs : List Meant) → all (values ws vs) ≡ (all ws && list_all test vs)
   all_from ws [] = sym (and-true (all ws))
   all_from ws (v ∷ vs) = all_from (With ws v) vs ∙ ap (λ b. b && list_all test vs) (more ws v) ∙ and_assoc (all ws) (test v) (list_all test vs)
 
-pub all_are : (test : of.Value → Bool) (nodes : List Node) (vs : List Value) → all_values test (listed nodes vs) ≡ list_all test (map (meaning nodes) vs)
+pub all_are : (test : Meant → Bool) (nodes : List Node) (vs : List Value) → all_values test (listed nodes vs) ≡ list_all test (map (meaning nodes) vs)
 unfolding listed
 all_are test nodes vs = all_from (all_values test) test (λ ws v. refl) NoValue (map (meaning nodes) vs)
 
@@ -73,7 +68,7 @@ plain list = record { list = list; attrs = [] }
 
 module _ (nodes : List Node) (vs : List Value) where
   abbrev chosen : Bool → Bool → Result (List (List ℕ)) Fault → Result Labels Fault
-  chosen n t r = if n then Ok (plain (Numbers kinds.Int64 (numbers_in (listed nodes vs)))) else if t then texts_put r else Err WrongKind
+  chosen n t r = if n then Ok (plain (Numbers Int64 (numbers_in (listed nodes vs)))) else if t then texts_put r else Err WrongKind
 
   pub labels_listed : labels_given (Sequence (listed nodes vs)) ≡ chosen (list_all is_number (map (meaning nodes) vs)) (list_all is_text (map (meaning nodes) vs)) (texts_in (listed nodes vs))
   unfolding as_labels
@@ -81,11 +76,9 @@ module _ (nodes : List Node) (vs : List Value) where
       by (all_values is_number (listed nodes vs)) (all_values is_text (listed nodes vs)) (texts_in (listed nodes vs)) ∙ ap (λ n. chosen n (all_values is_text (listed nodes vs)) (texts_in (listed nodes vs))) (all_are is_number nodes vs)
       ∙ ap (λ t. chosen (list_all is_number (map (meaning nodes) vs)) t (texts_in (listed nodes vs))) (all_are is_text nodes vs)
     where
-      by : (n t : Bool) (r : Result (List (List ℕ)) Fault) → ((if n then Ok (Numbers kinds.Int64 (numbers_in (listed nodes vs))) else if t then (r >>= λ ts. Ok (Texts ts)) else Err WrongKind) >>= λ l. Ok (plain l)) ≡ chosen n t r
-      by true t r = refl
+      by : (n t : Bool) (r : Result (List (List ℕ)) Fault) → ((if n then Ok (Numbers Int64 (numbers_in (listed nodes vs))) else if t then (r >>= λ ts. Ok (Texts ts)) else Err WrongKind) >>= λ l. Ok (plain l)) ≡ chosen n t r
       by false true (Ok ts) = refl
-      by false true (Err e) = refl
-      by false false r = refl
+      by n t r = refl
 
 -- ---- the numbers of a list
 
@@ -94,8 +87,8 @@ pub number_on : (nodes : List Node) (vs : List Value) (i : ℕ) (v : Value) (o :
 number_on nodes vs i v o numbers new lt is here so_far pushed =
     pushed ∙ ap (λ ns. with_number ns o) so_far ∙ sym (ap (λ us. numbers_in (listed nodes us)) (take_one vs i v lt is) ∙ ap numbers_in (all_more nodes (take i vs) v) ∙ here (listed nodes (take i vs)))
 
-text_is : (v : of.Value) → is_text v ≡ true → (t : List ℕ) × (v ≡ of.Text t)
-text_is (of.Text t) is = (t, refl)
+text_is : (v : Meant) → is_text v ≡ true → (t : List ℕ) × (v ≡ Text t)
+text_is (Text t) is = (t, refl)
 text_is v is = absurd cc
 
 texts_are : (vs : Values) → all_values is_text vs ≡ true → (ts : List (List ℕ)) × (texts_in vs ≡ Ok ts)
@@ -135,13 +128,13 @@ nested_values (suc zero) ws deep some = refl
 nested_values (suc (suc k)) NoValue deep some = absurd (omega arith)
 nested_values (suc (suc k)) (With ws v) deep some = let e : suc k ≡ suc (suc k) - 1 = omega arith in ap (λ j. list_all (is_nested j) (items (With ws v))) e
 
-pub nested_list : (nodes : List Node) (m : of.Value) (vs : List Value) (k : ℕ) → m ≡ Sequence (listed nodes vs) → 0 < k → 0 < length vs → is_nested k m ≡ list_all (is_nested (k - 1)) (map (meaning nodes) vs)
+pub nested_list : (nodes : List Node) (m : Meant) (vs : List Value) (k : ℕ) → m ≡ Sequence (listed nodes vs) → 0 < k → 0 < length vs → is_nested k m ≡ list_all (is_nested (k - 1)) (map (meaning nodes) vs)
 nested_list nodes m vs k is deep some =
     let all = items_all nodes vs in
     let long : length (items (listed nodes vs)) ≡ length vs = ap length all ∙ length-map vs (meaning nodes) in
     ap (is_nested k) is ∙ nested_values k (listed nodes vs) deep (omega arith) ∙ ap (list_all (is_nested (k - 1))) all
 
-pub nested_none : (nodes : List Node) (m : of.Value) (vs : List Value) (k : ℕ) → m ≡ Sequence (listed nodes vs) → 0 < k → length vs ≡ 0 → is_nested k m ≡ (k == 1)
+pub nested_none : (nodes : List Node) (m : Meant) (vs : List Value) (k : ℕ) → m ≡ Sequence (listed nodes vs) → 0 < k → length vs ≡ 0 → is_nested k m ≡ (k == 1)
 unfolding listed
 nested_none nodes m vs k is deep none = ap (is_nested k) (is ∙ ap (λ us. Sequence (listed nodes us)) (nil_from_length vs none)) ∙ by k deep
   where
@@ -150,7 +143,7 @@ nested_none nodes m vs k is deep none = ap (is_nested k) (is ∙ ap (λ us. Sequ
     by (suc zero) deep = refl
     by (suc (suc j)) deep = let e : (suc (suc j) == 1) ≡ false = grind (arith, nat_tests) in sym e
 
-pub regular_list : (nodes : List Node) (m : of.Value) (vs : List Value) (n : ℕ) (ns : List ℕ) → m ≡ Sequence (listed nodes vs) → is_regular (n ∷ ns) m ≡ ((length vs == n) && list_all (is_regular ns) (map (meaning nodes) vs))
+pub regular_list : (nodes : List Node) (m : Meant) (vs : List Value) (n : ℕ) (ns : List ℕ) → m ≡ Sequence (listed nodes vs) → is_regular (n ∷ ns) m ≡ ((length vs == n) && list_all (is_regular ns) (map (meaning nodes) vs))
 regular_list nodes m vs n ns is =
     let all = items_all nodes vs in
     ap (is_regular (n ∷ ns)) is ∙ ap (λ us. (length us == n) && list_all (is_regular ns) us) all ∙ ap (λ j. (j == n) && list_all (is_regular ns) (map (meaning nodes) vs)) (length-map vs (meaning nodes))
@@ -169,7 +162,7 @@ pub first_rest : {X : Type 0} (xs : List X) (d : X) → 1 ≤ length xs → xs �
 first_rest [] d long = absurd (omega arith)
 first_rest (x ∷ xs) d long = ap (λ t. x ∷ t) (sym (take_all (length (x ∷ xs) - 1) xs (omega arith)))
 
-module _ (nodes : List Node) (m : of.Value) (vs : List Value) (shape : List ℕ) (is : m ≡ Sequence (listed nodes vs)) (long : 1 ≤ length shape) where
+module _ (nodes : List Node) (m : Meant) (vs : List Value) (shape : List ℕ) (is : m ≡ Sequence (listed nodes vs)) (long : 1 ≤ length shape) where
   by_parts : is_regular shape m ≡ ((length vs == get_or shape 0 0) && list_all (is_regular (take (length shape - 1) (drop 1 shape))) (map (meaning nodes) vs))
   by_parts = ap (λ s. is_regular s m) (first_rest shape 0 long) ∙ regular_list nodes m vs (get_or shape 0 0) (take (length shape - 1) (drop 1 shape)) is
 
@@ -189,21 +182,21 @@ pub gathered_none : (nodes : List Node) (e : Elements) (vs : List Value) → e �
 unfolding elements listed
 gathered_none nodes e vs = sym (none_gathered e)
 
-pub gathered_all : (nodes : List Node) (start now : Elements) (vs : List Value) (i : ℕ) (m : of.Value) → length vs ≤ i → m ≡ Sequence (listed nodes vs) → now ≡ with_elements start (elements_of (listed nodes (take i vs))) → now ≡ with_elements start (elements m)
+pub gathered_all : (nodes : List Node) (start now : Elements) (vs : List Value) (i : ℕ) (m : Meant) → length vs ≤ i → m ≡ Sequence (listed nodes vs) → now ≡ with_elements start (elements_of (listed nodes (take i vs))) → now ≡ with_elements start (elements m)
 unfolding elements
 gathered_all nodes start now vs i m le is so_far =
     so_far ∙ ap (λ us. with_elements start (elements_of (listed nodes us))) (take_all i vs le) ∙ ap (λ v. with_elements start (elements v)) (sym is)
 
 -- ---- the first item, and the lengths of first items
 
-pub first_none : (nodes : List Node) (m : of.Value) (vs : List Value) → m ≡ Sequence (listed nodes vs) → length vs < 1 → first_item m ≡ Absent
+pub first_none : (nodes : List Node) (m : Meant) (vs : List Value) → m ≡ Sequence (listed nodes vs) → length vs < 1 → first_item m ≡ Absent
 first_none nodes m vs is none = ap first_item is ∙ first_item_list nodes vs ∙ ap (λ us. get_or (map (meaning nodes) us) 0 Absent) (nil_from_length vs (omega arith))
 
-pub first_some : (nodes : List Node) (m : of.Value) (vs : List Value) (v : Value) → m ≡ Sequence (listed nodes vs) → 1 ≤ length vs → v ≡ get_or vs 0 v → first_item m ≡ meaning nodes v
+pub first_some : (nodes : List Node) (m : Meant) (vs : List Value) (v : Value) → m ≡ Sequence (listed nodes vs) → 1 ≤ length vs → v ≡ get_or vs 0 v → first_item m ≡ meaning nodes v
 first_some nodes m [] v is some at = absurd (omega arith)
 first_some nodes m (w ∷ vs) v is some at = ap first_item is ∙ first_item_list nodes (w ∷ vs) ∙ ap (meaning nodes) (sym at)
 
-pub shape_on : (k n count : ℕ) (shape new whole : List ℕ) (m next : of.Value) → n < k → new ≡ shape ++ count ∷ [] → count ≡ item_count m → next ≡ first_item m → shape ++ nested_shape (k - n) m ≡ whole → new ++ nested_shape (k - (n + 1)) next ≡ whole
+pub shape_on : (k n count : ℕ) (shape new whole : List ℕ) (m next : Meant) → n < k → new ≡ shape ++ count ∷ [] → count ≡ item_count m → next ≡ first_item m → shape ++ nested_shape (k - n) m ≡ whole → new ++ nested_shape (k - (n + 1)) next ≡ whole
 shape_on k n count shape new whole m next lt pushed counted firsts so_far =
     let e : suc (k - (n + 1)) ≡ k - n = omega arith in
     ap (λ s. s ++ nested_shape (k - (n + 1)) next) pushed ∙ append_assoc shape (count ∷ []) (nested_shape (k - (n + 1)) next) ∙ ap (λ c. shape ++ c ∷ nested_shape (k - (n + 1)) next) counted

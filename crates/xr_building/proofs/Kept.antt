@@ -1,6 +1,5 @@
 -- Cells as they are kept: numbers of their kind, and a mask.
-use Rattle.xr_building.proofs.Common.{All, All-cons, All-head, All-nil, All-tail, All-weaker, AllPass-from_list_all, AreSeen, Bool, DType, InKind, InRange, IsCell, List, None, Option, Some, [], ap, arith, cell, false, fits_kind, hidden, in_range, ints, is_some, kind_of, list_all, map, map-id, mask_byte, number_or_zero, pos, refl, subst, sym, true, wide, wrap_to, ℕ, ℤ, ◌<◌, ◌∙◌, ◌∷◌, ◌≡◌}
-use Rattle.xr_types.specs.declared.kind.DType.TheVariants as kinds
+use Rattle.xr_building.proofs.Common.{All, All-cons, All-head, All-nil, All-tail, All-weaker, AllPass-from_list_all, AreSeen, Bool, DType, InKind, InRange, IsCell, List, None, Option, Some, [], ap, arith, cell, false, fits_kind, hidden, in_range, ints, is_some, kind_of, list_all, map, map-id, mask_byte, number_or_zero, pos, refl, subst, sym, true, wide, wrap_to, ℕ, ℤ, ◌<◌, ◌∙◌, ◌∷◌, ◌≡◌, CharKind, TruthKind}
 use Rattle.xr_types.proofs.Wrapping.{wrapped_only}
 use Rattle.xr_arrays.specs.declared.typed.Cells.{Cells}
 use Rattle.xr_arrays.specs.declared.typed.Cells.TheVariants as typed
@@ -11,11 +10,11 @@ use Rattle.xr_building.proofs.Fitting.{fits_in_range}
 wrap_same : (t : DType) (n : ℤ) → InRange t n → wrap_to t n ≡ n
 wrap_same t n in_range = sym (wrapped_only t n n (record { in_range = in_range; turns = pos 0; congruent = omega (arith, ints) }))
 
-byte_range : (n : ℤ) → InRange kinds.Bool n → InRange kinds.Char n
+byte_range : (n : ℤ) → InRange TruthKind n → InRange CharKind n
 byte_range n is = let a = is.0 in let b = is.1 in (omega (arith, ints), omega (arith, ints))
 
 zero_in : (t : DType) → InRange t (pos 0)
-zero_in kinds.Bool = (omega (arith, ints), omega (arith, ints))
+zero_in TruthKind = (omega (arith, ints), omega (arith, ints))
 zero_in t = (omega (arith, ints), omega (arith, ints))
 
 kept_cell : (t : DType) (c : Option ℤ) → IsCell t c → wrap_to t (number_or_zero c) ≡ number_or_zero c
@@ -27,22 +26,22 @@ kept t [] all = refl
 kept t (c ∷ cs) all =
     ap (λ n. n ∷ map (λ c. wrap_to t (number_or_zero c)) cs) (kept_cell t c (All-head (IsCell t) c cs all)) ∙ ap (λ ns. number_or_zero c ∷ ns) (kept t cs (All-tail (IsCell t) c cs all))
 
-byte_cell : (c : Option ℤ) → IsCell kinds.Bool c → IsCell kinds.Char c
+byte_cell : (c : Option ℤ) → IsCell TruthKind c → IsCell CharKind c
 byte_cell None is = tt
 byte_cell (Some n) is = byte_range n is
 
-pub bytes_of_truths : (cells : List (Option ℤ)) → All (IsCell kinds.Bool) cells → All (IsCell kinds.Char) cells
-bytes_of_truths cells all = All-weaker (IsCell kinds.Bool) (IsCell kinds.Char) byte_cell cells all
+pub bytes_of_truths : (cells : List (Option ℤ)) → All (IsCell TruthKind) cells → All (IsCell CharKind) cells
+bytes_of_truths cells all = All-weaker (IsCell TruthKind) (IsCell CharKind) byte_cell cells all
 
-truth_below : (c : Option ℤ) (x : ℕ) → IsCell kinds.Bool c → pos x ≡ number_or_zero c → x < 2
+truth_below : (c : Option ℤ) (x : ℕ) → IsCell TruthKind c → pos x ≡ number_or_zero c → x < 2
 truth_below None x is same = omega (arith, ints)
 truth_below (Some n) x is same = let a = is.0 in let b = is.1 in omega (arith, ints)
 
-truths_below : (xs : List ℕ) (cells : List (Option ℤ)) → All (IsCell kinds.Bool) cells → map pos xs ≡ map number_or_zero cells → All (λ x. x < 2) xs
+truths_below : (xs : List ℕ) (cells : List (Option ℤ)) → All (IsCell TruthKind) cells → map pos xs ≡ map number_or_zero cells → All (λ x. x < 2) xs
 truths_below [] cells all same = All-nil (λ x. x < 2)
 truths_below (x ∷ xs) [] all same = absurd cc
 truths_below (x ∷ xs) (c ∷ cs) all same =
-    All-cons (λ x. x < 2) x xs (truth_below c x (All-head (IsCell kinds.Bool) c cs all) cc) (truths_below xs cs (All-tail (IsCell kinds.Bool) c cs all) cc)
+    All-cons (λ x. x < 2) x xs (truth_below c x (All-head (IsCell TruthKind) c cs all) cc) (truths_below xs cs (All-tail (IsCell TruthKind) c cs all) cc)
 
 pub in_kind : (v : Cells) (kind : DType) (cells : List (Option ℤ)) → kind_of v ≡ kind → wide v ≡ map number_or_zero cells → All (IsCell kind) cells → InKind v
 in_kind (typed.Bool xs) kind cells same numbers all = truths_below xs cells (subst (λ (k : DType). All (IsCell k) cells) (sym same) all) numbers

@@ -1,12 +1,9 @@
 pub mod After
-pub mod Behind
 pub mod Called
 pub mod Checked
 pub mod Common
-pub mod Counted
 pub mod Described
 pub mod Entering
-pub mod Fits
 pub mod Fitting
 pub mod Framed
 pub mod Held
@@ -17,5 +14,3 @@ pub mod Sets
 pub mod Standing
 pub mod Tables
 pub mod Undeclined
-pub mod Unlabelled
-pub mod Writing

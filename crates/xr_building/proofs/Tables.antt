@@ -1,10 +1,5 @@
 -- The entries of the argument `coords`.
-use Rattle.xr_building.proofs.Common.{All, All-head, All-tail, Answers, AreArgsIn, Args, Axis, BadArgument, Bool, Bor, CallFault, Declined, Entries, Entry, Err, Fault, Global, Held, IsEntryIn, IsLayerIn, IsValueIn, List, MatchOption, NoEntry, NoMemory, Node, None, Ok, Option, Refused, Result, Some, TextBytes, Value, Value-F, Vec, [], all_entries, all_of, ap, append-nil, append_assoc, argument, bound, bytes_eq, check_entry, check_table_entry, codes, coords_held, drop, entries, entries_given, entries_held, entries_of, false, find, get_or, given, given_value, if◌then◌else◌, is_named_entry, is_table, keyword, keyword_held, layer, length, map, meaning, meaning_out, out-Value, out-roll-Value, parameters, refl, roll-Value, subst, sym, true, unless, value_out, with_key, ℕ, ⊤, ◌++◌, ◌>>=◌, ◌∙◌, ◌∷◌, ◌≡◌}
-use Rattle.std.specs.Prelude.{option_map}
-use Rattle.xr_defs.specs.Building.{entries_in}
-use Rattle.xr_values.specs.declared.value.Value.TheVariants as variants
-use Rattle.xr_values.specs.declared.value.Value.TheOpen as held
-use Rattle.xr_building.proofs.Framed.{first_passes}
+use Rattle.xr_building.proofs.Common.{All, All-head, All-nil, All-tail, AreArgsIn, Args, Axis, BadArgument, Bool, Entries, Entry, Err, Fault, Global, Held, IsEntryIn, IsLayerIn, IsValueIn, List, MatchOption, NoEntry, Node, None, Ok, Option, Result, Some, Table, TextBytes, Value, Value-F, Vec, [], all_entries, all_of, ap, append-nil, append_assoc, argument, bound, bytes_eq, check_entry, check_table_entry, codes, coords_held, drop, entries, entries_given, entries_held, entries_of, false, find, get_or, given, given_value, if◌then◌else◌, is_named_entry, is_table, keyword, keyword_held, layer, length, map, meaning, meaning_out, out-Value, parameters, refl, subst, sym, table_entries, true, unless, value_out, with_key, ℕ, ⊤, ◌++◌, ◌>>=◌, ◌∙◌, ◌∷◌, ◌≡◌, LayerAbsent, LayerTable, HeldTable, option_map, entries_listed as entries_in, first_passes, passes}
 
 listed_on : (es : Entries) (kvs : List (List ℕ × Value)) → entries_in (entries es kvs) ≡ entries_in es ++ kvs
 listed_on es [] = sym (append-nil (entries_in es))
@@ -21,8 +16,8 @@ module _ (nodes : List Node) (axes : List Axis) (es : List (List ℕ × Value)) 
 
   by_layer : (x : Value-F Held) → entries_given axes (given_value (Some (layer nodes x))) ≡ Ok es → es ≡ map (with_key nodes) (entries_of x)
   unfolding entries_given
-  by_layer held.Absent is = cc
-  by_layer (held.Table t) is =
+  by_layer LayerAbsent is = cc
+  by_layer (LayerTable t) is =
       table (all_of (check_table_entry axes) (entries_in (all_entries nodes t.items))) (entries_in (all_entries nodes t.items)) is ∙ listed_all nodes t.items
   by_layer x is = absurd cc
 
@@ -41,21 +36,17 @@ each_passes axes (kv ∷ kvs) is =
     let q = first_passes (check_entry axes kv) (unless (is_named_entry kv) BadArgument) tt p.0 in
     ap (λ r. r >>= λ u. all_of (check_entry axes) kvs) q.0 ∙ each_passes axes kvs p.1
 
-abbrev given_table : List Axis → List (List ℕ × Value) → Result (List (List ℕ × Value)) Fault
-given_table axes es = all_of (check_table_entry axes) es >>= λ u. Ok es
+pub entries_checked : (axes : List Axis) (o : Option Value) (es : List (List ℕ × Value)) → entries_given axes o ≡ Ok es → all_of (check_entry axes) es ≡ Ok (tt {0})
+unfolding entries_given
+entries_checked axes None es is = let e : [] ≡ es = cc in ap (all_of (check_entry axes)) (sym e)
+entries_checked axes (Some (Table t)) es is = let p = passes (all_of (check_table_entry axes) (entries_in t)) _ es is in let e : entries_in t ≡ es = let q = p.2 in cc in subst (λ xs. all_of (check_entry axes) xs ≡ Ok tt) e (each_passes axes (entries_in t) p.1)
+entries_checked axes (Some v) es is = absurd cc
 
-pub table_means : (nodes : List Node) (axes : List Axis) (v : Held) (t : Vec (TextBytes × Held) Global) (kvs : List (TextBytes × Held)) → v ≡ variants.Table t → kvs ≡ t.items → entries_given axes (given_value (Some (meaning nodes v))) ≡ given_table axes (map (with_key nodes) kvs)
+pub table_means : (nodes : List Node) (axes : List Axis) (v : Held) (t : Vec (TextBytes × Held) Global) (kvs : List (TextBytes × Held)) → v ≡ HeldTable t → kvs ≡ t.items
+    → entries_given axes (given_value (Some (meaning nodes v))) ≡ table_entries axes (map (with_key nodes) kvs)
 unfolding entries_given
 table_means nodes axes v t kvs is same =
-    ap (λ w. entries_given axes (given_value (Some w))) (is_table nodes v t is) ∙ ap (given_table axes) (listed_all nodes t.items) ∙ ap (λ es. given_table axes (map (with_key nodes) es)) (sym same)
-
-pub table_fails : {A : Type 0} (view : A → List (List ℕ × Value)) (r : Result A CallFault) (e : CallFault) (whole : Result (List (List ℕ × Value)) Fault) (axes : List Axis) (es : List (List ℕ × Value)) → r ≡ Err e → whole ≡ given_table axes es → Answers (λ (u : Unit {0}). u) (Err e) (all_of (check_table_entry axes) es) → Answers view r whole
-table_fails view r e whole axes es is same given = subst (λ s. Answers view s whole) (sym is) (subst (Answers view (Err e)) (sym same) (by e given))
-  where
-    by : (e : CallFault) → Answers (λ (u : Unit {0}). u) (Err e) (all_of (check_table_entry axes) es) → Answers view (Err e) (given_table axes es)
-    by (Refused f) g = ap (λ r. r >>= λ u. Ok es) g
-    by (Declined n) g = g
-    by NoMemory g = tt
+    ap (λ w. entries_given axes (given_value (Some w))) (is_table nodes v t is) ∙ ap (table_entries axes) (listed_all nodes t.items ∙ ap (map (with_key nodes)) (sym same))
 
 -- ---- the argument
 
@@ -92,10 +83,6 @@ module _ (nodes : List Node) where
 
 -- ---- of a plan
 
-pub table_inside : (nodes : List Node) (v : Held) (t : Vec (TextBytes × Held) Global) → v ≡ variants.Table t → IsValueIn nodes v → All (IsEntryIn nodes) t.items
-unfolding roll-Value denote.Hole.Carrier.roll
-table_inside nodes v t is inside = subst (IsLayerIn nodes) (ap (λ w. out-Value w) is ∙ out-roll-Value (held.Table t)) (value_out nodes v inside)
-
 keyword_inside : (nodes : List Node) (name : List ℕ) (kvs : List (TextBytes × Held)) → All (IsEntryIn nodes) kvs → MatchOption (keyword_held name kvs) ⊤ (IsValueIn nodes)
 keyword_inside nodes name [] all = tt
 keyword_inside nodes name (kv ∷ kvs) all = by (bytes_eq kv.0 name) (keyword_inside nodes name kvs (All-tail (IsEntryIn nodes) kv kvs all))
@@ -111,10 +98,13 @@ coords_inside nodes args are = by args.plain.items are.plain
     by (a ∷ b ∷ c ∷ plain) all = All-head (IsValueIn nodes) c plain (All-tail (IsValueIn nodes) b (c ∷ plain) (All-tail (IsValueIn nodes) a (b ∷ c ∷ plain) all))
     by plain all = keyword_inside nodes (codes "coords") args.keyed.items are.keyed
 
--- the argument is one of the plan
-pub argument_inside : (nodes : List Node) (args : Args) (view : Bor Held → Held) (o : Option (Bor Held)) → option_map view o ≡ coords_held args → AreArgsIn nodes args → MatchOption o ⊤ (λ x. IsValueIn nodes (view x))
-argument_inside nodes args view o is are = by o (subst (λ h. MatchOption h ⊤ (IsValueIn nodes)) (sym is) (coords_inside nodes args are))
+pub entries_inside : (nodes : List Node) (args : Args) → AreArgsIn nodes args → All (IsEntryIn nodes) (entries_held (coords_held args))
+entries_inside nodes args are = by (coords_held args) (coords_inside nodes args are)
   where
-    by : (o : Option (Bor Held)) → MatchOption (option_map view o) ⊤ (IsValueIn nodes) → MatchOption o ⊤ (λ x. IsValueIn nodes (view x))
-    by None inside = tt
-    by (Some x) inside = inside
+    layered : (x : Value-F Held) → IsLayerIn nodes x → All (IsEntryIn nodes) (entries_of x)
+    layered (LayerTable t) is = is
+    layered x is = All-nil (IsEntryIn nodes)
+
+    by : (o : Option Held) → MatchOption o ⊤ (IsValueIn nodes) → All (IsEntryIn nodes) (entries_held o)
+    by None is = All-nil (IsEntryIn nodes)
+    by (Some v) is = layered (out-Value v) (value_out nodes v is)

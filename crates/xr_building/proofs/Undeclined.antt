@@ -1,7 +1,5 @@
 -- Where no node is declined, calls answer as the definitions say.
-use Rattle.xr_building.proofs.Common.{AnswersArray, AnswersSet, Args, Axis, BadArgument, Bool, CallFault, DType, DataArray, Dataset, Declined, DoesNotFit, Err, Fault, FollowsArray, FollowsSet, Frame, Held as Value, List, NoMemory, Node, None, Ok, Option, Refused, Result, SizeConflict, Some, TextBytes, TooLarge, Value as Meant, WrongKind, [], all_of, ap, argument, array_assigned, array_built, array_in, array_written, assigned_to_array, assigned_to_set, bare_axes, bound, check_elements, check_entry, check_fit, check_numbers, check_place, check_set, computed, coords_assigned, coords_held, data_array, dataset_in, dims_given, element_cell, elements, entries_assigned, entries_given, entries_held, entries_in, entry_in, false, fits_kind, frame_in, frame_of_array, framed, given, given_value, header_of, is_nested, is_regular, kind_for, kind_given, length, length-map, limited, list_all, list_all-map, map, meaning, most_dimensions, name_given, nat_le, nested_shape, node_of, not, option, out-Value, over, parameters, plain_array, plain_given, plain_over, refl, refused, required, set_assigned, suits, sym, unless, variable_names, with_entries, with_entry, with_key, without_idle, ℕ, ◌>>=◌, ◌∙◌, ◌∷◌, ◌≡◌}
-use Rattle.std.specs.Prelude.{◌==◌}
-use Rattle.xr_defs.specs.Values as of
+use Rattle.xr_building.proofs.Common.{AnswersArray, AnswersSet, Args, Axis, BadArgument, Bool, CallFault, DType, DataArray, Dataset, Declined, DoesNotFit, Err, Fault, FollowsArray, FollowsSet, Frame, Held as Value, List, NoMemory, Node, None, Ok, Option, Refused, Result, SizeConflict, Some, TextBytes, TooLarge, Value as Meant, WrongKind, [], all_of, ap, argument, array_assigned, array_built, array_in, array_written, assigned_to_array, assigned_to_set, bare_axes, bound, check_elements, check_entry, check_fit, check_numbers, check_place, check_set, computed, coords_assigned, coords_held, data_array, dataset_in, dims_given, element_cell, elements, entries_assigned, entries_given, entries_held, entries_in, entry_in, false, fits_kind, frame_in, frame_of_array, framed, given, given_value, header_of, is_nested, is_regular, kind_for, kind_given, length, length-map, limited, list_all, list_all-map, map, meaning, most_dimensions, name_given, nat_le, nested_shape, node_of, not, option, out-Value, over, parameters, plain_array, plain_given, plain_over, refl, refused, required, set_assigned, suits, sym, unless, variable_names, with_entries, with_entry, with_key, without_idle, ℕ, ◌>>=◌, ◌∙◌, ◌∷◌, ◌≡◌, MeantArray, MeantSet, ◌==◌}
 use Rattle.xr_building.proofs.Described.{bare_rank}
 use Rattle.xr_building.proofs.Tables.{coords_same, entries_same}
 
@@ -63,7 +61,7 @@ set_all declines nodes s args none =
     ap (λ r. r >>= λ f. Ok (left f) >>= λ t. refused (check_set t) >>= λ u. Ok t) (frame_all declines none nodes (variable_names (dataset_in nodes s)) (record { axes = s.axes; coords = s.coords }) args)
     ∙ lift (coords_assigned (variable_names (dataset_in nodes s)) (record { axes = s.axes; coords = s.coords }) (given nodes args)) _ _ (λ f is. with_check (check_set (left f)) (left f))
   where
-    left : Frame → of.Dataset
+    left : Frame → MeantSet
     left f = without_idle (record (dataset_in nodes s) { axes = f.axes; coords = f.coords })
 
 -- ---- arrays that are written out
@@ -100,7 +98,7 @@ written_all declines nodes args none =
     axes : Meant → List (List ℕ) → List Axis
     axes content dims = bare_axes dims (nested_shape (length dims) content)
 
-    last : (w : Result Frame Fault) (p q r : Result (Unit {0}) Fault) (x : Frame → of.DataArray) → (refused w >>= λ f. refused (p >>= λ u. q >>= λ v. r) >>= λ u. refused (limited (x f))) ≡ refused ((w >>= λ f. p >>= λ d. q >>= λ e. r >>= λ g. Ok (x f)) >>= limited)
+    last : (w : Result Frame Fault) (p q r : Result (Unit {0}) Fault) (x : Frame → MeantArray) → (refused w >>= λ f. refused (p >>= λ u. q >>= λ v. r) >>= λ u. refused (limited (x f))) ≡ refused ((w >>= λ f. p >>= λ d. q >>= λ e. r >>= λ g. Ok (x f)) >>= limited)
     last (Ok f) (Ok u) (Ok v) (Ok w) x = refl
     last w p q r x = refl
 
@@ -111,7 +109,7 @@ written_all declines nodes args none =
         unless (nat_le (length dims) most_dimensions) TooLarge >>= λ g. Ok (record (plain_array f.axes name kind (elements content)) { coords = f.coords })) >>= limited)
     put content dims name kind es same =
         let start : Frame = over (axes content dims) [] in
-        let a : of.DataArray = plain_array (axes content dims) name kind (elements content) in
+        let a : MeantArray = plain_array (axes content dims) name kind (elements content) in
         let ends = λ (p : Bool) (n : ℕ). refused ((with_entries [] start es >>= λ f. unless p DoesNotFit >>= λ d. all_of check_numbers es >>= λ e. unless (nat_le n most_dimensions) TooLarge >>= λ g. Ok (framed a f)) >>= limited) in
         ap (λ r. r >>= λ f. refused (check_fit a (map (with_key nodes) kvs)) >>= λ u. refused (limited (framed a f))) (entries_all declines none nodes [] start kvs)
         ∙ ap (λ ws. refused (with_entries [] start ws) >>= λ f. refused (check_fit a ws) >>= λ u. refused (limited (framed a f))) (sym same)
@@ -121,7 +119,7 @@ written_all declines nodes args none =
 -- ---- what a call answers
 
 -- what the definitions tell of a call that declines nothing
-answers_array : (nodes : List Node) (r : Result DataArray CallFault) (told : Result of.DataArray CallFault) (means : Result of.DataArray Fault) → FollowsArray nodes r told → told ≡ refused means → AnswersArray nodes r means
+answers_array : (nodes : List Node) (r : Result DataArray CallFault) (told : Result MeantArray CallFault) (means : Result MeantArray Fault) → FollowsArray nodes r told → told ≡ refused means → AnswersArray nodes r means
 answers_array nodes (Ok a) told (Ok x) is same = (let e = is.0 in cc, is.1)
 answers_array nodes (Ok a) told (Err e) is same = absurd (let f = is.0 in cc)
 answers_array nodes (Err (Refused f)) told (Err e) is same = cc
@@ -135,7 +133,7 @@ array_answers declines nodes a args r told none = answers_array nodes r _ _ told
 pub written_answers : (declines : ℕ → Bool) (old new : List Node) (args : Args) (r : Result DataArray CallFault) → FollowsArray new r (array_written declines old args) → ((n : ℕ) → declines n ≡ false) → AnswersArray new r (data_array (given old args))
 written_answers declines old new args r told none = answers_array new r _ _ told (written_all declines old args none)
 
-answers_set : (nodes : List Node) (r : Result Dataset CallFault) (told : Result of.Dataset CallFault) (means : Result of.Dataset Fault) → FollowsSet nodes r told → told ≡ refused means → AnswersSet nodes r means
+answers_set : (nodes : List Node) (r : Result Dataset CallFault) (told : Result MeantSet CallFault) (means : Result MeantSet Fault) → FollowsSet nodes r told → told ≡ refused means → AnswersSet nodes r means
 answers_set nodes (Ok s) told (Ok x) is same = (let e = is.0 in cc, is.1)
 answers_set nodes (Ok s) told (Err e) is same = absurd (let f = is.0 in cc)
 answers_set nodes (Err (Refused f)) told (Err e) is same = cc

@@ -10,8 +10,9 @@ use Rattle.xr_types.specs.declared.kind.DType.TheVariants as kinds
 use Rattle.xr_defs.specs.declared.value.Content.TheVariants as contents
 use Rattle.xr_defs.specs.declared.value.Coord.{Coord}
 use Rattle.xr_types.specs.declared.fault.Fault.{Fault}
+use Rattle.xr_types.specs.declared.fault.Fault.TheVariants.{DoesNotFit}
 use Rattle.xr_types.specs.Kinds.{in_range}
-use Rattle.xr_types.specs.Results.{◌>>=◌}
+use Rattle.xr_types.specs.Results.{◌>>=◌, unless}
 use Rattle.xr_defs.specs.Meanings.{Value, Number, Sequence}
 use Rattle.xr_defs.specs.Selecting.{axis_called}
 use Rattle.xr_defs.specs.Building.{Frame, frame_labelled, numbers_in, with_coord}
@@ -80,6 +81,9 @@ abbrev pub put_fits : Put → Bool
 put_fits (puts.Labels name l) = labels_fit l
 put_fits (puts.Number name n) = in_range kinds.Int64 n
 put_fits (puts.Coord c) = true
+
+abbrev pub check_put : Put → Result (Unit {0}) Fault
+check_put p = unless (put_fits p) DoesNotFit
 
 abbrev pub fits_whole : Value → Bool
 fits_whole (Number n) = in_range kinds.Int64 n

@@ -2,7 +2,8 @@
 -- computes them may decline its node.
 use Rattle.std.specs.Prelude.{◌≡◌, ◌≢◌, ℕ, ℤ, Bool, true, List, [], ◌∷◌, length, map, get_or, Option, Some, None, Result, Ok, nat_le, if◌then◌else◌, codes, MatchOption, ⊤}
 use Rattle.std.specs.Str.{bytes_eq}
-use Rattle.std.specs.List.{list_all}
+use Rattle.std.specs.List.{list_all, list_any, AllByRecursion}
+use Rattle.xr_types.specs.declared.axis.Axis.{Axis}
 use Rattle.xr_types.specs.declared.text.TextBytes.{TextBytes}
 use Rattle.xr_types.specs.declared.kind.DType.TheVariants as kinds
 use Rattle.xr_types.specs.declared.fault.Fault.{Fault}
@@ -19,7 +20,7 @@ use Rattle.xr_defs.specs.Meanings.{Given}
 use Rattle.xr_defs.specs.Selecting.{check_array}
 use Rattle.xr_defs.specs.Values.{DataArray}
 use Rattle.xr_defs.specs.WellFormed.{AreSeen}
-use Rattle.xr_defs.specs.Building.{Frame, argument, bare_axes, bound, check_elements, check_numbers, check_place, dims_given, elements, entries_given, fits_kind, frame_of_array, given_value, is_nested, is_regular, kind_for, kind_given, name_given, nested_shape, option, parameters, plain_array, required, suits}
+use Rattle.xr_defs.specs.Building.{Frame, argument, bare_axes, bound, check_elements, check_numbers, check_place, check_table_entry, dims_given, elements, entries_given, fits_kind, frame_of_array, given_value, is_missing, is_nested, is_regular, kind_for, kind_given, name_given, nested_shape, option, parameters, plain_array, required, suits}
 use Rattle.xr_values.specs.declared.value.Value.{Value}
 use Rattle.xr_values.specs.declared.value.Value.TheOpen as held
 use Rattle.xr_values.specs.declared.value.Value.TheOpen.{Value-F}
@@ -27,9 +28,8 @@ use Rattle.xr_values.specs.declared.value.Value.TheViews.{out-Value}
 use Rattle.xr_values.specs.declared.args.Args.{Args}
 use Rattle.xr_values.specs.Meaning.{given, with_key}
 use Rattle.xr_building.specs.declared.header.Header.{Header}
-use Rattle.xr_building.specs.declared.placed.Outline.{Outline}
 use Rattle.xr_building.specs.Entries.{refused, entries_in}
-use Rattle.xr_building.specs.Frames.{IsFrame}
+use Rattle.xr_building.specs.Frames.{IsFrame, IsOpenAxis}
 
 -- ---- the argument for `coords`, by its place or by its name
 
@@ -49,12 +49,16 @@ abbrev pub entries_held : Option Value → List (TextBytes × Value)
 entries_held None = []
 entries_held (Some v) = entries_of (out-Value v)
 
+-- each can be one
+abbrev pub table_entries : List Axis → List (List ℕ × of.Value) → Result (List (List ℕ × of.Value)) Fault
+table_entries axes kvs = all_of (check_table_entry axes) kvs >>= λ u. Ok kvs
+
 -- ---- the array over axes without labels
 
 -- the name, and a kind that the elements can have
 unfoldable pub header_of : List of.Value → Option of.Value → Option of.Value → Result Header Fault
 header_of vs named kinded =
-    name_given named >>= λ name. kind_given kinded >>= λ dtype. unless (suits (kind_for vs dtype) vs) WrongKind >>= λ u. Ok (record { name = name; kind = kind_for vs dtype })
+    name_given named >>= λ name. kind_given kinded >>= λ dtype. unless (suits (kind_for vs dtype) vs) WrongKind >>= λ u. Ok (record { name = name; kind = kind_for vs dtype; masked = list_any is_missing vs })
 
 unfoldable pub plain_over : of.Value → List (List ℕ) → Option of.Value → Option of.Value → Option of.Value → Result DataArray Fault
 plain_over content dims coords named kinded =
@@ -87,16 +91,18 @@ array_written declines nodes args =
 
 -- ---- the program's array
 
-abbrev pub with_written : Outline → List (Option ℤ) → DataArray
-with_written a cells = record { name = a.name; axes = a.axes; kind = a.kind; masked = a.masked; attrs = []; coords = a.coords; cells = cells }
+abbrev pub with_written : Header → Frame → List (Option ℤ) → DataArray
+with_written h f cells = record { name = h.name; axes = f.axes; kind = h.kind; masked = h.masked; attrs = []; coords = f.coords; cells = cells }
 
-abbrev pub outlined : Outline → Frame → Outline
-outlined a f = record a { axes = f.axes; coords = f.coords }
+pub record IsOpen (h : Header) (axes : List Axis) : Type 0 where
+  pub name : MatchOption h.name ⊤ (λ n. is_name n ≡ true)
+  pub kind : h.kind ≢ kinds.Char
+  pub each : AllByRecursion IsOpenAxis axes
 
--- an array of these cells is as it has to be, however large, if they are of its kind
-pub record IsFilled (a : Outline) (cells : List (Option ℤ)) : Type 0 where
+-- an array is as it has to be, however large, if its cells are of its kind
+pub record IsFilled (a : DataArray) : Type 0 where
   pub frame : IsFrame a.axes a.coords
   pub name : MatchOption a.name ⊤ (λ n. is_name n ≡ true)
   pub kind : a.kind ≢ kinds.Char
-  pub whole : length cells ≡ size (shape_over a.axes)
-  pub seen : AreSeen a.masked cells
+  pub whole : length a.cells ≡ size (shape_over a.axes)
+  pub seen : AreSeen a.masked a.cells

@@ -13,33 +13,28 @@ ghost use Rattle.xr_parts.specs.Kept.{is_held};
 ghost use Rattle.xr_building.specs.Entries.{set_assigned, FollowsSet};
 
 use crate::assigned::assigned;
-use crate::draft::{Draft, draft_of, with_puts};
+use crate::draft::Draft;
 use plan_core::Compute;
-use std::alloc::{AllocError, Global};
+use std::alloc::Global;
 use std::thread::Threads;
 use xr_parts::axes_kept;
 use xr_types::{Axis, CallFault, DeepCopy, Fault, Items, MOST_VARIABLES};
 use xr_values::{Args, Cx, Dataset};
 
-// Refuses more coordinates and variables together than a dataset may have.
+// The axes without the bare ones that no coordinate has, and no variable of the dataset, which may not have more coordinates and variables
+// together than there may be.
 #[tactic(auto, unfolding(xr_types::specs::Results::unless))]
-fn check_few(draft: &Draft, set: &Dataset) -> Result<(), CallFault>
-    ensures { Answers (λ u. u) result (unless (nat_le (length draft.now.coords + length set.now.vars) most_variables) TooLarge) }
-{
-    let coords = draft.coords.as_slice().len();
-    if coords.saturating_add(set.vars.as_slice().len()) <= MOST_VARIABLES {
-        Ok(())
-    } else {
-        Err(CallFault::Refused(Fault::TooLarge))
-    }
-}
-
-// The axes without the bare ones that no coordinate has, and no variable of the dataset.
-fn busy_axes(alloc: Global, draft: &Draft, set: &Dataset) -> Result<Items<Axis>, AllocError>
-    ensures { IfOk result (λ xs. xs ≡ filter (is_held draft.now.coords set.now.vars) draft.now.axes) }
+fn busy_axes(alloc: Global, draft: &Draft, set: &Dataset) -> Result<Items<Axis>, CallFault>
+    ensures few { Answers (λ xs. tt) result (unless (nat_le (length draft.now.coords + length set.now.vars) most_variables) TooLarge) }
+    ensures axes { IfOk result (λ xs. xs ≡ filter (is_held draft.now.coords set.now.vars) draft.now.axes) }
 {
     let coords = draft.coords.as_slice();
-    axes_kept(alloc, coords, set.vars.as_slice(), draft.axes.as_slice())
+    let variables = set.vars.as_slice();
+    if coords.len().saturating_add(variables.len()) > MOST_VARIABLES {
+        return Err(CallFault::Refused(Fault::TooLarge));
+    }
+    let axes = axes_kept(alloc, coords, variables, draft.axes.as_slice())?;
+    Ok(axes)
 }
 
 /// A dataset with these labels and coordinates, as an array has them. A coordinate that is replaced may have been the last along a bare
@@ -63,10 +58,15 @@ pub fn assign_to_set<R: Threads + Sync, C: Compute>(
     ensures plan { cx.new.plan ≡ cx.old.plan }
     ensures keeps { (nodes : List Node) (n : ℕ) → C.declines cx.new.compute nodes n ≡ C.declines cx.old.compute nodes n }
 {
-    let draft = draft_of(alloc, &on.axes, &on.coords)?;
-    let puts = assigned(rt, alloc, cx, on.vars.as_slice(), on.axes.as_slice(), args)?;
-    let draft = with_puts(alloc, draft, puts.as_slice())?;
-    check_few(&draft, on)?;
+    let draft = assigned(
+        rt,
+        alloc,
+        cx,
+        on.vars.as_slice(),
+        &on.axes,
+        on.coords.as_slice(),
+        args,
+    )?;
     let axes = busy_axes(alloc, &draft, on)?;
     let mut set = on.deep_copy(alloc)?;
     set.axes = axes;

@@ -4,7 +4,6 @@ ghost use Rattle.std.specs.List.{list_all};
 ghost use Rattle.xr_types.specs.declared.kind.DType.TheVariants as kinds;
 ghost use Rattle.xr_arrays.specs.Arrays.{IsCell, kind_of, wide};
 ghost use Rattle.xr_defs.specs.Building as of;
-ghost use Rattle.xr_defs.specs.Building.{fits_kind};
 ghost use Rattle.xr_defs.specs.Meanings.{Value};
 ghost use Rattle.xr_types.specs.Points.{size};
 ghost use Rattle.xr_defs.specs.WellFormed.{AreSeen};
@@ -17,7 +16,7 @@ use xr_formulas::fits;
 use xr_types::{DType, Elem, Items};
 
 fn cell_fits(kind: DType, cell: Option<i128>) -> bool
-    ensures { result ≡ fits_kind kind cell }
+    ensures { result ≡ of.fits_kind kind cell }
 {
     match cell {
         None => true,
@@ -27,7 +26,7 @@ fn cell_fits(kind: DType, cell: Option<i128>) -> bool
 
 /// Whether each number is one of the kind.
 pub fn all_fit(kind: DType, cells: &[Option<i128>]) -> bool
-    ensures { result ≡ list_all (fits_kind kind) cells.now }
+    ensures { result ≡ list_all (of.fits_kind kind) cells.now }
 {
     cells.iter().all(|cell| cell_fits(kind, *cell))
 }

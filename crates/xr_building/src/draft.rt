@@ -1,40 +1,31 @@
 //! Axes and coordinates with what entries come to.
-ghost use Rattle.std.specs.Prelude.{◌≡◌, ◌<◌, true, length, map, All, IfOk, IfSome, OnOk};
+ghost use Rattle.std.specs.Prelude.{◌≡◌, ◌<◌, true, length, map, IfOk, IfSome};
 ghost use Rattle.std.specs.List.{list_all};
-ghost use Rattle.xr_types.specs.Kinds.{in_range, InRange};
+ghost use Rattle.xr_types.specs.Kinds.{in_range};
+ghost use Rattle.xr_types.specs.Results.{unless, all_of, Answers};
+ghost use Rattle.xr_types.specs.declared.fault.Fault.TheVariants.{DoesNotFit};
 ghost use Rattle.xr_types.specs.declared.kind.DType.TheVariants as kinds;
 ghost use Rattle.xr_types.specs.declared.axis.Axis.{Axis as Dimension};
 ghost use Rattle.xr_defs.specs.Building as of;
 ghost use Rattle.xr_defs.specs.Selecting.{axis_called};
-ghost use Rattle.xr_building.specs.Puts.{after, coord_place, frame_of, labels_fit, labels_of, number_coord, over, over_called, put_fits, put_on};
+ghost use Rattle.xr_building.specs.Puts.{after, check_put, coord_place, frame_of, labels_fit, labels_of, number_coord, over_called, put_on};
 
 use crate::axes::axis_called;
 use crate::cells::array_value;
 use crate::puts::{NewLabels, Put};
 use std::alloc::{AllocError, Global};
 use xr_defs::{Content, Coord};
-use xr_types::{Axis, DType, DeepCopy, Integers, Items, LabelList, Labels, TextBytes};
-use xr_values::{copy_content, copy_coord, copy_coords};
+use xr_formulas::fits;
+use xr_types::{
+    Axis, CallFault, DType, DeepCopy, Fault, Integers, Items, LabelList, Labels, TextBytes,
+};
+use xr_values::{copy_content, copy_coord};
 
 /// Axes with the coordinates over them.
 #[derive(Drop)]
 pub struct Draft {
     pub axes: Items<Axis>,
     pub coords: Items<Coord>,
-}
-
-/// A copy of axes and of the coordinates over them.
-pub fn draft_of(
-    alloc: Global,
-    axes: &Items<Axis>,
-    coords: &Items<Coord>,
-) -> Result<Draft, AllocError>
-    ensures { IfOk result (λ d. frame_of d ≡ over axes.now coords.now) }
-{
-    Ok(Draft {
-        axes: axes.deep_copy(alloc)?,
-        coords: copy_coords(alloc, coords.as_slice())?,
-    })
 }
 
 // ---- labels
@@ -74,22 +65,6 @@ fn axes_relabelled(
     Ok(out)
 }
 
-fn coord_relabelled(
-    alloc: Global,
-    coord: &Coord,
-    name: &TextBytes,
-    labels: &Labels,
-) -> Result<Coord, AllocError>
-    ensures { IfOk result (λ c. c ≡ of.coord_relabelled name.now labels.now coord.now) }
-{
-    Ok(Coord {
-        name: coord.name.deep_copy(alloc)?,
-        axes: axes_relabelled(alloc, coord.axes.as_slice(), name, labels)?,
-        attrs: coord.attrs.deep_copy(alloc)?,
-        content: copy_content(alloc, &coord.content)?,
-    })
-}
-
 fn coords_relabelled(
     alloc: Global,
     coords: &[Coord],
@@ -100,50 +75,45 @@ fn coords_relabelled(
 {
     let mut out = Items::new(alloc);
     for coord in coords {
-        out.push(coord_relabelled(alloc, coord, name, labels)?)?;
+        out.push(Coord {
+            name: coord.name.deep_copy(alloc)?,
+            axes: axes_relabelled(alloc, coord.axes.as_slice(), name, labels)?,
+            attrs: coord.attrs.deep_copy(alloc)?,
+            content: copy_content(alloc, &coord.content)?,
+        })?;
     }
     Ok(out)
 }
 
-fn integers(alloc: Global, numbers: &[i128]) -> Result<Integers, AllocError>
-    requires { All (InRange kinds.Int64) numbers.now }
-    ensures { IfOk result (λ ns. ns ≡ numbers.now) }
+// Refuses a number that 64 bits don't hold.
+#[tactic(auto, using(crate::proofs::Fitting::fits_in_range), unfolding(xr_types::specs::Results::unless))]
+fn integers(alloc: Global, numbers: &[i128]) -> Result<Integers, CallFault>
+    ensures fit { Answers (λ ns. tt) result (unless (list_all (in_range kinds.Int64) numbers.now) DoesNotFit) }
+    ensures same { IfOk result (λ ns. ns ≡ numbers.now) }
 {
     let mut out = Items::new(alloc);
     for number in numbers {
+        if !fits(DType::Int64, *number) {
+            return Err(CallFault::Refused(Fault::DoesNotFit));
+        }
         out.push(*number as i64)?;
     }
-    Integers::signed(alloc, out)
+    let integers = Integers::signed(alloc, out)?;
+    Ok(integers)
 }
 
-#[tactic(auto, using(crate::proofs::Fitting::fit_in_range))]
-fn labels_of(alloc: Global, labels: &NewLabels) -> Result<Labels, AllocError>
-    requires { labels_fit labels.now ≡ true }
-    ensures { IfOk result (λ l. l ≡ labels_of labels.now) }
+#[tactic(auto, unfolding(xr_types::specs::Results::unless))]
+fn labels_of(alloc: Global, labels: &NewLabels) -> Result<Labels, CallFault>
+    ensures fit { Answers (λ l. tt) result (unless (labels_fit labels.now) DoesNotFit) }
+    ensures same { IfOk result (λ l. l ≡ labels_of labels.now) }
 {
     match labels {
         NewLabels::Numbers(numbers) => Ok(Labels {
             list: LabelList::Numbers(DType::Int64, integers(alloc, numbers.as_slice())?),
             attrs: Items::new(alloc),
         }),
-        NewLabels::Labels(labels) => labels.deep_copy(alloc),
+        NewLabels::Labels(labels) => Ok(labels.deep_copy(alloc)?),
     }
-}
-
-fn with_labels(
-    alloc: Global,
-    draft: &Draft,
-    name: &TextBytes,
-    labels: &NewLabels,
-) -> Result<Draft, AllocError>
-    requires { labels_fit labels.now ≡ true }
-    ensures { IfOk result (λ d. frame_of d ≡ of.frame_labelled (frame_of draft.now) name.now (labels_of labels.now)) }
-{
-    let labels = labels_of(alloc, labels)?;
-    Ok(Draft {
-        axes: axes_relabelled(alloc, draft.axes.as_slice(), name, &labels)?,
-        coords: coords_relabelled(alloc, draft.coords.as_slice(), name, &labels)?,
-    })
 }
 
 // ---- coordinates
@@ -156,26 +126,15 @@ fn coord_place(coords: &[Coord], name: &TextBytes) -> Option<usize>
     coords.iter().position(|coord| coord.name.is(name))
 }
 
-// In the place of the one of its name, or at the end.
-#[tactic(auto, using(crate::proofs::Behind::put_there, crate::proofs::Behind::put_behind))]
-fn put_coord(coords: &mut Items<Coord>, coord: Coord) -> Result<(), AllocError>
-    ensures { OnOk result (coords.new ≡ of.with_coord coords.old coord) }
+// A coordinate of one number, which 64 bits have to hold.
+#[tactic(auto, using(crate::proofs::Fitting::one_in_range), unfolding(xr_types::specs::Results::unless))]
+fn number_coord(alloc: Global, name: &TextBytes, n: i128) -> Result<Coord, CallFault>
+    ensures fit { Answers (λ c. tt) result (unless (in_range kinds.Int64 n) DoesNotFit) }
+    ensures same { IfOk result (λ c. c ≡ number_coord name.now n) }
 {
-    match coord_place(coords.as_slice(), &coord.name) {
-        Some(k) => {
-            coords.set(k, coord);
-            Ok(())
-        }
-        None => coords.push(coord),
+    if !fits(DType::Int64, n) {
+        return Err(CallFault::Refused(Fault::DoesNotFit));
     }
-}
-
-// A coordinate of one number.
-#[tactic(auto, using(crate::proofs::Fitting::one_in_range))]
-fn number_coord(alloc: Global, name: &TextBytes, n: i128) -> Result<Coord, AllocError>
-    requires { in_range kinds.Int64 n ≡ true }
-    ensures { IfOk result (λ c. c ≡ number_coord name.now n) }
-{
     let cells = array_value(
         alloc,
         DType::Int64,
@@ -210,38 +169,52 @@ fn over_called(alloc: Global, axes: &[Axis], coord: &Coord) -> Result<Coord, All
     Ok(coord)
 }
 
+// In the place of the one of its name, or at the end.
+#[tactic(auto, using(crate::proofs::After::put_there, crate::proofs::After::put_behind))]
 fn with_coord(draft: Draft, coord: Coord) -> Result<Draft, AllocError>
     ensures { IfOk result (λ d. frame_of d ≡ record { axes = draft.axes; coords = of.with_coord draft.coords coord }) }
 {
     let mut draft = draft;
-    put_coord(&mut draft.coords, coord)?;
+    match coord_place(draft.coords.as_slice(), &coord.name) {
+        Some(k) => draft.coords.set(k, coord),
+        None => draft.coords.push(coord)?,
+    }
     Ok(draft)
 }
 
 // ---- both
 
-fn with_put(alloc: Global, draft: Draft, put: &Put) -> Result<Draft, AllocError>
-    requires { put_fits put.now ≡ true }
-    ensures { IfOk result (λ d. frame_of d ≡ put_on (frame_of draft) put.now) }
+#[tactic(auto, unfolding(xr_types::specs::Results::unless))]
+fn with_put(alloc: Global, draft: Draft, put: &Put) -> Result<Draft, CallFault>
+    ensures fit { Answers (λ d. tt) result (check_put put.now) }
+    ensures frame { IfOk result (λ d. frame_of d ≡ put_on (frame_of draft) put.now) }
 {
     match put {
-        Put::Labels(name, labels) => with_labels(alloc, &draft, name, labels),
+        Put::Labels(name, labels) => {
+            let labels = labels_of(alloc, labels)?;
+            Ok(Draft {
+                axes: axes_relabelled(alloc, draft.axes.as_slice(), name, &labels)?,
+                coords: coords_relabelled(alloc, draft.coords.as_slice(), name, &labels)?,
+            })
+        }
         Put::Number(name, n) => {
             let coord = number_coord(alloc, name, *n)?;
-            with_coord(draft, coord)
+            Ok(with_coord(draft, coord)?)
         }
         Put::Coord(coord) => {
             let coord = over_called(alloc, draft.axes.as_slice(), coord)?;
-            with_coord(draft, coord)
+            Ok(with_coord(draft, coord)?)
         }
     }
 }
 
 /// Axes and coordinates with these puts.
-#[tactic(auto, using(crate::proofs::Fitting::each_fits))]
-pub fn with_puts(alloc: Global, draft: Draft, puts: &[Put]) -> Result<Draft, AllocError>
-    requires { list_all put_fits puts.now ≡ true }
-    ensures { IfOk result (λ d. frame_of d ≡ after (frame_of draft) puts.now) }
+///
+/// # Errors
+/// `DoesNotFit` for a number that 64 bits don't hold.
+pub fn with_puts(alloc: Global, draft: Draft, puts: &[Put]) -> Result<Draft, CallFault>
+    ensures fit { Answers (λ d. tt) result (all_of check_put puts.now) }
+    ensures frame { IfOk result (λ d. frame_of d ≡ after (frame_of draft) puts.now) }
 {
     let mut draft = draft;
     for put in puts {

@@ -1,12 +1,13 @@
 //! The elements of nested lists.
 ghost use Rattle.std.specs.Prelude.{◌≡◌, List, OnOk, IfOk};
 ghost use Rattle.xr_arrays.specs.declared.node.Node.{Node};
-ghost use Rattle.xr_defs.specs.Building.{elements};
+ghost use Rattle.xr_types.specs.Results.{Answers};
+ghost use Rattle.xr_defs.specs.Building.{check_elements, elements};
 ghost use Rattle.xr_values.specs.Meaning.{meaning, all_values};
 ghost use Rattle.xr_building.specs.Gathered.{with_elements, gathered};
 
 use std::alloc::{AllocError, Global};
-use xr_types::Items;
+use xr_types::{CallFault, Fault, Items};
 use xr_values::Value;
 
 /// The elements of a nested list in their order.
@@ -54,8 +55,13 @@ fn gather(value: &Value, out: &mut Elements) -> Result<(), AllocError>
 }
 
 /// The elements of a nested list. Another value is its one element.
-pub fn gathered(alloc: Global, value: &Value) -> Result<Elements, AllocError>
-    ensures { (nodes : List Node) → IfOk result (λ e. e ≡ gathered (elements (meaning nodes value.now))) }
+///
+/// # Errors
+/// `WrongKind` unless they are whole numbers, or truth values, with missing cells among them.
+#[tactic(auto, unfolding(xr_defs::specs::Building::check_elements, xr_types::specs::Results::unless))]
+pub fn gathered(alloc: Global, value: &Value) -> Result<Elements, CallFault>
+    ensures answers { (nodes : List Node) → Answers (λ e. tt) result (check_elements (elements (meaning nodes value.now))) }
+    ensures are { (nodes : List Node) → IfOk result (λ e. e ≡ gathered (elements (meaning nodes value.now))) }
 {
     let mut out = Elements {
         cells: Items::new(alloc),
@@ -64,5 +70,9 @@ pub fn gathered(alloc: Global, value: &Value) -> Result<Elements, AllocError>
         missing: false,
     };
     gather(value, &mut out)?;
-    Ok(out)
+    if out.whole || out.truths {
+        Ok(out)
+    } else {
+        Err(CallFault::Refused(Fault::WrongKind))
+    }
 }

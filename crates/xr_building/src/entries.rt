@@ -1,10 +1,10 @@
 //! The entries of the argument `coords`.
-ghost use Rattle.std.specs.Prelude.{◌≡◌, List, Some, Ok, All, map, option_map, IfOk, MatchOption, ⊤};
+ghost use Rattle.std.specs.Prelude.{◌≡◌, List, Some, map, option_map, IfOk};
 ghost use Rattle.xr_arrays.specs.declared.node.Node.{Node};
-ghost use Rattle.xr_types.specs.Results.{Answers, all_of};
+ghost use Rattle.xr_types.specs.Results.{Answers};
 ghost use Rattle.xr_defs.specs.Building as of;
-ghost use Rattle.xr_values.specs.Meaning.{meaning, with_key, IsEntryIn, IsValueIn};
-ghost use Rattle.xr_building.specs.Written.{coords_held, entries_held, keyword_held};
+ghost use Rattle.xr_values.specs.Meaning.{meaning, with_key};
+ghost use Rattle.xr_building.specs.Written.{coords_held, entries_held, keyword_held, table_entries};
 
 use crate::check::check_entry;
 use crate::given::is_named;
@@ -33,44 +33,33 @@ pub fn coords_argument(args: &Args) -> Option<&Value>
     }
 }
 
-// Refuses what no entry may be, and then an entry without a name.
+// The entries of a table, each of which can be one and has a name.
 #[tactic(auto, unfolding(xr_defs::specs::Building::check_table_entry, xr_types::specs::Results::unless))]
-fn check_table_entry(axes: &[Axis], entry: &(TextBytes, Value)) -> Result<(), CallFault>
-    ensures { (nodes : List Node) → Answers (λ u. u) result (of.check_table_entry axes.now (with_key nodes entry.now)) }
-{
-    check_entry(axes, entry)?;
-    if is_named(&entry.0) {
-        Ok(())
-    } else {
-        Err(CallFault::Refused(Fault::BadArgument))
-    }
-}
-
-// Refuses the first entry of a table that can't be one.
-fn check_each(axes: &[Axis], entries: &[(TextBytes, Value)]) -> Result<(), CallFault>
-    ensures { (nodes : List Node) → Answers (λ u. u) result (all_of (of.check_table_entry axes.now) (map (with_key nodes) entries.now)) }
+fn checked<'a>(
+    axes: &[Axis],
+    entries: &'a [(TextBytes, Value)],
+) -> Result<&'a [(TextBytes, Value)], CallFault>
+    ensures answers { (nodes : List Node) → Answers (λ es. map (with_key nodes) es.now) result (table_entries axes.now (map (with_key nodes) entries.now)) }
+    ensures same { IfOk result (λ es. es.now ≡ entries.now) }
 {
     for entry in entries {
-        check_table_entry(axes, entry)?;
+        check_entry(axes, entry)?;
+        if !is_named(&entry.0) {
+            return Err(CallFault::Refused(Fault::BadArgument));
+        }
     }
-    Ok(())
+    Ok(entries)
 }
 
 // The entries of a table; `None` has none.
-#[tactic(auto, using(xr_arguments::proofs::Variants::is_absent, xr_arguments::proofs::Variants::is_table, xr_values::proofs::Meaning::meaning_out), unfolding(xr_defs::specs::Building::entries_given))]
+#[tactic(auto, using(xr_arguments::proofs::Variants::is_absent, xr_arguments::proofs::Variants::is_table, crate::proofs::Tables::table_means, xr_values::proofs::Meaning::meaning_out), unfolding(xr_defs::specs::Building::entries_given))]
 fn table_given<'a>(axes: &[Axis], value: &'a Value) -> Result<&'a [(TextBytes, Value)], CallFault>
     ensures answers { (nodes : List Node) → Answers (λ es. map (with_key nodes) es.now) result (of.entries_given axes.now (of.given_value (Some (meaning nodes value.now)))) }
     ensures held { IfOk result (λ es. es.now ≡ entries_held (Some value.now)) }
-    ensures inside { (nodes : List Node) → IsValueIn nodes value.now → IfOk result (λ es. All (IsEntryIn nodes) es.now) }
-    ensures checked { (nodes : List Node) → IfOk result (λ es. all_of (of.check_entry axes.now) (map (with_key nodes) es.now) ≡ Ok tt) }
 {
     match value {
         Value::Absent => Ok(&[]),
-        Value::Table(table) => {
-            let entries = table.as_slice();
-            check_each(axes, entries)?;
-            Ok(entries)
-        }
+        Value::Table(table) => checked(axes, table.as_slice()),
         _ => Err(CallFault::Refused(Fault::WrongKind)),
     }
 }
@@ -88,8 +77,6 @@ pub fn entries_given<'a>(
 ) -> Result<&'a [(TextBytes, Value)], CallFault>
     ensures answers { (nodes : List Node) → Answers (λ es. map (with_key nodes) es.now) result (of.entries_given axes.now (of.given_value (option_map (λ v. meaning nodes v.now) coords.entry))) }
     ensures held { IfOk result (λ es. es.now ≡ entries_held (option_map (λ v. v.now) coords.entry)) }
-    ensures inside { (nodes : List Node) → MatchOption coords.entry ⊤ (λ v. IsValueIn nodes v.now) → IfOk result (λ es. All (IsEntryIn nodes) es.now) }
-    ensures checked { (nodes : List Node) → IfOk result (λ es. all_of (of.check_entry axes.now) (map (with_key nodes) es.now) ≡ Ok tt) }
 {
     match coords {
         None => Ok(&[]),

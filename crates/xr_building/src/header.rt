@@ -16,11 +16,13 @@ use std::alloc::Global;
 use xr_types::{CallFault, DType, Fault, Name};
 use xr_values::Value;
 
-/// The name of an array and the kind of its cells.
+/// An array without its axes, its coordinates and its cells.
 #[derive(Drop)]
 pub struct Header {
     pub name: Option<Name>,
     pub kind: DType,
+    /// Whether missing cells may stand in the array.
+    pub masked: bool,
 }
 
 /// The name that is given, and the kind that is given or that of the elements.
@@ -37,11 +39,16 @@ pub fn header_of(
     ensures answers { (nodes : List Node) (vs : List of.Value) → elements.now ≡ gathered vs → Answers (λ h. h) result (header_of vs (option_map (λ v. meaning nodes v.now) name.entry) (option_map (λ v. meaning nodes v.now) dtype.entry)) }
     ensures name { IfOk result (λ h. MatchOption h.name ⊤ (λ n. is_name n ≡ true)) }
     ensures number { IfOk result (λ h. h.kind ≢ kinds.Char) }
+    ensures masked { IfOk result (λ h. h.masked ≡ elements.now.missing) }
 {
     let name = name_given(alloc, name)?;
     let kind = kind_for(elements, kind_given(dtype)?);
     if suits(kind, elements) {
-        Ok(Header { name, kind })
+        Ok(Header {
+            name,
+            kind,
+            masked: elements.missing,
+        })
     } else {
         Err(CallFault::Refused(Fault::WrongKind))
     }

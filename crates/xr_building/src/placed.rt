@@ -6,27 +6,18 @@ ghost use Rattle.xr_types.specs.Names.{shape_over};
 ghost use Rattle.plan_core.specs.Plans.{Grows};
 ghost use Rattle.xr_values.specs.Answers.{AnswersArray};
 ghost use Rattle.xr_values.specs.Stands.{array_in};
+ghost use Rattle.xr_building.specs.Puts.{frame_of};
 ghost use Rattle.xr_building.specs.Written.{limited, with_written, IsFilled};
 
 use crate::cells::array_value;
+use crate::draft::Draft;
+use crate::header::Header;
 use crate::limits::is_frame_within;
 use plan_core::Plan;
 use std::alloc::{AllocError, Global};
 use xr_arrays::Node;
-use xr_defs::Coord;
-use xr_types::{Axis, CallFault, DType, Fault, Items, Name};
+use xr_types::{Axis, CallFault, Fault, Items};
 use xr_values::DataArray;
-
-/// An array without its cells.
-#[derive(Drop)]
-pub struct Outline {
-    pub name: Option<Name>,
-    pub axes: Items<Axis>,
-    pub coords: Items<Coord>,
-    pub kind: DType,
-    /// Whether missing cells may stand in the array.
-    pub masked: bool,
-}
 
 fn shape_of(alloc: Global, axes: &[Axis]) -> Result<Items<u64>, AllocError>
     ensures { IfOk result (λ s. s ≡ shape_over axes.now) }
@@ -46,29 +37,30 @@ fn shape_of(alloc: Global, axes: &[Axis]) -> Result<Items<u64>, AllocError>
 pub fn place(
     alloc: Global,
     plan: &mut Plan,
-    outline: Outline,
+    header: Header,
+    draft: Draft,
     cells: &[Option<i128>],
 ) -> Result<DataArray, CallFault>
-    requires filled { IsFilled outline cells.now }
-    requires range { All (IsCell outline.kind) cells.now }
-    ensures answers { AnswersArray plan.new result (limited (with_written outline cells.now)) }
+    requires filled { IsFilled (with_written header (frame_of draft) cells.now) }
+    requires range { All (IsCell header.kind) cells.now }
+    ensures answers { AnswersArray plan.new result (limited (with_written header (frame_of draft) cells.now)) }
     ensures grows { Grows plan.old plan.new }
     ensures room { IfOk result (λ b. AddsForAny plan.old plan.new (array_in plan.new b)) }
 {
-    let axes = outline.axes.as_slice();
-    if !is_frame_within(axes, outline.coords.as_slice()) {
+    let axes = draft.axes.as_slice();
+    if !is_frame_within(axes, draft.coords.as_slice()) {
         return Err(CallFault::Refused(Fault::TooLarge));
     }
     let shape = shape_of(alloc, axes)?;
-    let cells = array_value(alloc, outline.kind, shape, outline.masked, cells)?;
+    let cells = array_value(alloc, header.kind, shape, header.masked, cells)?;
     let node = plan.push(Node::Source { cells })?;
     Ok(DataArray {
-        name: outline.name,
-        axes: outline.axes,
-        kind: outline.kind,
-        masked: outline.masked,
+        name: header.name,
+        axes: draft.axes,
+        kind: header.kind,
+        masked: header.masked,
         attrs: Items::new(alloc),
-        coords: outline.coords,
+        coords: draft.coords,
         node,
     })
 }

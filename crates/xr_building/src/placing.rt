@@ -20,25 +20,19 @@ use crate::puts::Put;
 use xr_types::{Axis, CallFault, Fault, TextBytes};
 use xr_values::{DataArray, Variable};
 
-#[tactic(auto, using(crate::proofs::Called::called_found))]
-fn size_called(axes: &[Axis], name: &TextBytes) -> u64
-    ensures { result ≡ (axis_called axes.now name.now).size }
-{
-    match called(axes, name) {
-        Some(axis) => axis.size,
-        None => 0,
-    }
-}
-
 /// Refuses labels that aren't as many as the axis has positions.
 ///
 /// # Errors
 /// `SizeConflict`.
-#[tactic(auto, unfolding(xr_types::specs::Results::unless))]
+#[tactic(auto, using(crate::proofs::Called::called_found), unfolding(xr_types::specs::Results::unless))]
 pub fn check_total(axes: &[Axis], name: &TextBytes, total: u64) -> Result<(), CallFault>
     ensures { Answers (λ u. u) result (unless (total == (axis_called axes.now name.now).size) faults.SizeConflict) }
 {
-    if total == size_called(axes, name) {
+    let size = match called(axes, name) {
+        Some(axis) => axis.size,
+        None => 0,
+    };
+    if total == size {
         Ok(())
     } else {
         Err(CallFault::Refused(Fault::SizeConflict))

@@ -20,7 +20,7 @@ ghost use Rattle.xr_values.specs.Variables.{names_of};
 ghost use Rattle.xr_building.specs.declared.puts.Put.{Put as PutOf};
 ghost use Rattle.xr_building.specs.Entries.{entry_in, entries_in, Follows, IsPlain};
 ghost use Rattle.xr_building.specs.Placing.{array_put, array_told, IsAlone};
-ghost use Rattle.xr_building.specs.Puts.{after, fits_whole, over, put_fits, put_on};
+ghost use Rattle.xr_building.specs.Puts.{after, check_put, fits_whole, over, put_fits, put_on};
 
 use crate::axes::is_dimension;
 use crate::computed::node_cells;
@@ -205,7 +205,7 @@ pub fn put_entries<R: Threads + Sync, C: Compute>(
     requires checked { all_of (check_entry axes.now) (map (with_key cx.old.plan) entries.now) ≡ Ok tt }
     ensures told { (coords : List Other) → Follows (after (over axes.now coords)) result (entries_in (C.declines cx.old.compute cx.old.plan) cx.old.plan (names_of variables.now) (over axes.now coords) entries.now) }
     ensures named { IfOk result (λ ps. list_all (λ (kv : Text × Held). is_name kv.0) entries.now ≡ true) }
-    ensures fits { IfOk result (λ ps. all_of check_numbers (map (with_key cx.old.plan) entries.now) ≡ unless (list_all put_fits ps) DoesNotFit) }
+    ensures fits { IfOk result (λ ps. all_of check_numbers (map (with_key cx.old.plan) entries.now) ≡ all_of check_put ps) }
     ensures plan { cx.new.plan ≡ cx.old.plan }
     ensures keeps { (nodes : List Node) (n : ℕ) → C.declines cx.new.compute nodes n ≡ C.declines cx.old.compute nodes n }
 {

@@ -1,11 +1,13 @@
 -- What has new labels is as it has to be.
-use Rattle.xr_changing.proofs.Common.{All, AllByRecursion, AreCells, AreIndexed, Array, Axis, Bool, Change, ContentFits, Coord, CoordFits, IsContent, IsCoordinate, IsDataArray, IsDimension, IsRenewed, List, None, Ok, Option, Some, TakesFit, TooLarge, [], among, and_parts, ap, are_distinct, are_within, arith, array_of, axis_called, axis_names, both_hold, bytes_eq, bytes_eq_swap, called_here, called_on, cases_Bool, change_called, changed_array, changed_cells, changed_content, changed_coord, check_array, cond, each_map, each_mapped, each_weaker, false, fill_along, get_or, greatest, has_hole, inl, inr, is_none, is_open, is_some, is_within, itself, leb-true, length, list_all, list_any, map, masked_along, max, most_cells, names_of, nat_le, new_axis, or_parts, or_right, passed, refl, shape_over, size, step_by, steps_along, steps_from, steps_value, subst, suc, sym, true, zero, ℕ, ℤ, ◌&&◌, ◌++◌, ◌<◌, ◌||◌, ◌∙◌, ◌∷◌, ◌≡◌, ◌≤◌}
-use Rattle.xr_defs.specs.Values as of
+use Rattle.xr_changing.proofs.Common.{All, AllByRecursion, AreCells, AreIndexed, Array, Axis, Bool, Change, ContentFits, Coord, CoordFits, IsContent, IsCoordinate, IsDimension, IsRenewed, List, None, Option, Some, TakesFit, [], among, and_parts, ap, are_distinct, are_within, arith, axis_called, axis_names, bytes_eq, bytes_eq_swap, called_here, called_on, cases_Bool, change_called, changed_cells, changed_content, changed_coord, cond, each_map, each_weaker, false, fill_along, greatest, has_hole, inl, inr, is_none, is_within, leb-true, length, list_all, map, masked_along, most_cells, names_of, nat_le, new_axis, or_parts, refl, shape_over, size, steps_along, steps_value, subst, sym, true, ℕ, ℤ, ◌&&◌, ◌++◌, ◌||◌, ◌∙◌, ◌∷◌, ◌≡◌, ◌≤◌, StepsFit, steps_cells, mul-le, length-map, ◌*◌, IsCell, Step, changed_axis, sizes_named, span, AreThere, greatest_both, front_among, sizes_again}
 use Rattle.xr_defs.specs.declared.value.Content.{Content}
 use Rattle.xr_defs.specs.declared.value.Content.TheVariants as contents
 use Rattle.xr_parts.specs.Frames.{IsThere}
+use Rattle.xr_defs.proofs.Spans.{span_above}
+use Rattle.xr_parts.proofs.Axes.{own_axes, the_axes}
+use Rattle.xr_reducing.proofs.OneVariable.{called_below, named_in}
 use Rattle.xr_changing.proofs.NewAxes.{name_kept, names_kept}
-use Rattle.xr_changing.proofs.Stepping.{all_taken, kind_along, shape_along, value_along, AreAll, AreUnder, Covers}
+use Rattle.xr_changing.proofs.Stepping.{all_along, sized_by, sizes_by, value_along, AreAll, Below}
 
 -- ---- limits
 
@@ -54,69 +56,68 @@ pub axes_renewed : (cs : List Change) (news xs : List Axis) → AllByRecursion (
 axes_renewed cs news [] all = refl
 axes_renewed cs news (x ∷ xs) all = ap (λ y. y ∷ map (λ (x : Axis). axis_called news x.name) xs) all.0 ∙ ap (λ ys. new_axis cs x ∷ ys) (axes_renewed cs news xs all.1)
 
--- ---- no missing cell comes in, unless the result is masked
-
-some_covers : (cs : List Change) (n : ℤ) (k : ℕ) (dims : List (List ℕ)) → Covers (steps_from cs (Some n) k dims)
-some_covers cs n k [] = tt
-some_covers cs n k (d ∷ dims) = by (change_called cs d) (some_covers cs n (suc k) dims)
-  where
-    by : (o : Option Change) → Covers (steps_from cs (Some n) (suc k) dims) → Covers (step_by (Some n) k o ++ steps_from cs (Some n) (suc k) dims)
-    by None rest = rest
-    by (Some c) rest = (λ i lt. or_right (is_some (get_or c.from i None)) true refl, rest)
-
-all_some : (from : List (Option ℕ)) → list_any is_none from ≡ false → (i : ℕ) → i < length from → (is_some (get_or from i None) || false) ≡ true
-all_some [] none i lt = absurd (omega arith)
-all_some (None ∷ from) none i lt = absurd cc
-all_some (Some p ∷ from) none zero lt = refl
-all_some (Some p ∷ from) none (suc i) lt = all_some from none i (omega arith)
-
-none_covers : (cs : List Change) (k : ℕ) (dims : List (List ℕ)) → has_hole cs dims ≡ false → Covers (steps_from cs None k dims)
-none_covers cs k [] e = tt
-none_covers cs k (d ∷ dims) e =
-    let parts = or_parts (is_open (change_called cs d)) (has_hole cs dims) e in
-    by (change_called cs d) parts.0 (none_covers cs (suc k) dims parts.1)
-  where
-    by : (o : Option Change) → is_open o ≡ false → Covers (steps_from cs None (suc k) dims) → Covers (step_by None k o ++ steps_from cs None (suc k) dims)
-    by None e rest = rest
-    by (Some c) e rest = (all_some c.from e, rest)
-
-covers : (cs : List Change) (fill : Option ℤ) (dims : List (List ℕ)) → (has_hole cs dims && is_none fill) ≡ false → Covers (steps_along cs fill dims)
-covers cs fill dims e = by (has_hole cs dims) fill refl e
-  where
-    by : (h : Bool) (f : Option ℤ) → has_hole cs dims ≡ h → (h && is_none f) ≡ false → Covers (steps_from cs (cond h f None) 0 dims)
-    by true (Some n) is e = some_covers cs n 0 dims
-    by true None is e = absurd cc
-    by false f is e = none_covers cs 0 dims is
-
 -- ---- cells along new axes
 
-module _ (cs : List Change) (fill : Option ℤ) (xs : List Axis) (a : Array) (masked : Bool) (fit : TakesFit (steps_along cs fill (axis_names xs)) a.shape a.kind) (shape : a.shape ≡ shape_over xs)
-    (is : AreCells (shape_over xs) a.kind masked a.cells) where
-  abbrev after : Array
-  after = changed_cells cs (axis_names xs) fill a
+-- the cells that steps make, of sizes that become others
+pub record IsChangedTo (masked : Bool) (ss : List Step) (a after : Array) (ns ms : List ℕ) : Type 0 where
+  pub value : steps_value ss a ≡ after
+  pub shape : after.shape ≡ ms
+  pub kind : after.kind ≡ a.kind
+  pub cells : is_within ms ≡ true → AreCells ms a.kind masked after.cells
+  pub fits : StepsFit ss a
+  pub few : (ws : List ℕ) → Below ns ws → Below ms ws → steps_cells ss a ≤ 16 * size ws
 
-  abbrev hides : Bool
-  hides = masked_along cs (axis_names xs) fill masked
+filled : (cs : List Change) (fill : Option ℤ) (dims : List (List ℕ)) → (has_hole cs dims && is_none fill) ≡ false → (has_hole cs dims && is_none (fill_along cs dims fill)) ≡ false
+filled cs fill dims e = by (has_hole cs dims) e
+  where
+    by : (b : Bool) → (b && is_none fill) ≡ false → (b && is_none (cond b fill None)) ≡ false
+    by true e = e
+    by false e = refl
 
-  pub after_value : steps_value (steps_along cs fill (axis_names xs)) a ≡ after
-  after_value = value_along cs (fill_along cs (axis_names xs) fill) 0 (axis_names xs) a
+pub changed_to : (cs : List Change) (fill : Option ℤ) (dims : List (List ℕ)) (ns ms : List ℕ) (masked : Bool) (a : Array) → length dims ≡ length ns → sizes_by cs dims ns ≡ ms → a.shape ≡ ns → AreCells ns a.kind masked a.cells → TakesFit (steps_along cs fill dims) ns a.kind
+    → IsChangedTo (masked_along cs dims fill masked) (steps_along cs fill dims) a (changed_cells cs dims fill a) ns ms
+changed_to cs fill dims ns ms masked a long sizes shape is fit =
+    let hides = masked_along cs dims fill masked in
+    let ss = steps_along cs fill dims in
+    let plain = λ (e : hides ≡ false). or_parts masked (has_hole cs dims && is_none fill) e in
+    let rank = ap length shape in
+    let low = is.low_rank in
+    let r = all_along cs (fill_along cs dims fill) hides dims ns long (λ e. filled cs fill dims (plain e).1) [] 0 a refl shape (omega arith) (subst (λ s. TakesFit ss s a.kind) (sym shape) fit)
+    (record { whole = is.whole ∙ ap size (sym shape); range = is.range; seen = λ e. is.seen (plain e).0 }) in
+    let value : steps_value ss a ≡ changed_cells cs dims fill a = value_along cs (fill_along cs dims fill) 0 dims a in
+    let there : (changed_cells cs dims fill a).shape ≡ ms = ap (λ (b : Array). b.shape) (sym value) ∙ r.shape ∙ sizes in
+    let kind : (changed_cells cs dims fill a).kind ≡ a.kind = ap (λ (b : Array). b.kind) (sym value) ∙ r.kind in
+    let all = subst (AreAll hides) value r.all in
+    record {
+      value = value;
+      shape = there;
+      kind = kind;
+      cells = λ e. let limits = within ms e in record { whole = all.whole ∙ ap size there; range = subst (λ t. All (IsCell t) (changed_cells cs dims fill a).cells) kind all.range; seen = all.seen; low_rank = limits.rank; few = limits.few };
+      fits = r.fits;
+      few = λ ws old new.
+          let few = r.few ws old (subst (λ s. Below s ws) (sym sizes) new) in
+          let up = mul-le (length ns) (size ws) 16 (size ws) low (omega arith) in
+          let one : 1 * size ws ≡ size ws = grind arith in
+          let same : length ns * (1 * size ws) ≡ length ns * size ws = ap (λ t. length ns * t) one in
+          omega (arith, few, up, same);
+    }
 
-  pub after_shape : after.shape ≡ shape_over (map (new_axis cs) xs)
-  after_shape = shape_along cs (fill_along cs (axis_names xs) fill) [] 0 xs a refl shape
+pub one_size : (cs : List Change) (x : Axis) → sized_by (change_called cs x.name) x.size ≡ (new_axis cs x).size
+one_size cs x = by (change_called cs x.name)
+  where
+    by : (o : Option Change) → sized_by o x.size ≡ (changed_axis x o).size
+    by None = refl
+    by (Some c) = refl
 
-  pub after_kind : after.kind ≡ a.kind
-  after_kind = kind_along cs (fill_along cs (axis_names xs) fill) 0 (axis_names xs) a
+axis_sizes : (cs : List Change) (xs : List Axis) → sizes_by cs (axis_names xs) (shape_over xs) ≡ shape_over (map (new_axis cs) xs)
+axis_sizes cs [] = refl
+axis_sizes cs (x ∷ xs) = ap (λ n. n ∷ sizes_by cs (axis_names xs) (shape_over xs)) (one_size cs x) ∙ ap (λ ns. (new_axis cs x).size ∷ ns) (axis_sizes cs xs)
 
-  before : AreAll hides a
-  before = record { whole = is.whole ∙ ap size (sym shape); range = is.range; seen = λ plain. is.seen (or_parts masked (has_hole cs (axis_names xs) && is_none fill) plain).0 }
-
-  whole_after : AreAll hides after
-  whole_after = subst (AreAll hides) after_value (all_taken (steps_along cs fill (axis_names xs)) a hides fit (λ plain. covers cs fill (axis_names xs) (or_parts masked (has_hole cs (axis_names xs) && is_none fill) plain).1) before)
-
-  pub after_cells : is_within (shape_over (map (new_axis cs) xs)) ≡ true → AreCells (shape_over (map (new_axis cs) xs)) a.kind hides after.cells
-  after_cells e =
-      let limits = within (shape_over (map (new_axis cs) xs)) e in
-      record { whole = whole_after.whole ∙ ap size after_shape; range = subst (λ t. All (Rattle.xr_arrays.specs.Arrays.IsCell t) after.cells) after_kind whole_after.range; seen = whole_after.seen; low_rank = limits.rank; few = limits.few }
+-- of an array over axes
+pub changed_over : (cs : List Change) (fill : Option ℤ) (xs : List Axis) (masked : Bool) (a : Array) → a.shape ≡ shape_over xs → AreCells (shape_over xs) a.kind masked a.cells → TakesFit (steps_along cs fill (axis_names xs)) (shape_over xs) a.kind
+    → IsChangedTo (masked_along cs (axis_names xs) fill masked) (steps_along cs fill (axis_names xs)) a (changed_cells cs (axis_names xs) fill a) (shape_over xs) (shape_over (map (new_axis cs) xs))
+changed_over cs fill xs masked a shape is fit =
+    changed_to cs fill (axis_names xs) (shape_over xs) (shape_over (map (new_axis cs) xs)) masked a (length-map xs (λ (x : Axis). x.name) ∙ sym (length-map xs (λ (x : Axis). x.size))) (axis_sizes cs xs) shape is fit
 
 -- ---- coordinates
 
@@ -127,7 +128,8 @@ no_axes cs (x ∷ xs) e = absurd cc
 content_formed : (cs : List Change) (fill : Option ℤ) (xs : List Axis) (c : Content) → ContentFits cs fill (axis_names xs) c → IsContent (shape_over xs) c → is_within (shape_over (map (new_axis cs) xs)) ≡ true
     → IsContent (shape_over (map (new_axis cs) xs)) (changed_content cs (axis_names xs) fill c)
 content_formed cs fill xs (contents.Cells a masked) fit is e =
-    (after_shape cs fill xs a masked fit is.0 is.1, subst (λ t. AreCells (shape_over (map (new_axis cs) xs)) t (masked_along cs (axis_names xs) fill masked) (changed_cells cs (axis_names xs) fill a).cells) (sym (after_kind cs fill xs a masked fit is.0 is.1)) (after_cells cs fill xs a masked fit is.0 is.1 e))
+    let to = changed_over cs fill xs masked a is.0 is.1 (subst (λ s. TakesFit (steps_along cs fill (axis_names xs)) s a.kind) is.0 fit) in
+    (to.shape, subst (λ t. AreCells (shape_over (map (new_axis cs) xs)) t (masked_along cs (axis_names xs) fill masked) (changed_cells cs (axis_names xs) fill a).cells) (sym to.kind) (to.cells e))
 content_formed cs fill xs (contents.Text t) fit is e = no_axes cs xs is
 content_formed cs fill xs (contents.Time coding t) fit is e = (no_axes cs xs is.0, is.1)
 
@@ -159,43 +161,21 @@ pub coord_names : (cs : List Change) (fill : Option ℤ) (coords : List Coord) �
 coord_names cs fill [] = refl
 coord_names cs fill (c ∷ coords) = ap (λ ns. c.name ∷ ns) (coord_names cs fill coords)
 
--- ---- arrays
+-- ---- no size on the way is greater than that of an old or of a new axis
 
-pub array_formed : (cs : List Change) (fill : Option ℤ) (a : of.DataArray) → IsDataArray a → AreIndexed cs a.axes → AllByRecursion (CoordFits cs fill) a.coords → TakesFit (steps_along cs fill (axis_names a.axes)) (shape_over a.axes) a.kind
-    → check_array (changed_array cs fill a) ≡ Ok tt → IsDataArray (changed_array cs fill a)
-unfolding check_array
-array_formed cs fill a is indexed coords fit check =
-    let parts = and_parts (is_within (shape_over (map (new_axis cs) a.axes))) (are_within (map (changed_coord cs fill) a.coords)) (passed (is_within (shape_over (map (new_axis cs) a.axes)) && are_within (map (changed_coord cs fill) a.coords)) TooLarge check) in
-    let limits = within (shape_over (map (new_axis cs) a.axes)) parts.0 in
-    record {
-      name = is.name;
-      axes = record { each = new_dims cs a.axes is.axes.each indexed limits.short; distinct = ap are_distinct (names_kept cs a.axes) ∙ is.axes.distinct };
-      coords = coords_formed cs fill a.axes a.coords is.coords coords parts.1;
-      distinct = ap (λ ns. are_distinct (ns ++ names_of (map (changed_coord cs fill) a.coords))) (names_kept cs a.axes) ∙ ap (λ ns. are_distinct (axis_names a.axes ++ ns)) (coord_names cs fill a.coords) ∙ is.distinct;
-      attrs = is.attrs;
-      cells = after_cells cs fill a.axes (array_of a) a.masked fit refl is.cells parts.0;
-    }
+named_below : (g axes : List Axis) (dims : List (List ℕ)) → ((n : List ℕ) → greatest axes n ≤ greatest g n) → Below (sizes_named axes dims) (map (greatest g) dims)
+named_below g axes [] up = tt
+named_below g axes (d ∷ dims) up = let one = called_below axes d in let more = up d in (omega arith, named_below g axes dims up)
 
--- ---- no size is greater than that of an old or of a new axis
+pub few_both : (axes news : List Axis) (dims : List (List ℕ)) (cells : ℕ) → ((ws : List ℕ) → Below (sizes_named axes dims) ws → Below (sizes_named news dims) ws → cells ≤ 16 * size ws) → are_distinct dims ≡ true → AreThere (axis_names axes) dims → cells ≤ 16 * span (axes ++ news)
+few_both axes news dims cells few distinct there =
+    let g = axes ++ news in
+    let old = named_below g axes dims (λ n. let both = greatest_both axes news n in omega arith) in
+    let new = named_below g news dims (λ n. let both = greatest_both axes news n in omega arith) in
+    let some = few (map (greatest g) dims) old new in
+    let up = span_above (greatest g) dims g distinct (λ n e. front_among axes news n (named_in axes dims n there e)) (λ n. omega arith) in
+    omega (arith, some, up)
 
-first_below : (x : Axis) (xs : List Axis) → x.size ≤ greatest (x ∷ xs) x.name
-first_below x xs = rw (itself x.name) (omega arith)
-
-rest_below : (x : Axis) (xs : List Axis) (n : List ℕ) → greatest xs n ≤ greatest (x ∷ xs) n
-rest_below x xs n = by (bytes_eq n x.name) (greatest xs n)
-  where
-    by : (b : Bool) (m : ℕ) → m ≤ cond b (max x.size m) m
-    by true m = omega arith
-    by false m = omega arith
-
-pub each_below : (g xs : List Axis) → ((n : List ℕ) → greatest xs n ≤ greatest g n) → AllByRecursion (λ (x : Axis). x.size ≤ greatest g x.name) xs
-each_below g [] up = tt
-each_below g (x ∷ xs) up =
-    let here = first_below x xs in
-    let more = up x.name in
-    (omega arith, each_below g xs (λ n. let rest = rest_below x xs n in let on = up n in omega arith))
-
-pub under_own : (g : List Axis) (cs : List Change) (xs : List Axis) → ((n : List ℕ) → greatest xs n ≤ greatest g n) → ((n : List ℕ) → greatest (map (new_axis cs) xs) n ≤ greatest g n) → AreUnder g cs xs
-under_own g cs xs olds news =
-    both_hold (λ (x : Axis). x.size ≤ greatest g x.name) (λ (x : Axis). (new_axis cs x).size ≤ greatest g (new_axis cs x).name) (λ (x : Axis). (x.size ≤ greatest g x.name) × ((new_axis cs x).size ≤ greatest g x.name)) xs
-    (λ x old new. (old, subst (λ n. (new_axis cs x).size ≤ greatest g n) (name_kept cs x) new)) (each_below g xs olds) (each_mapped (λ (x : Axis). x.size ≤ greatest g x.name) (new_axis cs) xs (each_below g (map (new_axis cs) xs) news))
+-- axes whose names differ have the sizes of their names
+pub own_sizes : (xs : List Axis) → are_distinct (axis_names xs) ≡ true → sizes_named xs (axis_names xs) ≡ shape_over xs
+own_sizes xs distinct = sym (sizes_again xs (axis_names xs)) ∙ ap shape_over (the_axes xs xs (own_axes xs distinct))

@@ -1,88 +1,77 @@
--- Cells and arrays of a plan at new labels.
-use Rattle.xr_changing.proofs.Common.{AddsAtMost, AllByRecursion, AreIndexed, Array, Attr, Axis, Bool, ChainFits, Change, Coord, CoordFits, DType, IsArrayIn, IsChanged, IsDataArray, IsNodeOf, IsValueOf, List, Node, Ok, Option, Step, TakesFit, [], adds_up, ap, arith, array_in, array_of, axis_names, chain_value, changed_array, changed_cells, changed_coord, check_array, fill_along, front_among, greatest_both, length, length-map, map, masked_along, mul-le, new_axis, refl, shape_over, span, steps_along, steps_cells, subst, sym, value, ℕ, ℤ, ◌*◌, ◌++◌, ◌∙◌, ◌≡◌, ◌≤◌}
+-- Arrays of a plan at new labels.
+use Rattle.xr_changing.proofs.Common.{AddsAtMost, Array, Axis, Change, IsArrayIn, IsChanged, IsDataArray, IsValueOf, List, Node, Ok, Option, TooLarge, adds_up, and_parts, ap, are_distinct, are_within, arith, array_in, array_of, axis_names, changed_array, changed_cells, changed_coord, check_array, is_within, map, masked_along, names_of, new_axis, passed, refl, shape_over, sizes_named, span, steps_along, steps_cells, subst, sym, value, ℕ, ℤ, ◌&&◌, ◌*◌, ◌++◌, ◌∙◌, ◌≡◌, ◌≤◌}
 use Rattle.xr_defs.specs.Values as of
 use Rattle.xr_values.specs.declared.data_array.DataArray.{DataArray}
 use Rattle.xr_values.proofs.Grown.{array_value}
-use Rattle.xr_formulas.specs.declared.chain.Start.TheVariants as starts
-use Rattle.xr_changing.proofs.Formed.{after_kind, after_shape, array_formed, under_own}
-use Rattle.xr_changing.proofs.Stepping.{fits_plan, room_along, under_span, value_along}
+use Rattle.xr_formulas.specs.Mades.{formula_cells, formula_value, FormulaFits}
+use Rattle.xr_formulas.specs.declared.made.Made.{Made}
+use Rattle.xr_parts.proofs.Idle.{own_names}
+use Rattle.xr_changing.specs.Made.{array_made, ArrayFits}
+use Rattle.xr_changing.proofs.Formed.{changed_over, coord_names, coords_formed, few_both, new_dims, own_sizes, within, IsChangedTo}
+use Rattle.xr_changing.proofs.NewAxes.{names_kept}
+use Rattle.xr_changing.proofs.Stepping.{Below}
 
--- ---- cells
-
-pub chain_fits : (nodes : List Node) (n : ℕ) (shape : List ℕ) (kind : DType) (ss : List Step) → IsNodeOf nodes n shape kind → TakesFit ss shape kind → length shape ≤ 16 → ChainFits nodes (record { start = starts.Node n; steps = ss })
-chain_fits nodes n shape kind ss node fit low = record {
-  start = node.placed;
-  steps = fits_plan ss (value nodes n) (subst (λ s. TakesFit ss s (value nodes n).kind) (sym node.has_shape) (subst (TakesFit ss shape) (sym node.has_kind) fit)) (let e = ap length node.has_shape in omega arith);
-}
-
-pub value_told : (old new : List Node) (cs : List Change) (fill : Option ℤ) (dims : List (List ℕ)) (n m : ℕ) → IsValueOf new (chain_value old (record { start = starts.Node n; steps = steps_along cs fill dims })) m
-    → IsValueOf new (changed_cells cs dims fill (value old n)) m
-value_told old new cs fill dims n m is = subst (λ v. IsValueOf new v m) (value_along cs (fill_along cs dims fill) 0 dims (value old n)) is
-
--- ---- arrays
-
-module _ (old new : List Node) (cs : List Change) (fill : Option ℤ) (a : DataArray) (is : IsArrayIn old a) where
+module _ (nodes : List Node) (cs : List Change) (fill : Option ℤ) (a : DataArray) (is : IsArrayIn nodes a) (fits : ArrayFits cs fill a) where
   abbrev own : of.DataArray
-  own = array_in old a
+  own = array_in nodes a
 
   abbrev means : of.DataArray
   means = changed_array cs fill own
 
-  abbrev placed : ℕ → DataArray
-  placed n = record {
-    name = a.name;
-    axes = map (new_axis cs) a.axes;
-    kind = a.kind;
-    masked = masked_along cs (axis_names a.axes) fill a.masked;
-    attrs = a.attrs;
-    coords = map (changed_coord cs fill) a.coords;
-    node = n;
-  }
+  abbrev names : List (List ℕ)
+  names = axis_names a.axes
 
-  module _ (indexed : AreIndexed cs a.axes) (coords : AllByRecursion (CoordFits cs fill) a.coords) (fit : TakesFit (steps_along cs fill (axis_names a.axes)) (shape_over a.axes) a.kind) (check : check_array means ≡ Ok tt) (n : ℕ)
-      (told : IsValueOf new (changed_cells cs (axis_names a.axes) fill (value old a.node)) n) (adds : AddsAtMost old new (steps_cells (steps_along cs fill (axis_names a.axes)) (value old a.node))) where
-    abbrev g : List Axis
-    g = a.axes ++ map (new_axis cs) a.axes
+  abbrev news : List Axis
+  news = map (new_axis cs) a.axes
 
-    value_is : value new n ≡ changed_cells cs (axis_names a.axes) fill (array_of own)
-    value_is = told.is ∙ ap (changed_cells cs (axis_names a.axes) fill) (array_value old a is)
+  abbrev To : Array → Type 0
+  To v = IsChangedTo (masked_along cs names fill a.masked) (steps_along cs fill names) v (changed_cells cs names fill v) (shape_over a.axes) (shape_over news)
 
-    same : array_in new (placed n) ≡ means
-    same = ap (λ (v : Array). record means { cells = v.cells }) value_is
+  of_own : To (array_of own)
+  of_own = changed_over cs fill a.axes a.masked (array_of own) refl is.formed.cells fits.cells
 
-    few : steps_cells (steps_along cs fill (axis_names a.axes)) (value old a.node) ≤ length a.axes * span g
-    few =
-        room_along g cs (fill_along cs (axis_names a.axes) fill) (span g) [] [] 0 a.axes (value old a.node) refl is.node.has_shape tt
-        (under_own g cs a.axes (λ n. let both = greatest_both a.axes (map (new_axis cs) a.axes) n in omega arith) (λ n. let both = greatest_both a.axes (map (new_axis cs) a.axes) n in omega arith))
-        (λ ns u. under_span g (axis_names a.axes) ns is.formed.axes.distinct (front_among a.axes (map (new_axis cs) a.axes)) u)
+  of_node : To (value nodes a.node)
+  of_node = subst To (sym (array_value nodes a is)) of_own
 
-    pub array_placed : IsChanged old new means own (placed n)
-    array_placed =
-        let rank : length (shape_over a.axes) ≡ length a.axes = length-map a.axes (λ (x : Axis). x.size) in
-        let low = is.formed.cells.low_rank in
-        let up = mul-le (length a.axes) (span g) 16 (span g) (omega arith) (omega arith) in
-        let most = few in
-        record {
-          is = same;
-          inside = record {
-            node = record {
-              placed = told.inside;
-              has_shape = ap (λ (v : Array). v.shape) value_is ∙ after_shape cs fill a.axes (array_of own) a.masked fit refl is.formed.cells;
-              has_kind = ap (λ (v : Array). v.kind) value_is ∙ after_kind cs fill a.axes (array_of own) a.masked fit refl is.formed.cells;
-            };
-            formed = subst IsDataArray (sym same) (array_formed cs fill own is.formed indexed coords fit check);
-          };
-          space = adds_up old new (steps_cells (steps_along cs fill (axis_names a.axes)) (value old a.node)) (16 * span g) (omega arith) adds;
-        }
+  formed : check_array means ≡ Ok tt → IsDataArray means
+  unfolding check_array
+  formed check =
+      let parts = and_parts (is_within (shape_over news)) (are_within means.coords) (passed (is_within (shape_over news) && are_within means.coords) TooLarge check) in
+      record {
+        name = is.formed.name;
+        axes = record { each = new_dims cs a.axes is.formed.axes.each fits.indexed (within (shape_over news) parts.0).short; distinct = ap are_distinct (names_kept cs a.axes) ∙ is.formed.axes.distinct };
+        coords = coords_formed cs fill a.axes a.coords is.formed.coords fits.coords parts.1;
+        distinct = ap (λ ns. are_distinct (ns ++ names_of means.coords)) (names_kept cs a.axes) ∙ ap (λ ns. are_distinct (names ++ ns)) (coord_names cs fill a.coords) ∙ is.formed.distinct;
+        attrs = is.formed.attrs;
+        cells = of_own.cells parts.0;
+      }
 
--- the same, by what the parts are
-pub placed_told : (old new : List Node) (cs : List Change) (fill : Option ℤ) (a : DataArray) → IsArrayIn old a → check_array (changed_array cs fill (array_in old a)) ≡ Ok tt
-    → (mine : List Axis) (names : List (List ℕ)) (shape : List ℕ) (others : List Coord) → mine ≡ a.axes → names ≡ axis_names mine → shape ≡ shape_over mine → others ≡ a.coords
-    → AreIndexed cs mine → AllByRecursion (CoordFits cs fill) others → TakesFit (steps_along cs fill names) shape a.kind
-    → (name : Option (List ℕ)) (axes : List Axis) (masked : Bool) (attrs : List Attr) (coords : List Coord) (n : ℕ)
-    → name ≡ a.name → axes ≡ map (new_axis cs) mine → masked ≡ masked_along cs names fill a.masked → attrs ≡ a.attrs → coords ≡ map (changed_coord cs fill) others
-    → IsValueOf new (changed_cells cs names fill (value old a.node)) n → AddsAtMost old new (steps_cells (steps_along cs fill names) (value old a.node))
-    → IsChanged old new (changed_array cs fill (array_in old a)) (array_in old a) (record { name = name; axes = axes; kind = a.kind; masked = masked; attrs = attrs; coords = coords; node = n })
-placed_told old new cs fill a is check mine names shape others o ns s os indexed fits fit name axes masked attrs coords n e1 e2 e3 e4 e5 told adds =
-    rw (e1, e2, e3, e4, e5, ns, os, o)
-    (array_placed old new cs fill a is (rw o at indexed) (rw os at fits) (rw (s, ns, o) at fit) check n (rw (ns, o) at told) (rw (ns, o) at adds))
+  few : steps_cells (steps_along cs fill names) (value nodes a.node) ≤ 16 * span (a.axes ++ news)
+  few =
+      let distinct = is.formed.axes.distinct in
+      let kept = names_kept cs a.axes in
+      let olds = own_sizes a.axes distinct in
+      let sizes = subst (λ ns. sizes_named news ns ≡ shape_over news) kept (own_sizes news (ap are_distinct kept ∙ distinct)) in
+      few_both a.axes news names (steps_cells (steps_along cs fill names) (value nodes a.node)) (λ ws old new. of_node.few ws (subst (λ s. Below s ws) olds old) (subst (λ s. Below s ws) sizes new)) distinct (own_names names)
+
+  pub made_fits : (m : Made) → m ≡ array_made cs fill a → FormulaFits nodes m.cells
+  made_fits m e = rw e (record { start = is.node.placed; steps = of_node.fits })
+
+  pub array_placed : (m : Made) → m ≡ array_made cs fill a → check_array means ≡ Ok tt → (new : List Node) (n : ℕ) → IsValueOf new (formula_value nodes m.cells) n → AddsAtMost nodes new (formula_cells nodes m.cells)
+      → IsChanged nodes new means own (record { name = m.name; axes = m.axes; kind = m.kind; masked = m.masked; attrs = m.attrs; coords = m.coords; node = n })
+  array_placed m e check new n told adds =
+      let there : value new n ≡ changed_cells cs names fill (value nodes a.node) = told.is ∙ ap (λ (m : Made). formula_value nodes m.cells) e ∙ of_node.value in
+      let cells = ap (λ (m : Made). formula_cells nodes m.cells) e in
+      let most = few in
+      let same : array_in new (made_at n) ≡ means = ap (λ (v : Array). record means { cells = v.cells }) (there ∙ ap (changed_cells cs names fill) (array_value nodes a is)) in
+      rw e (record {
+        is = same;
+        inside = record {
+          node = record { placed = told.inside; has_shape = ap (λ (v : Array). v.shape) there ∙ of_node.shape; has_kind = ap (λ (v : Array). v.kind) there ∙ of_node.kind ∙ is.node.has_kind };
+          formed = subst IsDataArray (sym same) (formed check);
+        };
+        space = adds_up nodes new (formula_cells nodes m.cells) (16 * span (a.axes ++ news)) (omega (arith, cells, most)) adds;
+      })
+    where
+      made_at : ℕ → DataArray
+      made_at n = record { name = a.name; axes = news; kind = a.kind; masked = masked_along cs names fill a.masked; attrs = a.attrs; coords = map (changed_coord cs fill) a.coords; node = n }

@@ -1,8 +1,8 @@
 -- What the steps to new labels make of cells.
-use Rattle.xr_changing.proofs.Common.{All, AllByRecursion, AreAmong, Array, Axis, Bool, Change, IsBelow, IsCell, IsPoint, List, None, Option, Some, Step, StepsFit, TakesFit, [], along, ap, append_assoc, are_distinct, arith, axis_names, cells_along, cells_by, change_called, changed_axis, false, from_source, get_or, greatest, is_some, length, length-append, length-set, lit<, map, mul-le, new_axis, place, refl, set, shape_over, size, span, span_above, step_by, steps_cells, steps_from, steps_value, subst, suc, sym, taken_from, true, zero, ℕ, ℤ, ⊤, ◌*◌, ◌++◌, ◌+◌, ◌<◌, ◌||◌, ◌∙◌, ◌∷◌, ◌≡◌, ◌≤◌}
+use Rattle.xr_changing.proofs.Common.{All, Array, Bool, Change, IsBelow, IsCell, IsPoint, List, None, Option, Some, Step, StepsFit, TakesFit, [], along, ap, append_assoc, arith, cells_along, cells_by, change_called, false, from_source, get_or, is_some, length, length-append, length-set, lit<, mul-le, place, refl, set, size, step_by, steps_cells, steps_from, steps_value, subst, suc, sym, taken_from, true, zero, ℕ, ℤ, ⊤, ◌*◌, ◌++◌, ◌+◌, ◌<◌, ◌||◌, ◌∙◌, ◌∷◌, ◌≡◌, ◌≤◌, is_none, is_open, has_hole, or_right, list_any, ◌&&◌}
 use Rattle.std.proofs.Math.Seq.{set-append_seam}
 use Rattle.plan_core.proofs.Tabs.{All-tab, place_below, tab-length}
-use Rattle.xr_formulas.specs.declared.chain.Step.TheVariants.{Take, Unary, Widen, Reorder, Fold, Scan}
+use Rattle.std.proofs.Math.Nat.{mul_assoc}
 
 -- ---- the steps make the cells along the new axes
 
@@ -15,30 +15,6 @@ value_along cs fill k (d ∷ dims) a = by (change_called cs d) (value_along cs f
     by None rest = rest a
     by (Some c) rest = rest (taken_from a k c.from fill)
 
-pub kind_along : (cs : List Change) (fill : Option ℤ) (k : ℕ) (dims : List (List ℕ)) (a : Array) → (cells_along cs fill k dims a).kind ≡ a.kind
-kind_along cs fill k [] a = refl
-kind_along cs fill k (d ∷ dims) a = kind_along cs fill (suc k) dims (cells_by fill a k (change_called cs d)) ∙ by (change_called cs d)
-  where
-    by : (o : Option Change) → (cells_by fill a k o).kind ≡ a.kind
-    by None = refl
-    by (Some c) = refl
-
--- ---- a plan takes them
-
-pub fits_plan : (ss : List Step) (a : Array) → TakesFit ss a.shape a.kind → length a.shape ≤ 16 → StepsFit ss a
-fits_plan [] a fit low = tt
-fits_plan (Take k from fill true ∷ ss) a fit low = absurd (let e = fit.0 in cc)
-fits_plan (Take k from fill false ∷ ss) a fit low =
-    let rank : length (set a.shape k (length from)) ≡ length a.shape = length-set a.shape k (length from) in (
-      record { fits = (lit< tt, fit.1.axis, fit.1.below, fit.1.cell, λ e. absurd cc); small = fit.1.small; low_rank = omega arith },
-      fits_plan ss (taken_from a k from fill) fit.2 (omega arith),
-    )
-fits_plan (Unary op kind ∷ ss) a fit low = absurd fit
-fits_plan (Widen k n ∷ ss) a fit low = absurd fit
-fits_plan (Reorder order ∷ ss) a fit low = absurd fit
-fits_plan (Fold fold feeds ∷ ss) a fit low = absurd fit
-fits_plan (Scan fold k ∷ ss) a fit low = absurd fit
-
 -- ---- cells of the kind, missing only where they were or where a missing one fills
 
 -- a cell of the kind for each point, and none that is missing unless the array is masked
@@ -46,12 +22,6 @@ pub record AreAll (masked : Bool) (a : Array) : Type 0 where
   pub whole : length a.cells ≡ size a.shape
   pub range : All (IsCell a.kind) a.cells
   pub seen : masked ≡ false → All (λ c. is_some c ≡ true) a.cells
-
--- each position shows an old one, or a number
-abbrev pub Covers : List Step → Type 0
-Covers [] = ⊤
-Covers (Take k from fill drops ∷ ss) = ((i : ℕ) → i < length from → (is_some (get_or from i None) || is_some fill) ≡ true) × Covers ss
-Covers (step ∷ ss) = ⊥
 
 pub axis_below : (s : List ℕ) (axis n : ℕ) (p : List ℕ) → axis < length s → IsPoint (set s axis n) p → get_or p axis 0 < n
 axis_below [] axis n p lt inside = absurd (omega arith)
@@ -99,95 +69,104 @@ module _ (a : Array) (masked : Bool) (is : AreAll masked a) (k : ℕ) (from : Li
     seen = λ plain. All-tab (λ c. is_some c ≡ true) to (λ p. shown p (source p)) (λ p here. seen plain p here (source p) (source_below p here) (covers plain (get_or p k 0) (axis_below a.shape k (length from) p lt here)));
   }
 
-pub all_taken : (ss : List Step) (a : Array) (masked : Bool) → TakesFit ss a.shape a.kind → (masked ≡ false → Covers ss) → AreAll masked a → AreAll masked (steps_value ss a)
-all_taken [] a masked fit covers is = is
-all_taken (Take k from fill true ∷ ss) a masked fit covers is = absurd (let e = fit.0 in cc)
-all_taken (Take k from fill false ∷ ss) a masked fit covers is =
-    all_taken ss (taken_from a k from fill) masked fit.2 (λ plain. (covers plain).1) (taken_all a masked is k from fill fit.1.axis fit.1.below fit.1.cell (λ plain. (covers plain).0))
-all_taken (Unary op kind ∷ ss) a masked fit covers is = absurd fit
-all_taken (Widen k n ∷ ss) a masked fit covers is = absurd fit
-all_taken (Reorder order ∷ ss) a masked fit covers is = absurd fit
-all_taken (Fold fold feeds ∷ ss) a masked fit covers is = absurd fit
-all_taken (Scan fold k ∷ ss) a masked fit covers is = absurd fit
-
 -- ---- sizes
 
-next_axis : (s1 : List ℕ) (n : ℕ) → length (s1 ++ n ∷ []) ≡ suc (length s1)
-next_axis s1 n = let e = length-append s1 (n ∷ []) in omega arith
+-- none of them greater
+abbrev pub Below : List ℕ → List ℕ → Type 0
+Below [] [] = ⊤
+Below (n ∷ ns) (w ∷ ws) = (n ≤ w) × Below ns ws
+Below ns ws = ⊥
 
-pub shape_along : (cs : List Change) (fill : Option ℤ) (s1 : List ℕ) (k : ℕ) (xs : List Axis) (a : Array) → k ≡ length s1 → a.shape ≡ s1 ++ shape_over xs → (cells_along cs fill k (axis_names xs) a).shape ≡ s1 ++ shape_over (map (new_axis cs) xs)
-shape_along cs fill s1 k [] a e shape = shape
-shape_along cs fill s1 k (x ∷ xs) a e shape = by (change_called cs x.name) (λ s j b. shape_along cs fill s j xs b)
+below_size : (ns ws : List ℕ) → Below ns ws → size ns ≤ size ws
+below_size [] [] all = omega arith
+below_size [] (w ∷ ws) all = absurd all
+below_size (n ∷ ns) [] all = absurd all
+below_size (n ∷ ns) (w ∷ ws) all = mul-le n (size ns) w (size ws) all.0 (below_size ns ws all.1)
+
+size_both : (s t : List ℕ) → size (s ++ t) ≡ size s * size t
+size_both [] t = omega arith
+size_both (n ∷ s) t = ap (λ m. n * m) (size_both s t) ∙ sym (mul_assoc n (size s) (size t))
+
+-- along dimensions of these names
+abbrev pub sized_by : Option Change → ℕ → ℕ
+sized_by None n = n
+sized_by (Some c) n = length c.from
+
+abbrev pub sizes_by : List Change → List (List ℕ) → List ℕ → List ℕ
+sizes_by cs (d ∷ dims) (n ∷ ns) = sized_by (change_called cs d) n ∷ sizes_by cs dims ns
+sizes_by cs dims ns = []
+
+-- ---- what steps make of cells, along dimensions behind others
+
+-- of sizes that become others
+pub record IsAlong (masked : Bool) (ss : List Step) (a : Array) (front ns ms : List ℕ) : Type 0 where
+  pub shape : (steps_value ss a).shape ≡ front ++ ms
+  pub kind : (steps_value ss a).kind ≡ a.kind
+  pub fits : StepsFit ss a
+  pub all : AreAll masked (steps_value ss a)
+  pub few : (ws : List ℕ) → Below ns ws → Below ms ws → steps_cells ss a ≤ length ns * (size front * size ws)
+
+abbrev Goes : Bool → (ℕ → List Step) → List ℕ → List ℕ → Type 0
+Goes masked ss ns ms = (front : List ℕ) (k : ℕ) (a : Array) → k ≡ length front → a.shape ≡ front ++ ns → length a.shape ≤ 16 → TakesFit (ss k) a.shape a.kind → AreAll masked a → IsAlong masked (ss k) a front ns ms
+
+few_more : (front ns ms : List ℕ) (n m first rest : ℕ) → first ≤ size (front ++ m ∷ ns) → ((ws : List ℕ) → Below ns ws → Below ms ws → rest ≤ length ns * (size (front ++ m ∷ []) * size ws)) → (ws : List ℕ) → Below (n ∷ ns) ws → Below (m ∷ ms) ws
+    → first + rest ≤ suc (length ns) * (size front * size ws)
+few_more front ns ms n m first rest one more [] old new = absurd old
+few_more front ns ms n m first rest one more (w ∷ ws) old new =
+    let p = size front in
+    let q = size ws in
+    let turned : size (front ++ m ∷ []) * q ≡ p * (m * q) = ap (λ t. t * q) (size_both front (m ∷ [])) ∙ grind arith in
+    let le = subst (λ t. rest ≤ length ns * t) turned (more ws old.1 new.1) in
+    let wide = mul-le p (m * q) p (w * q) (omega arith) (mul-le m q w q new.0 (omega arith)) in
+    let all = mul-le (length ns) (p * (m * q)) (length ns) (p * (w * q)) (omega arith) wide in
+    let both = size_both front (m ∷ ns) in
+    let here = mul-le p (m * size ns) p (w * q) (omega arith) (mul-le m (size ns) w q new.0 (below_size ns ws old.1)) in
+    let next : suc (length ns) * (p * (w * q)) ≡ p * (w * q) + length ns * (p * (w * q)) = grind arith in
+    omega (arith, le, all, both, here, next, one)
+
+-- each position shows an old one, or a number
+covered : (from : List (Option ℕ)) (fill : Option ℤ) → (list_any is_none from && is_none fill) ≡ false → (i : ℕ) → i < length from → (is_some (get_or from i None) || is_some fill) ≡ true
+covered from (Some n) e i lt = or_right (is_some (get_or from i None)) true refl
+covered [] None e i lt = absurd (omega arith)
+covered (None ∷ from) None e i lt = absurd cc
+covered (Some p ∷ from) None e zero lt = refl
+covered (Some p ∷ from) None e (suc i) lt = covered from None e i (omega arith)
+
+next_axis : (front : List ℕ) (n : ℕ) → suc (length front) ≡ length (front ++ n ∷ [])
+next_axis front n = let e = length-append front (n ∷ []) in omega arith
+
+one_more : (fill : Option ℤ) (masked : Bool) (ss : ℕ → List Step) (n : ℕ) (ns ms : List ℕ) (o : Option Change) → (masked ≡ false → (is_open o && is_none fill) ≡ false) → Goes masked ss ns ms → Goes masked (λ k. step_by fill k o ++ ss (suc k)) (n ∷ ns) (sized_by o n ∷ ms)
+one_more fill masked ss n ns ms None plain rest front k a e shape low fit is =
+    let r = rest (front ++ n ∷ []) (suc k) a (ap suc e ∙ next_axis front n) (shape ∙ sym (append_assoc front (n ∷ []) ns)) low fit is in
+    record { shape = r.shape ∙ append_assoc front (n ∷ []) ms; kind = r.kind; fits = r.fits; all = r.all; few = λ ws old new. let all = few_more front ns ms n n 0 (steps_cells (ss (suc k)) a) (omega arith) r.few ws old new in omega arith }
+one_more fill masked ss n ns ms (Some c) plain rest front k a e shape low fit is =
+    let m = length c.from in
+    let b = taken_from a k c.from fill in
+    let now : set a.shape k m ≡ front ++ m ∷ ns = ap (λ t. set t k m) shape ∙ ap (λ j. set (front ++ n ∷ ns) j m) e ∙ set-append_seam front n ns m in
+    let rank : length (set a.shape k m) ≡ length a.shape = length-set a.shape k m in
+    let all = taken_all a masked is k c.from fill fit.0.axis fit.0.below fit.0.cell (λ f. covered c.from fill (plain f)) in
+    let r = rest (front ++ m ∷ []) (suc k) b (ap suc e ∙ next_axis front m) (now ∙ sym (append_assoc front (m ∷ []) ns)) (omega arith) fit.1 all in
+    let size_now = ap size now in
+    record {
+      shape = r.shape ∙ append_assoc front (m ∷ []) ms;
+      kind = r.kind;
+      fits = (record { fits = (lit< tt, fit.0.axis, fit.0.below, fit.0.cell, λ e. absurd cc); small = fit.0.small; low_rank = omega arith }, r.fits);
+      all = r.all;
+      few = few_more front ns ms n m (size (set a.shape k m)) (steps_cells (ss (suc k)) b) (omega (arith, size_now)) r.few;
+    }
+
+none_open : (a b c : Bool) → ((a || b) && c) ≡ false → ((a && c) ≡ false) × ((b && c) ≡ false)
+none_open true b c e = (e, by b e)
   where
-    by : (o : Option Change) → ((s : List ℕ) (j : ℕ) (b : Array) → j ≡ length s → b.shape ≡ s ++ shape_over xs → (cells_along cs fill j (axis_names xs) b).shape ≡ s ++ shape_over (map (new_axis cs) xs))
-        → (cells_along cs fill (suc k) (axis_names xs) (cells_by fill a k o)).shape ≡ s1 ++ (changed_axis x o).size ∷ shape_over (map (new_axis cs) xs)
-    by None rest =
-        rest (s1 ++ x.size ∷ []) (suc k) a (let n = next_axis s1 x.size in omega arith) (shape ∙ sym (append_assoc s1 (x.size ∷ []) (shape_over xs)))
-        ∙ append_assoc s1 (x.size ∷ []) (shape_over (map (new_axis cs) xs))
-    by (Some c) rest =
-        let now : set a.shape k (length c.from) ≡ s1 ++ length c.from ∷ shape_over xs =
-        ap (λ t. set t k (length c.from)) shape ∙ ap (λ j. set (s1 ++ x.size ∷ shape_over xs) j (length c.from)) e ∙ set-append_seam s1 x.size (shape_over xs) (length c.from) in
-        rest (s1 ++ length c.from ∷ []) (suc k) (taken_from a k c.from fill) (let n = next_axis s1 (length c.from) in omega arith) (now ∙ sym (append_assoc s1 (length c.from ∷ []) (shape_over xs)))
-        ∙ append_assoc s1 (length c.from ∷ []) (shape_over (map (new_axis cs) xs))
+    by : (b : Bool) → c ≡ false → (b && c) ≡ false
+    by true e = e
+    by false e = refl
+none_open false b c e = (refl, e)
 
--- ---- room: each size on the way is one of an old or a new axis
-
--- sizes of names, none of them greater than one of these axes
-abbrev pub Under : List Axis → List (List ℕ) → List ℕ → Type 0
-Under g [] [] = ⊤
-Under g (d ∷ ds) (n ∷ ns) = (n ≤ greatest g d) × Under g ds ns
-Under g ds ns = ⊥
-
-under_both : (g : List Axis) (ds es : List (List ℕ)) (ns ms : List ℕ) → Under g ds ns → Under g es ms → Under g (ds ++ es) (ns ++ ms)
-under_both g [] es [] ms first second = second
-under_both g [] es (n ∷ ns) ms first second = absurd first
-under_both g (d ∷ ds) es [] ms first second = absurd first
-under_both g (d ∷ ds) es (n ∷ ns) ms first second = (first.0, under_both g ds es ns ms first.1 second)
-
-under_size : (g : List Axis) (ds : List (List ℕ)) (ns : List ℕ) → Under g ds ns → size ns ≤ size (map (greatest g) ds)
-under_size g [] [] all = omega arith
-under_size g [] (n ∷ ns) all = absurd all
-under_size g (d ∷ ds) [] all = absurd all
-under_size g (d ∷ ds) (n ∷ ns) all = mul-le n (size ns) (greatest g d) (size (map (greatest g) ds)) all.0 (under_size g ds ns all.1)
-
-pub under_span : (g : List Axis) (ds : List (List ℕ)) (ns : List ℕ) → are_distinct ds ≡ true → AreAmong ds (axis_names g) → Under g ds ns → size ns ≤ span g
-under_span g ds ns d among all =
-    let one = under_size g ds ns all in
-    let up = span_above (greatest g) ds g d among (λ n. omega arith) in
-    omega arith
-
--- axes that were and will be no greater than these
-abbrev pub AreUnder : List Axis → List Change → List Axis → Type 0
-AreUnder g cs xs = AllByRecursion (λ (x : Axis). (x.size ≤ greatest g x.name) × ((new_axis cs x).size ≤ greatest g x.name)) xs
-
-olds : (g : List Axis) (cs : List Change) (xs : List Axis) → AreUnder g cs xs → Under g (axis_names xs) (shape_over xs)
-olds g cs [] all = tt
-olds g cs (x ∷ xs) all = (all.0.0, olds g cs xs all.1)
-
-more : (rest n m : ℕ) → rest ≤ n * m → m + rest ≤ suc n * m
-more rest n m le = let e : suc n * m ≡ m + n * m = grind arith in omega arith
-
-module _ (g : List Axis) (cs : List Change) (fill : Option ℤ) (most : ℕ) where
-  pub room_along : (ds : List (List ℕ)) (s1 : List ℕ) (k : ℕ) (xs : List Axis) (a : Array) → k ≡ length s1 → a.shape ≡ s1 ++ shape_over xs → Under g ds s1 → AreUnder g cs xs
-      → ((ns : List ℕ) → Under g (ds ++ axis_names xs) ns → size ns ≤ most) → steps_cells (steps_from cs fill k (axis_names xs)) a ≤ length xs * most
-  room_along ds s1 k [] a e shape front all few = omega arith
-  room_along ds s1 k (x ∷ xs) a e shape front all few = by (change_called cs x.name) all.0.1 (λ es s j b. room_along es s j xs b)
-    where
-      by : (o : Option Change) → (changed_axis x o).size ≤ greatest g x.name
-          → ((es : List (List ℕ)) (s : List ℕ) (j : ℕ) (b : Array) → j ≡ length s → b.shape ≡ s ++ shape_over xs → Under g es s → AreUnder g cs xs
-          → ((ns : List ℕ) → Under g (es ++ axis_names xs) ns → size ns ≤ most) → steps_cells (steps_from cs fill j (axis_names xs)) b ≤ length xs * most)
-          → steps_cells (step_by fill k o ++ steps_from cs fill (suc k) (axis_names xs)) a ≤ suc (length xs) * most
-      by None new rest =
-          let here = rest (ds ++ x.name ∷ []) (s1 ++ x.size ∷ []) (suc k) a (let n = next_axis s1 x.size in omega arith) (shape ∙ sym (append_assoc s1 (x.size ∷ []) (shape_over xs)))
-          (under_both g ds (x.name ∷ []) s1 (x.size ∷ []) front (all.0.0, tt)) all.1 (λ ns u. few ns (subst (λ ms. Under g ms ns) (append_assoc ds (x.name ∷ []) (axis_names xs)) u)) in
-          let up = more (length xs * most) (length xs) most (omega arith) in
-          omega arith
-      by (Some c) new rest =
-          let now : set a.shape k (length c.from) ≡ s1 ++ length c.from ∷ shape_over xs =
-          ap (λ t. set t k (length c.from)) shape ∙ ap (λ j. set (s1 ++ x.size ∷ shape_over xs) j (length c.from)) e ∙ set-append_seam s1 x.size (shape_over xs) (length c.from) in
-          let here = rest (ds ++ x.name ∷ []) (s1 ++ length c.from ∷ []) (suc k) (taken_from a k c.from fill) (let n = next_axis s1 (length c.from) in omega arith) (now ∙ sym (append_assoc s1 (length c.from ∷ []) (shape_over xs)))
-          (under_both g ds (x.name ∷ []) s1 (length c.from ∷ []) front (new, tt)) all.1 (λ ns u. few ns (subst (λ ms. Under g ms ns) (append_assoc ds (x.name ∷ []) (axis_names xs)) u)) in
-          let one = few (s1 ++ length c.from ∷ shape_over xs) (under_both g ds (x.name ∷ axis_names xs) s1 (length c.from ∷ shape_over xs) front (new, olds g cs xs all.1)) in
-          let same = ap size now in
-          let up = more (steps_cells (steps_from cs fill (suc k) (axis_names xs)) (taken_from a k c.from fill)) (length xs) most here in
-          omega arith
+pub all_along : (cs : List Change) (fill : Option ℤ) (masked : Bool) (dims : List (List ℕ)) (ns : List ℕ) → length dims ≡ length ns → (masked ≡ false → (has_hole cs dims && is_none fill) ≡ false) → Goes masked (λ k. steps_from cs fill k dims) ns (sizes_by cs dims ns)
+all_along cs fill masked [] [] long plain = λ front k a e shape low fit is. record { shape = shape; kind = refl; fits = tt; all = is; few = λ ws old new. omega arith }
+all_along cs fill masked [] (n ∷ ns) long plain = absurd (omega arith)
+all_along cs fill masked (d ∷ dims) [] long plain = absurd (omega arith)
+all_along cs fill masked (d ∷ dims) (n ∷ ns) long plain =
+    let parts = λ (f : masked ≡ false). none_open (is_open (change_called cs d)) (has_hole cs dims) (is_none fill) (plain f) in
+    one_more fill masked (λ k. steps_from cs fill k dims) n ns (sizes_by cs dims ns) (change_called cs d) (λ f. (parts f).0) (all_along cs fill masked dims ns (omega arith) (λ f. (parts f).1))

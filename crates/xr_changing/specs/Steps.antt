@@ -1,5 +1,5 @@
 -- The steps from old cells to those at new labels, and what a plan takes of them.
-use Rattle.std.specs.Prelude.{◌≡◌, ◌<◌, ◌≤◌, ◌++◌, ℕ, ℤ, suc, Bool, true, false, nat_lt, List, [], ◌∷◌, length, Option, Some, None, get_or, slice_set, All, MatchOption, ⊤}
+use Rattle.std.specs.Prelude.{◌≡◌, ◌<◌, ◌≤◌, ◌++◌, ℕ, ℤ, suc, Bool, true, false, List, [], ◌∷◌, length, Option, Some, None, get_or, All, MatchOption, ⊤, nat_lt}
 use Rattle.std.specs.List.{AllByRecursion}
 use Rattle.xr_types.specs.Names.{axis_names}
 use Rattle.xr_types.specs.Points.{size}
@@ -13,7 +13,8 @@ use Rattle.xr_defs.specs.declared.value.Content.{Content}
 use Rattle.xr_defs.specs.declared.value.Content.TheVariants as contents
 use Rattle.xr_defs.specs.declared.value.Coord.{Coord}
 use Rattle.xr_formulas.specs.declared.chain.Step.{Step}
-use Rattle.xr_formulas.specs.declared.chain.Step.TheVariants.{Take, Unary, Widen, Reorder, Fold, Scan}
+use Rattle.xr_formulas.specs.declared.chain.Step.TheVariants.{Take}
+use Rattle.plan_core.specs.Takes.{taking_sizes}
 use Rattle.xr_operations.specs.declared.change.Change.{Change}
 use Rattle.xr_operations.specs.Changing.{change_called, fill_along, new_axis}
 
@@ -46,20 +47,17 @@ is_below n None = true
 is_below n (Some i) = nat_lt i n
 
 -- a plan takes positions of an axis of these sizes
-pub record TakeFits (k : ℕ) (from : List (Option ℕ)) (fill : Option ℤ) (s : List ℕ) (t : DType) : Type 0 where
+pub record TakeFits (k : ℕ) (from : List (Option ℕ)) (fill : Option ℤ) (drops : Bool) (s : List ℕ) (t : DType) : Type 0 where
   pub axis : k < length s
   pub below : All (IsBelow (get_or s k 0)) from
   pub cell : IsCell t fill
-  pub small : size (slice_set s k (length from)) ≤ most_node_cells
+  pub one : drops ≡ true → length from ≡ 1
+  pub small : size (taking_sizes drops s k from) ≤ most_node_cells
 
 abbrev pub TakesFit : List Step → List ℕ → DType → Type 0
 TakesFit [] s t = ⊤
-TakesFit (Take k from fill drops ∷ steps) s t = (drops ≡ false) × TakeFits k from fill s t × TakesFit steps (slice_set s k (length from)) t
-TakesFit (Unary op kind ∷ steps) s t = ⊥
-TakesFit (Widen k n ∷ steps) s t = ⊥
-TakesFit (Reorder order ∷ steps) s t = ⊥
-TakesFit (Fold fold feeds ∷ steps) s t = ⊥
-TakesFit (Scan fold k ∷ steps) s t = ⊥
+TakesFit (Take k from fill drops ∷ steps) s t = TakeFits k from fill drops s t × TakesFit steps (taking_sizes drops s k from) t
+TakesFit (step ∷ steps) s t = ⊥
 
 -- ---- coordinates
 

@@ -6,12 +6,12 @@ ghost use Rattle.xr_types.specs.declared.axis.Axis.{Axis as OneAxis};
 ghost use Rattle.xr_defs.specs.Selecting.{axis_called};
 ghost use Rattle.xr_changing.specs.Steps.{steps_along, ContentFits, CoordFits, IsRenewed, TakesFit};
 
-use crate::named::names_of;
-use crate::steps::{MOST_NODE_CELLS, masked_along, steps_along, taken, takes_fit};
+use crate::steps::{masked_along, steps_along, taken};
 use std::alloc::Global;
 use xr_arrays::ArrayValue;
 use xr_defs::{Content, Coord};
 use xr_operations::Change;
+use xr_reducing::names_of;
 use xr_types::{Axis, DeepCopy, Items, Name, NoMemory};
 
 // Steps that a plan wouldn't take, of which no coordinate has any, want memory.
@@ -26,15 +26,8 @@ fn changed_cells(
     ensures is { IfOk result (λ a. a ≡ of.changed_cells changes.now dims.now fill cells.now) }
     ensures fits { IfOk result (λ a. TakesFit (steps_along changes.now fill dims.now) cells.now.shape cells.now.kind) }
 {
-    let steps = steps_along(alloc, changes, fill, dims)?;
-    if !takes_fit(alloc, steps.as_slice(), cells.shape(), cells.kind())? {
-        return Err(NoMemory);
-    }
-    if arrangement::points(cells.shape()) > MOST_NODE_CELLS {
-        return Err(NoMemory);
-    }
-    let copy = cells.copy(alloc)?;
-    taken(alloc, steps.as_slice(), copy)
+    let steps = steps_along(alloc, changes, fill, dims, cells.shape(), cells.kind())?;
+    taken(alloc, steps.as_slice(), cells.copy(alloc)?)
 }
 
 fn changed_content(

@@ -45,14 +45,3 @@ pub fn has_hole(changes: &[Change], dims: &[Name]) -> bool
 {
     dims.iter().any(|dim| is_open(change_called(changes, dim)))
 }
-
-/// The names of axes.
-pub fn names_of(alloc: Global, axes: &[Axis]) -> Result<Items<Name>, AllocError>
-    ensures { IfOk result (λ names. names ≡ axis_names axes.now) }
-{
-    let mut names = Items::new(alloc);
-    for axis in axes {
-        names.push(axis.name.deep_copy(alloc)?)?;
-    }
-    Ok(names)
-}

@@ -1,14 +1,14 @@
 //! The steps from old cells to those at new labels.
-ghost use Rattle.std.specs.Prelude.{◌≡◌, ◌<◌, ◌≤◌, ◌+◌, ◌-◌, ◌^◌, ◌++◌, min, true, length, option_map, slice_set, All, IfOk, OnOk};
+ghost use Rattle.std.specs.Prelude.{◌≡◌, ◌<◌, ◌≤◌, ◌+◌, ◌^◌, ◌++◌, true, length, get_or, All, IfOk, OnOk};
 ghost use Rattle.xr_types.specs.Points.{size};
 ghost use Rattle.xr_arrays.specs.Arrays.{IsCell};
 ghost use Rattle.xr_arrays.specs.Nodes.{most_node_cells, IsBelow};
 ghost use Rattle.xr_formulas.specs.Chains.{steps_value};
 ghost use Rattle.xr_operations.specs.Changing as of;
-ghost use Rattle.xr_changing.specs.Steps.{is_below, step_by, steps_along, steps_from, TakeFits, TakesFit};
+ghost use Rattle.xr_changing.specs.Steps.{is_below, step_by, steps_along, steps_from, TakesFit};
 
 use crate::named::{change_called, has_hole};
-use arrangement::take;
+use arrangement::{points, take};
 use std::alloc::{AllocError, Global};
 use xr_arrays::ArrayValue;
 use xr_formulas::{Step, fits};
@@ -16,35 +16,7 @@ use xr_operations::Change;
 use xr_types::{DType, Items, Name, NoMemory};
 
 /// Cells of a node of a plan.
-pub const MOST_NODE_CELLS: u64 = 1 << 50;
-
-fn push_steps(
-    alloc: Global,
-    steps: &mut Items<Step>,
-    changes: &[Change],
-    fill: Option<i128>,
-    axis: usize,
-    dims: &[Name],
-) -> Result<(), AllocError>
-    requires { axis + length dims.now < 2 ^ 64 }
-    ensures { OnOk result (steps.new ≡ steps.old ++ steps_from changes.now fill axis dims.now) }
-{
-    match dims {
-        [] => Ok(()),
-        [dim, rest @ ..] => {
-            if let Some(change) = change_called(changes, dim) {
-                let from = Items::from_slice(alloc, change.from.as_slice())?;
-                steps.push(Step::Take {
-                    axis,
-                    from,
-                    fill,
-                    drop: false,
-                })?;
-            }
-            push_steps(alloc, steps, changes, fill, axis + 1, rest)
-        }
-    }
-}
+const MOST_NODE_CELLS: u64 = 1 << 50;
 
 /// The fill, where some position has no source.
 pub fn fill_along(changes: &[Change], dims: &[Name], fill: Option<i128>) -> Option<i128>
@@ -58,21 +30,6 @@ pub fn masked_along(changes: &[Change], dims: &[Name], fill: Option<i128>, maske
     ensures { result ≡ of.masked_along changes.now dims.now fill masked }
 {
     masked || (has_hole(changes, dims) && fill.is_none())
-}
-
-/// The steps of an array over these dimensions.
-pub fn steps_along(
-    alloc: Global,
-    changes: &[Change],
-    fill: Option<i128>,
-    dims: &[Name],
-) -> Result<Items<Step>, AllocError>
-    ensures { IfOk result (λ steps. steps ≡ steps_along changes.now fill dims.now) }
-{
-    let mut steps = Items::new(alloc);
-    let fill = fill_along(changes, dims, fill);
-    push_steps(alloc, &mut steps, changes, fill, 0, dims)?;
-    Ok(steps)
 }
 
 // ---- what a plan takes
@@ -93,93 +50,85 @@ fn are_below(from: &[Option<u32>], size: u64) -> bool
     from.iter().all(|at| is_below(*at, size))
 }
 
-fn is_cell(kind: DType, cell: Option<i128>) -> bool
-    ensures { result ≡ true → IsCell kind cell }
-{
-    match cell {
-        None => true,
-        Some(n) => fits(kind, n),
-    }
-}
-
-#[tactic(auto, using(plan_core::proofs::Products::saturates))]
-fn points_with(shape: &[u64], axis: usize, count: u64) -> u64
-    ensures { result ≡ min (size (slice_set shape.now axis count)) (2 ^ 64 - 1) }
-{
-    match shape {
-        [] => 1,
-        [n, rest @ ..] => {
-            if axis == 0 {
-                count.saturating_mul(arrangement::points(rest))
-            } else {
-                n.saturating_mul(points_with(rest, axis - 1, count))
-            }
-        }
-    }
-}
-
-fn take_fits(
+fn can_take(
     shape: &[u64],
     kind: DType,
     axis: usize,
     from: &[Option<u32>],
     fill: Option<i128>,
 ) -> bool
-    ensures { result ≡ true → TakeFits axis from.now fill shape.now kind }
+    ensures axis { result ≡ true → axis < length shape.now }
+    ensures below { result ≡ true → All (IsBelow (get_or shape.now axis 0)) from.now }
+    ensures cell { result ≡ true → IsCell kind fill }
 {
-    axis < shape.len()
-        && are_below(from, shape[axis])
-        && is_cell(kind, fill)
-        && points_with(shape, axis, from.len() as u64) <= MOST_NODE_CELLS
+    let is_cell = match fill {
+        None => true,
+        Some(n) => fits(kind, n),
+    };
+    is_cell && axis < shape.len() && are_below(from, shape[axis])
 }
 
-fn with_size(
+// Adds the steps along dimensions that stand from a number on, of cells of these sizes and this kind.
+fn push_steps(
     alloc: Global,
-    shape: &[u64],
+    steps: &mut Items<Step>,
+    changes: &[Change],
+    fill: Option<i128>,
     axis: usize,
-    count: u64,
-) -> Result<Items<u64>, AllocError>
-    requires { axis < length shape.now }
-    ensures { IfOk result (λ s. s ≡ slice_set shape.now axis count) }
-{
-    let mut sizes = Items::from_slice(alloc, shape)?;
-    sizes.set(axis, count);
-    Ok(sizes)
-}
-
-/// Whether a plan takes these steps after an array of these sizes.
-pub fn takes_fit(
-    alloc: Global,
-    steps: &[Step],
-    shape: &[u64],
+    dims: &[Name],
+    shape: &mut Items<u64>,
     kind: DType,
-) -> Result<bool, AllocError>
-    ensures { IfOk result (λ b. b ≡ true → TakesFit steps.now shape.now kind) }
+) -> Result<(), NoMemory>
+    requires { axis + length dims.now < 2 ^ 64 }
+    ensures is { OnOk result (steps.new ≡ steps.old ++ steps_from changes.now fill axis dims.now) }
+    ensures fits { OnOk result (TakesFit (steps_from changes.now fill axis dims.now) shape.old kind) }
 {
-    match steps {
-        [] => Ok(true),
-        [step, rest @ ..] => match step {
-            Step::Take {
-                axis,
-                from,
-                fill,
-                drop,
-            } => {
-                if *drop || !take_fits(shape, kind, *axis, from.as_slice(), *fill) {
-                    return Ok(false);
+    match dims {
+        [] => Ok(()),
+        [dim, rest @ ..] => {
+            if let Some(change) = change_called(changes, dim) {
+                let from = change.from.as_slice();
+                if !can_take(shape.as_slice(), kind, axis, from, fill) {
+                    return Err(NoMemory);
                 }
-                let next = with_size(alloc, shape, *axis, from.as_slice().len() as u64)?;
-                takes_fit(alloc, rest, next.as_slice(), kind)
+                shape.set(axis, from.len() as u64);
+                if points(shape.as_slice()) > MOST_NODE_CELLS {
+                    return Err(NoMemory);
+                }
+                steps.push(Step::Take {
+                    axis,
+                    from: Items::from_slice(alloc, from)?,
+                    fill,
+                    drop: false,
+                })?;
             }
-            _ => Ok(false),
-        },
+            push_steps(alloc, steps, changes, fill, axis + 1, rest, shape, kind)
+        }
     }
 }
 
-/// Cells at hand after steps.
+/// The steps of cells over these dimensions. Those that a plan doesn't take want memory.
+pub fn steps_along(
+    alloc: Global,
+    changes: &[Change],
+    fill: Option<i128>,
+    dims: &[Name],
+    shape: &[u64],
+    kind: DType,
+) -> Result<Items<Step>, NoMemory>
+    ensures is { IfOk result (λ steps. steps ≡ steps_along changes.now fill dims.now) }
+    ensures fits { IfOk result (λ steps. TakesFit (steps_along changes.now fill dims.now) shape.now kind) }
+{
+    let mut steps = Items::new(alloc);
+    let mut sizes = Items::from_slice(alloc, shape)?;
+    let fill = fill_along(changes, dims, fill);
+    push_steps(alloc, &mut steps, changes, fill, 0, dims, &mut sizes, kind)?;
+    Ok(steps)
+}
+
+/// Cells at hand after steps. Those of more cells than a plan takes want memory.
 pub fn taken(alloc: Global, steps: &[Step], cells: ArrayValue) -> Result<ArrayValue, NoMemory>
-    requires fits { TakesFit steps.now cells.shape cells.kind }
-    requires few { size cells.shape ≤ most_node_cells }
+    requires { TakesFit steps.now cells.shape cells.kind }
     ensures { IfOk result (λ b. b ≡ steps_value steps.now cells) }
 {
     match steps {
@@ -189,9 +138,12 @@ pub fn taken(alloc: Global, steps: &[Step], cells: ArrayValue) -> Result<ArrayVa
                 axis,
                 from,
                 fill,
-                ..
+                drop,
             } => {
-                let next = take(alloc, &cells, *axis, from.as_slice(), *fill, false)?;
+                if points(cells.shape()) > MOST_NODE_CELLS {
+                    return Err(NoMemory);
+                }
+                let next = take(alloc, &cells, *axis, from.as_slice(), *fill, *drop)?;
                 taken(alloc, rest, next)
             }
             _ => Err(NoMemory),

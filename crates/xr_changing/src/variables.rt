@@ -1,24 +1,17 @@
 //! Data variables of a plan at new labels.
-ghost use Rattle.std.specs.Prelude.{◌≡◌, ◌++◌, [], map, IfOk};
+ghost use Rattle.std.specs.Prelude.{◌≡◌, map, IfOk};
 ghost use Rattle.std.specs.List.{AllByRecursion};
-ghost use Rattle.xr_arrays.specs.Added.{AddsAtMost};
-ghost use Rattle.plan_core.specs.Plans.{Grows};
-ghost use Rattle.xr_formulas.specs.Chains.{chain_cells, ChainFits};
-ghost use Rattle.xr_reducing.specs.Sets.{vars_cells, AreFit, AreVarsOf, IsVarOf};
-ghost use Rattle.xr_values.specs.Variables.{with_variables};
 ghost use Rattle.xr_changing.specs.Made as made;
 ghost use Rattle.xr_changing.specs.Made.{VarFits};
-ghost use Rattle.xr_changing.specs.Sizes.{sizes_named};
 
 use crate::limits::sizes_named;
-use crate::steps::{masked_along, steps_along, takes_fit};
-use plan_core::Plan;
+use crate::steps::{masked_along, steps_along};
 use std::alloc::Global;
-use xr_formulas::{Chain, Start, push_chain};
+use xr_formulas::{Chain, Start};
 use xr_operations::Change;
 use xr_reducing::VarMade;
 use xr_types::{Axis, DeepCopy, Items, NoMemory};
-use xr_values::{Variable, Variables};
+use xr_values::Variable;
 
 // Steps that a plan doesn't take want memory.
 fn var_made(
@@ -33,10 +26,7 @@ fn var_made(
 {
     let dims = var.dims.as_slice();
     let shape = sizes_named(alloc, &[], axes, dims)?;
-    let steps = steps_along(alloc, changes, fill, dims)?;
-    if !takes_fit(alloc, steps.as_slice(), shape.as_slice(), var.kind)? {
-        return Err(NoMemory);
-    }
+    let steps = steps_along(alloc, changes, fill, dims, shape.as_slice(), var.kind)?;
     let start = Start::Node(var.node);
     let masked = masked_along(changes, dims, fill, var.masked);
     Ok(VarMade {

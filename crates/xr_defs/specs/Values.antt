@@ -1,18 +1,15 @@
 -- Arrays with named dimensions and labels, and datasets (xarray user guide, "Data Structures").
-use Rattle.std.specs.Prelude.{◌==◌, ◌||◌, ◌+◌, ℕ, ℤ, pos, Bool, false, not, codes, List, [], ◌∷◌, length, map, filter, get_or, slice_set, Option, Some, None, option_map, if◌then◌else◌}
+use Rattle.std.specs.Prelude.{◌==◌, ◌||◌, ◌+◌, ℕ, ℤ, pos, Bool, false, not, codes, List, [], ◌∷◌, length, map, filter, get_or, Option, Some, None, option_map, if◌then◌else◌}
 use Rattle.std.specs.Str.{bytes_eq}
 use Rattle.xr_types.specs.declared.attr.Attr.{Attr}
 use Rattle.xr_types.specs.declared.axis.Axis.{Axis}
-use Rattle.xr_types.specs.declared.axis.Labels.{Labels}
 use Rattle.xr_types.specs.declared.axis.LabelList.{LabelList}
 use Rattle.xr_types.specs.declared.axis.LabelList.TheVariants.{Numbers, Times, Texts}
 use Rattle.xr_types.specs.declared.kind.DType.{DType}
 use Rattle.xr_types.specs.declared.operation.FoldKind.TheVariants.{Sum}
 use Rattle.xr_types.specs.Names.{shape_over}
-use Rattle.xr_defs.specs.declared.value.Content.{Content}
-use Rattle.xr_defs.specs.declared.value.Content.TheVariants.{Cells}
 use Rattle.xr_defs.specs.declared.value.Coord.{Coord}
-use Rattle.xr_arrays.specs.Arrays.{Array, at, made}
+use Rattle.xr_arrays.specs.Arrays.{Array}
 use Rattle.xr_arrays.specs.Folds.{folded_kind, fold_of, numbered}
 
 -- an array with an optional name, axes in order, cells in row order, attributes and non-index coordinates in order
@@ -66,31 +63,8 @@ chosen_list (Numbers kind ns) ps = Numbers kind (chosen (pos 0) ns ps)
 chosen_list (Times coding ts) ps = Times coding (chosen (pos 0) ts ps)
 chosen_list (Texts ts) ps = Texts (chosen [] ts ps)
 
--- an axis at these positions, with its labels there
-abbrev pub chosen_axis : Axis → List ℕ → Axis
-chosen_axis x ps = record x { size = length ps; labels = option_map (λ (l : Labels). record l { list = chosen_list l.list ps }) x.labels }
-
 abbrev pub no_axis : Axis
 no_axis = record { name = []; size = 0; labels = None }
-
-abbrev pub chosen_axes : List Axis → ℕ → List ℕ → List Axis
-chosen_axes axes k ps = slice_set axes k (chosen_axis (get_or axes k no_axis) ps)
-
--- the cells at these positions of an axis
-abbrev pub chosen_cells : Array → ℕ → List ℕ → Array
-chosen_cells a k ps = made a.kind (slice_set a.shape k (length ps)) (λ p. at a (slice_set p k (get_or ps (get_or p k 0) 0)))
-
-abbrev pub chosen_content : Content → ℕ → List ℕ → Content
-chosen_content (Cells a masked) k ps = Cells (chosen_cells a k ps) masked
-chosen_content content k ps = content
-
--- a coordinate along the dimension is chosen with it; another stays
-abbrev pub chosen_coord : List ℕ → List ℕ → Coord → Coord
-chosen_coord dimension ps c =
-    elim (axis_position dimension c.axes) [
-      | None ↦ c
-      | Some k ↦ record c { axes = chosen_axes c.axes k ps; content = chosen_content c.content k ps }
-    ]
 
 -- ---- attributes of new cells
 

@@ -1,18 +1,10 @@
 -- What a call makes is its answer.
-use Rattle.std.proofs.Common.{◌≡◌, true, List, [], ◌∷◌, Result, Ok, refl, sym, ap, ◌∙◌}
-use Rattle.xr_types.specs.declared.fault.Fault.{Fault}
-use Rattle.xr_types.specs.declared.kind.DType.{DType}
+use Rattle.xr_formulas.proofs.Common.{AreAttributes, Changes, DType, Fault, IsDataArray, IsMade, List, Made, Makes, Node, Ok, Result, [], ap, is_integer_kind, made_in, refl, sym, true, without_fills, ◌∙◌, ◌∷◌, ◌≡◌}
 use Rattle.xr_types.specs.declared.kind.DType.TheVariants as kinds
-use Rattle.xr_arrays.specs.declared.node.Node.{Node}
-use Rattle.xr_defs.specs.Building.{is_integer_kind}
-use Rattle.xr_defs.specs.Values.{DataArray, without_fills}
-use Rattle.xr_defs.specs.WellFormed.{AreAttributes, IsDataArray}
+use Rattle.xr_defs.specs.Values.{DataArray}
 use Rattle.xr_defs.specs.declared.carrying.Carry.TheVariants.{Method}
 use Rattle.xr_types.specs.declared.operation.OpKind.TheVariants as ops
 use Rattle.xr_values.proofs.Carries.{carried_formed}
-use Rattle.xr_formulas.specs.declared.made.Made.{Made}
-use Rattle.xr_formulas.specs.Cellwise.{Changes}
-use Rattle.xr_formulas.specs.Mades.{made_in, IsMade, Makes}
 
 pub answered : (nodes : List Node) (means : DataArray) (m : Made) (told : Result DataArray Fault) → told ≡ Ok means → Makes nodes means m → (told ≡ Ok (made_in nodes m)) × IsMade nodes m
 answered nodes means m told is makes = (is ∙ ap Ok (sym makes.is), makes.made)

@@ -1,16 +1,6 @@
 -- Cells that a function of each point gives.
-use Rattle.std.proofs.Common.{◌≡◌, ◌<◌, ◌≤◌, ℕ, ℤ, Bool, true, false, List, length, Option, Some, None, option_map, is_some, refl, arith}
-use Rattle.xr_types.specs.Points.{IsPoint, place, size, tab}
-use Rattle.xr_types.specs.declared.kind.DType.{DType}
-use Rattle.xr_types.specs.declared.operation.OpKind.{OpKind}
+use Rattle.xr_formulas.proofs.Common.{All-tab, AreCells, Array, Bool, Changes, DType, IsCell, IsPoint, List, None, OpKind, Option, arith, at, elem, elem_of_one, false, is_some, length, masked_after, most_cells, most_dimensions, place, place_below, refl, size, tab, tab-length, takes_one, true, unary_kind, unary_of, ℕ, ℤ, ◌<◌, ◌≡◌, ◌≤◌}
 use Rattle.xr_types.specs.declared.operation.OpKind.TheVariants as ops
-use Rattle.xr_arrays.specs.Arrays.{Array, at, IsCell}
-use Rattle.xr_arrays.specs.Elements.{elem, takes_one, unary_kind, unary_of}
-use Rattle.xr_arrays.proofs.ElementRanges.{elem_of_one}
-use Rattle.xr_defs.specs.Limits.{most_cells, most_dimensions}
-use Rattle.xr_defs.specs.WellFormed.{AreCells}
-use Rattle.plan_core.proofs.Tabs.{All-tab, place_below, tab-length}
-use Rattle.xr_formulas.specs.Cellwise.{masked_after, Changes}
 
 -- a function of each point gives an array's cells, where it gives cells of the kind and none that is missing unless it is masked
 pub cells_made : (shape : List ℕ) (kind : DType) (masked : Bool) (f : List ℕ → Option ℤ) → length shape ≤ most_dimensions → size shape ≤ most_cells
@@ -36,32 +26,13 @@ module _ (shape : List ℕ) (kind : DType) (masked : Bool) (cells : List (Option
 
 -- ---- operations of one operand
 
-mapped_seen : (f : ℤ → ℤ) (x : Option ℤ) → is_some x ≡ true → is_some (option_map f x) ≡ true
-mapped_seen f None e = e
-mapped_seen f (Some n) e = refl
-
 one_seen : (op : OpKind) (t : DType) (x : Option ℤ) (own : Bool) → takes_one op ≡ true → masked_after op own ≡ false → (own ≡ false → is_some x ≡ true) → is_some (elem op t x None) ≡ true
-one_seen ops.Add t x own one plain seen = absurd cc
-one_seen ops.Subtract t x own one plain seen = absurd cc
-one_seen ops.Multiply t x own one plain seen = absurd cc
-one_seen ops.FloorDivide t x own one plain seen = absurd cc
-one_seen ops.Remainder t x own one plain seen = absurd cc
-one_seen ops.Divide t x own one plain seen = absurd cc
-one_seen ops.And t x own one plain seen = absurd cc
-one_seen ops.Or t x own one plain seen = absurd cc
-one_seen ops.Xor t x own one plain seen = absurd cc
-one_seen ops.Equal t x own one plain seen = absurd cc
-one_seen ops.NotEqual t x own one plain seen = absurd cc
-one_seen ops.Less t x own one plain seen = absurd cc
-one_seen ops.LessEqual t x own one plain seen = absurd cc
-one_seen ops.Greater t x own one plain seen = absurd cc
-one_seen ops.GreaterEqual t x own one plain seen = absurd cc
-one_seen ops.Negate t x own one plain seen = mapped_seen _ x (seen plain)
-one_seen ops.Invert t x own one plain seen = mapped_seen _ x (seen plain)
 one_seen ops.IsNull t x own one plain seen = refl
 one_seen ops.NotNull t x own one plain seen = refl
-one_seen ops.FillNa t x own one plain seen = absurd cc
-one_seen ops.Cast t x own one plain seen = mapped_seen _ x (seen plain)
+one_seen ops.Negate t None own one plain seen = seen plain
+one_seen ops.Invert t None own one plain seen = seen plain
+one_seen ops.Cast t None own one plain seen = seen plain
+one_seen op t x own one plain seen = cc
 
 module _ (op : OpKind) (kind t : DType) (masked : Bool) (shape : List ℕ) (cells : List (Option ℤ)) (is : AreCells shape t masked cells) (does : Changes op kind t) where
   abbrev own : Array

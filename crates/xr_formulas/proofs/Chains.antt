@@ -1,18 +1,6 @@
 -- Chains that are added to a plan.
-use Rattle.std.proofs.Common.{◌≡◌, ◌<◌, ◌≤◌, ◌+◌, ℕ, List, [], ◌∷◌, length, refl, sym, ap, subst, ◌∙◌, arith, length-append}
-use Rattle.xr_types.specs.Points.{size}
-use Rattle.xr_arrays.specs.declared.node.Node.{Node}
-use Rattle.xr_arrays.specs.declared.node.Node.TheVariants.{Source}
-use Rattle.xr_arrays.specs.Added.{cells_of, AddsAtMost}
-use Rattle.xr_arrays.specs.Arrays.{Array}
-use Rattle.xr_arrays.specs.Nodes.{node_value, value, values, most_axes, most_node_cells, Fits, FitsBy, IsNode, Pushes}
-use Rattle.plan_core.specs.Plans.{Grows}
-use Rattle.plan_core.proofs.Plans.{grows_by_none, grows_on, pushes_grow, values-length}
-use Rattle.plan_core.proofs.Added.{adds_both, adds_one, one_added}
-use Rattle.xr_formulas.specs.declared.chain.Chain.{Chain}
-use Rattle.xr_formulas.specs.declared.chain.Step.{Step}
+use Rattle.xr_formulas.proofs.Common.{AddsAtMost, Array, Fits, FitsBy, Grows, IsNode, IsValueOf, List, Node, Pushes, Source, Step, StepsFit, [], adds_one, ap, arith, cells_of, grows_by_none, grows_on, length, length-append, most_axes, most_node_cells, node_value, one_added, pushes_grow, refl, size, step_node, step_value, steps_cells, steps_value, subst, sym, value, values, values-length, ℕ, ◌+◌, ◌<◌, ◌∙◌, ◌∷◌, ◌≡◌, ◌≤◌}
 use Rattle.xr_formulas.specs.declared.chain.Step.TheVariants as step
-use Rattle.xr_formulas.specs.Chains.{chain_cells, chain_value, start_cells, start_value, step_node, step_value, steps_cells, steps_value, ChainFits, IsValueOf, StepsFit}
 
 -- ---- a node that is added
 
@@ -98,15 +86,3 @@ last_on old nodes input node steps rest none on = by (subst (IsOn old nodes inpu
   where
     by : IsOn old nodes input node steps [] → IsValueOf nodes (steps_value steps (value old input)) node × AddsAtMost old nodes (steps_cells steps (value old input))
     by on = let cells = on.cells in (record { inside = on.inside; is = on.comes }, record { cells = omega arith })
-
--- ---- the start, and then the steps
-
-module _ (old one : List Node) (c : Chain) (n : ℕ) (fits : ChainFits old c) (first : IsValueOf one (start_value old c.start) n) where
-  pub steps_fit : StepsFit c.steps (value one n)
-  steps_fit = subst (StepsFit c.steps) (sym first.is) fits.steps
-
-  pub chain_placed : (new : List Node) (m : ℕ) → IsValueOf new (steps_value c.steps (value one n)) m → IsValueOf new (chain_value old c) m
-  chain_placed new m is = subst (λ v. IsValueOf new (steps_value c.steps v) m) first.is is
-
-  pub chain_adds : (new : List Node) → AddsAtMost old one (start_cells c.start) → AddsAtMost one new (steps_cells c.steps (value one n)) → AddsAtMost old new (chain_cells old c)
-  chain_adds new a b = adds_both old one new (start_cells c.start) (steps_cells c.steps (start_value old c.start)) a (subst (λ v. AddsAtMost one new (steps_cells c.steps v)) first.is b)

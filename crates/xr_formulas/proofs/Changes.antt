@@ -1,29 +1,8 @@
 -- An array with an operation on each of its cells.
-use Rattle.std.proofs.Common.{◌≡◌, ◌≤◌, List, [], ◌∷◌, length, refl, sym, ap, subst, arith, lit<}
-use Rattle.xr_types.specs.Names.{shape_over}
-use Rattle.xr_types.specs.Points.{size}
-use Rattle.xr_types.specs.declared.attr.Attr.{Attr}
-use Rattle.xr_types.specs.declared.kind.DType.{DType}
-use Rattle.xr_types.specs.declared.operation.OpKind.{OpKind}
-use Rattle.xr_arrays.specs.declared.node.Node.{Node}
-use Rattle.xr_arrays.specs.Arrays.{Array}
-use Rattle.xr_arrays.specs.Elements.{unary_of, Gives, Suits}
-use Rattle.xr_arrays.specs.Nodes.{value, most_axes, most_node_cells}
-use Rattle.xr_defs.specs.Room.{span}
+use Rattle.xr_formulas.proofs.Common.{AreAttributes, Array, Attr, Changes, DType, DataArray, Gives, IsArrayIn, IsDataArray, List, Made, Makes, Node, OpKind, StepFits, Suits, Unary, [], ap, arith, array_in, array_value, changed, length, like, lit<, made_with, masked_after, most_axes, most_node_cells, points_above, refl, shape_over, size, span, subst, sym, unary_of, value, ◌∷◌, ◌≡◌, ◌≤◌}
 use Rattle.xr_defs.specs.Values as of
-use Rattle.xr_defs.specs.Values.{array_of, names_fill, without_fills}
-use Rattle.xr_defs.specs.WellFormed.{AreAttributes, IsDataArray}
-use Rattle.xr_defs.proofs.Spans.{points_above}
-use Rattle.xr_values.specs.declared.data_array.DataArray.{DataArray}
-use Rattle.xr_values.specs.Stands.{array_in, IsArrayIn}
-use Rattle.xr_values.proofs.Grown.{array_value}
 use Rattle.xr_formulas.specs.declared.chain.Start.TheVariants as starts
-use Rattle.xr_formulas.specs.declared.chain.Step.TheVariants.{Unary}
 use Rattle.xr_formulas.specs.declared.made.Formula.TheVariants.{One}
-use Rattle.xr_formulas.specs.declared.made.Made.{Made}
-use Rattle.xr_formulas.specs.Cellwise.{changed, masked_after, Changes}
-use Rattle.xr_formulas.specs.Chains.{StepFits}
-use Rattle.xr_formulas.specs.Mades.{like, made_with, Makes}
 use Rattle.xr_formulas.proofs.Cells.{changed_cells}
 
 -- the points of an array are within its span

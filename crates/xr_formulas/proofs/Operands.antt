@@ -1,30 +1,10 @@
 -- The cells of an array as an operand beside a number.
-use Rattle.std.proofs.Common.{zero, ◌≡◌, ◌&&◌, cond, suc, ℤ, pos, negsuc, Bool, true, false, not, List, [], ◌∷◌, Option, Some, None, refl, sym, ap, subst, ◌∙◌, arith}
-use Rattle.std.proofs.lemmas.Int.{ints}
-use Rattle.xr_types.specs.Kinds.{InRange}
-use Rattle.xr_types.specs.Names.{shape_over}
-use Rattle.xr_types.specs.Points.{size, tab}
-use Rattle.xr_types.specs.declared.kind.DType.{DType}
+use Rattle.xr_formulas.proofs.Common.{Array, Bool, DType, DataArray, InRange, IsArrayIn, IsCell, IsDataArray, IsOver, IsPlaced, List, Made, Makes, Node, None, Option, Placed, Some, Unary, [], ap, arith, array_in, array_of, array_value, at, cast_to, cond, elem, false, ints, is_truths, negsuc, not, operand, placed_cell, placed_on, pos, refl, shape_over, size, subst, suc, sym, tab, tab_read, tab_same, true, unary_of, with_literal, within_kind, without_fills, zero, ℤ, ◌&&◌, ◌∙◌, ◌∷◌, ◌≡◌}
 use Rattle.xr_types.specs.declared.kind.DType.TheVariants as kinds
 use Rattle.xr_types.specs.declared.operation.OpKind.TheVariants as ops
 use Rattle.xr_types.proofs.Wrapping.{wrapped_only}
-use Rattle.xr_arrays.specs.declared.node.Node.{Node}
-use Rattle.xr_arrays.specs.Arrays.{Array, at, IsCell}
-use Rattle.xr_arrays.specs.Elements.{cast_to, elem, unary_of}
 use Rattle.xr_defs.specs.Values as of
-use Rattle.xr_defs.specs.Values.{array_of, without_fills}
-use Rattle.xr_defs.specs.WellFormed.{IsDataArray}
-use Rattle.plan_core.proofs.Tabs.{tab_read, tab_same}
-use Rattle.xr_operations.specs.Arithmetic.{is_truths, with_literal}
-use Rattle.xr_values.specs.declared.data_array.DataArray.{DataArray}
-use Rattle.xr_values.specs.Stands.{array_in, IsArrayIn}
-use Rattle.xr_values.proofs.Grown.{array_value}
 use Rattle.xr_formulas.specs.declared.chain.Start.TheVariants as starts
-use Rattle.xr_formulas.specs.declared.chain.Step.TheVariants.{Unary}
-use Rattle.xr_formulas.specs.declared.made.Made.{Made}
-use Rattle.xr_formulas.specs.declared.numbers.Placed.{Placed}
-use Rattle.xr_formulas.specs.Beside.{operand, placed_cell, placed_on, within_kind, IsOver, IsPlaced}
-use Rattle.xr_formulas.specs.Mades.{Makes}
 use Rattle.xr_formulas.proofs.Answered.{casts}
 use Rattle.xr_formulas.proofs.Cells.{cell_in, changed_cells}
 use Rattle.xr_formulas.proofs.Changes.{step_fits}
@@ -37,15 +17,7 @@ number_kept kinds.Bool (pos zero) is = refl
 number_kept kinds.Bool (pos (suc zero)) is = refl
 number_kept kinds.Bool (pos (suc (suc n))) is = let most = is.1 in absurd (omega (arith, ints, most))
 number_kept kinds.Bool (negsuc n) is = let least = is.0 in absurd (omega (arith, ints, least))
-number_kept kinds.Char n is = sym (wrapped_only kinds.Char n n (record { in_range = is; turns = pos 0; congruent = omega (arith, ints) }))
-number_kept kinds.Int8 n is = sym (wrapped_only kinds.Int8 n n (record { in_range = is; turns = pos 0; congruent = omega (arith, ints) }))
-number_kept kinds.Int16 n is = sym (wrapped_only kinds.Int16 n n (record { in_range = is; turns = pos 0; congruent = omega (arith, ints) }))
-number_kept kinds.Int32 n is = sym (wrapped_only kinds.Int32 n n (record { in_range = is; turns = pos 0; congruent = omega (arith, ints) }))
-number_kept kinds.Int64 n is = sym (wrapped_only kinds.Int64 n n (record { in_range = is; turns = pos 0; congruent = omega (arith, ints) }))
-number_kept kinds.UInt8 n is = sym (wrapped_only kinds.UInt8 n n (record { in_range = is; turns = pos 0; congruent = omega (arith, ints) }))
-number_kept kinds.UInt16 n is = sym (wrapped_only kinds.UInt16 n n (record { in_range = is; turns = pos 0; congruent = omega (arith, ints) }))
-number_kept kinds.UInt32 n is = sym (wrapped_only kinds.UInt32 n n (record { in_range = is; turns = pos 0; congruent = omega (arith, ints) }))
-number_kept kinds.UInt64 n is = sym (wrapped_only kinds.UInt64 n n (record { in_range = is; turns = pos 0; congruent = omega (arith, ints) }))
+number_kept t n is = sym (wrapped_only t n n (record { in_range = is; turns = pos 0; congruent = omega (arith, ints) }))
 
 cell_kept : (t : DType) (x : Option ℤ) → IsCell t x → elem ops.Cast t x None ≡ x
 cell_kept t None is = refl

@@ -1,33 +1,5 @@
 -- An array with an operation of each of its cells and a number.
-use Rattle.std.proofs.Common.{◌≡◌, ◌≤◌, ◌*◌, ℕ, ℤ, Bool, true, List, [], length, Option, Some, refl, sym, ap, subst, ◌∙◌, arith}
-use Rattle.std.proofs.lemmas.List.{length-map}
-use Rattle.xr_types.specs.Kinds.{InRange}
-use Rattle.xr_types.specs.Names.{shape_over}
-use Rattle.xr_types.specs.Points.{size}
-use Rattle.xr_types.specs.declared.attr.Attr.{Attr}
-use Rattle.xr_types.specs.declared.axis.Axis.{Axis}
-use Rattle.xr_types.specs.declared.kind.DType.{DType}
-use Rattle.xr_types.specs.declared.operation.OpKind.{OpKind}
-use Rattle.xr_arrays.specs.declared.node.Node.{Node}
-use Rattle.xr_arrays.specs.Arrays.{Array, at, made, IsCell}
-use Rattle.xr_arrays.specs.Elements.{elem, result_kind, takes_two, Suits}
-use Rattle.xr_arrays.proofs.ElementRanges.{elem_of_two}
-use Rattle.xr_defs.specs.Room.{span}
-use Rattle.xr_defs.specs.WellFormed.{AreAttributes, IsDataArray}
-use Rattle.xr_defs.proofs.Spans.{span_above}
-use Rattle.plan_core.proofs.Tabs.{tab_same}
-use Rattle.xr_operations.specs.declared.side.Side.{Side}
-use Rattle.xr_operations.specs.declared.side.Side.TheVariants.{Left, Right}
-use Rattle.xr_operations.specs.Arithmetic.{beside}
-use Rattle.xr_values.specs.declared.data_array.DataArray.{DataArray}
-use Rattle.xr_values.specs.Stands.{array_in, IsArrayIn}
-use Rattle.xr_formulas.specs.declared.numbers.Placed.{Placed}
-use Rattle.xr_formulas.specs.declared.chain.Chain.{Chain}
-use Rattle.xr_formulas.specs.declared.made.Made.{Made}
-use Rattle.xr_formulas.specs.Beside.{formula_beside, placed_cell, placed_on, Fills, IsOver}
-use Rattle.xr_formulas.specs.Chains.{chain_value, ChainFits}
-use Rattle.xr_formulas.specs.Mades.{formula_cells, formula_value, like, made_with, paired, FormulaFits, Makes, Match}
-use Rattle.xr_formulas.specs.Spread.{literal}
+use Rattle.xr_formulas.proofs.Common.{AreAttributes, Array, Attr, Axis, Bool, Chain, ChainFits, DType, DataArray, Fills, FormulaFits, InRange, IsArrayIn, IsCell, IsDataArray, IsOver, Left, List, Made, Makes, Match, Node, OpKind, Option, Placed, Right, Side, Some, Suits, [], ap, arith, array_in, at, beside, chain_cells, chain_value, elem, elem_of_two, formula_beside, formula_cells, formula_value, length, length-map, like, literal, made, made_with, paired, placed_cell, placed_on, refl, result_kind, shape_over, size, span, span_above, subst, sym, tab_same, takes_two, true, ℕ, ℤ, ◌*◌, ◌∙◌, ◌+◌, ◌≡◌, ◌≤◌}
 use Rattle.xr_formulas.proofs.Cells.{cell_in, cell_seen, cells_made}
 use Rattle.xr_formulas.proofs.Changes.{own_span}
 use Rattle.xr_formulas.proofs.Points.{made_at}
@@ -111,21 +83,17 @@ module _ (nodes : List Node) (a : DataArray) (cells : Chain) (t : DType) (p : Pl
   all_fit Right = (over.fits, number_fits, both_match (chain_value nodes cells) (chain_value nodes number) cells_over number_over)
   all_fit Left = (number_fits, over.fits, both_match (chain_value nodes number) (chain_value nodes cells) number_over cells_over)
 
+  sum_fits : (k : ℕ) → k ≡ size s → chain_cells nodes cells + chain_cells nodes number + k ≤ 256 * span a.axes
+  sum_fits k points =
+      let up = own_span (array_in nodes a) is.formed in
+      let some = some_span a.axes in
+      let one = over.few in
+      let other = literal_cells t p.number nodes a.axes few in
+      omega arith
+
   all_cells : (side : Side) → formula_cells nodes (formula_beside side p.op cells number) ≤ 256 * span a.axes
-  all_cells Right =
-      let up = own_span (array_in nodes a) is.formed in
-      let some = some_span a.axes in
-      let one = over.few in
-      let other = literal_cells t p.number nodes a.axes few in
-      let points = ap (λ (u : Array). size u.shape) over.is in
-      omega arith
-  all_cells Left =
-      let up = own_span (array_in nodes a) is.formed in
-      let some = some_span a.axes in
-      let one = over.few in
-      let other = literal_cells t p.number nodes a.axes few in
-      let points = ap (λ (u : Array). size u.shape) number_is in
-      omega arith
+  all_cells Right = sum_fits (size (chain_value nodes cells).shape) (ap (λ (u : Array). size u.shape) over.is)
+  all_cells Left = let most = sum_fits (size (chain_value nodes number).shape) (ap (λ (u : Array). size u.shape) number_is) in omega arith
 
   formed : IsDataArray (placed_on t p masked attrs own_cells (array_in nodes a))
   formed = record {

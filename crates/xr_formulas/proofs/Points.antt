@@ -1,10 +1,5 @@
 -- The cell at a point of what is tabulated.
-use Rattle.std.proofs.Common.{◌≡◌, ◌*◌, ℕ, ℤ, List, [], ◌∷◌, get_or, drop, Option, None, refl, sym, ap, ◌∙◌}
-use Rattle.std.proofs.lemmas.List.{get_or-drop, get_or-take}
-use Rattle.xr_types.specs.Points.{IsPoint, place, size, tab}
-use Rattle.xr_types.specs.declared.kind.DType.{DType}
-use Rattle.xr_arrays.specs.Arrays.{at, made}
-use Rattle.plan_core.proofs.Tabs.{place_below, tab_row}
+use Rattle.xr_formulas.proofs.Common.{DType, IsPoint, List, None, Option, [], ap, at, drop, get_or, get_or-drop, get_or-take, made, place, place_below, refl, size, sym, tab, tab_row, ℕ, ℤ, ◌*◌, ◌∙◌, ◌∷◌, ◌≡◌}
 
 pub tab_at : {X : Type 0} (s : List ℕ) (f : List ℕ → X) (p : List ℕ) (d : X) → IsPoint s p → get_or (tab s f) (place s p) d ≡ f p
 tab_at [] f [] d here = refl

@@ -1,28 +1,15 @@
 -- What a call makes, as a value of the plan.
-use Rattle.std.proofs.Common.{◌≡◌, ◌≤◌, ◌+◌, ◌*◌, List, [], ◌∷◌, ◌++◌, ap, sym, subst, ◌∙◌, arith}
-use Rattle.std.proofs.lemmas.Nat.{mul-le}
+use Rattle.xr_formulas.proofs.Common.{AddsAtMost, AddsBeside, AddsForAny, Axis, DataArray, IsArrayIn, IsArrayOf, List, Node, Portion, StandsFor, Value, [], adds_up, ap, arith, array_in, back_among, count, greatest_both, meaning, mul-le, of_array, portions, room, span, span_up, subst, sym, ◌*◌, ◌++◌, ◌+◌, ◌∙◌, ◌∷◌, ◌≡◌, ◌≤◌}
 use Rattle.std.proofs.lemmas.Grind.{flat_map-append}
 use Rattle.std.proofs.lemmas.List.Sums.{sum_by-append}
 use Rattle.std.specs.List.{flat_map, sum_by}
 use Rattle.std.specs.declared.alloc.Global.{Global}
 use Rattle.std.specs.declared.rc.Rc.{Rc}
-use Rattle.xr_types.specs.declared.axis.Axis.{Axis}
-use Rattle.xr_arrays.specs.declared.node.Node.{Node}
-use Rattle.xr_arrays.specs.Added.{AddsAtMost}
 use Rattle.xr_defs.specs.Meanings as of
-use Rattle.xr_defs.specs.Room.{count, of_array, portions, room, span, AddsForAny, Portion}
 use Rattle.xr_defs.specs.Values as values
-use Rattle.xr_defs.proofs.Spans.{back_among, greatest_both, span_up}
 use Rattle.xr_arguments.proofs.Inside.{array_inside}
 use Rattle.xr_arguments.proofs.Variants.{is_array}
-use Rattle.plan_core.proofs.Added.{adds_up}
-use Rattle.xr_values.specs.declared.data_array.DataArray.{DataArray}
-use Rattle.xr_values.specs.declared.value.Value.{Value}
 use Rattle.xr_values.specs.declared.value.Value.TheVariants as variants
-use Rattle.xr_values.specs.Meaning.{meaning}
-use Rattle.xr_values.specs.Stands.{array_in, IsArrayIn}
-use Rattle.xr_formulas.specs.Called.{AddsBeside, StandsFor}
-use Rattle.xr_formulas.specs.Mades.{IsArrayOf}
 
 -- ---- room beside any operands
 

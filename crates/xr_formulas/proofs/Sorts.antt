@@ -1,135 +1,55 @@
 -- The kinds that operators take.
-use Rattle.std.proofs.Common.{arith, ◌≡◌, ◌≢◌, ◌||◌, ◌&&◌, ℤ, Bool, true, false, not, cond, Option, Some, None, Result, Ok, Err, refl, sym, ap, ◌∙◌}
-use Rattle.std.proofs.lemmas.Bool.{and_parts, or_right, true≢false}
-use Rattle.std.specs.Int.{cast_signed, cast_unsigned, w128}
-use Rattle.std.proofs.lemmas.Int.{ints}
-use Rattle.xr_types.specs.Kinds.{in_range, promoted, InRange}
-use Rattle.xr_types.specs.Results.{◌>>=◌, unless}
-use Rattle.xr_types.specs.declared.fault.Fault.{Fault}
+use Rattle.xr_formulas.proofs.Common.{Bool, DType, Err, Fault, InRange, IsPlaced, None, Ok, OpKind, Option, Result, Side, Some, Sort, Suits, and_parts, ap, arith, cast_signed, cast_unsigned, check_kinds, check_truths, common_kind, false, in_range, ints, is_chars, is_comparison, is_truths, not, number_kind, of_truth, or_right, promoted, refl, sort_of, sym, takes_truths, takes_two, true, true≢false, truth_number, unless, w128, with_literal, ℤ, ◌&&◌, ◌>>=◌, ◌||◌, ◌∙◌, ◌≡◌, ◌≢◌}
 use Rattle.xr_types.specs.declared.fault.Fault.TheVariants.{DoesNotFit, WrongKind, WouldPromote}
-use Rattle.xr_types.specs.declared.kind.DType.{DType}
 use Rattle.xr_types.specs.declared.kind.DType.TheVariants as kinds
-use Rattle.xr_types.specs.declared.operation.OpKind.{OpKind}
 use Rattle.xr_types.specs.declared.operation.OpKind.TheVariants as ops
-use Rattle.xr_arrays.specs.Elements.{is_comparison, takes_two, Suits}
-use Rattle.xr_defs.specs.Building.{is_chars, is_integer_kind, truth_number}
-use Rattle.xr_operations.specs.Arithmetic.{check_kinds, check_truths, common_kind, is_truths, number_kind, of_number, of_truth, sort_of, takes_truths, with_literal, Sort}
 use Rattle.xr_operations.specs.Arithmetic as sorts
 use Rattle.xr_operations.specs.CellMethods.{check_fits}
-use Rattle.xr_operations.specs.declared.side.Side.{Side}
 use Rattle.xr_defs.specs.Values.{DataArray}
-use Rattle.xr_formulas.specs.Beside.{IsPlaced}
 use Rattle.xr_formulas.proofs.Compared.{kept_wide}
-use Rattle.xr_formulas.specs.Operands.{are_fit, is_division}
 
 -- ---- the check of two kinds
 
--- the check by its tests
-abbrev told : Bool → Bool → Result (Unit {0}) Fault
-told true true = Err WouldPromote
-told true false = Ok tt
-told false b = Err WrongKind
+abbrev is_division : Sort → Bool
+is_division sorts.Division = true
+is_division sort = false
 
-pub kinds_told : (sort : Sort) (a b : DType) → check_kinds sort a b ≡ told (are_fit sort a b) (is_division sort)
+not_division : (sort : Sort) (a b : DType) → check_kinds sort a b ≡ Ok tt → is_division sort ≡ false
 unfolding check_kinds unless
-kinds_told sorts.Arithmetic a b = by (is_chars a || is_chars b) (is_integer_kind a || is_integer_kind b)
+not_division sorts.Division a b e = by (not (is_chars a || is_chars b)) tt e
   where
-    by : (c i : Bool) → unless (not c && i) WrongKind ≡ told (cond c false i) false
-    by true i = refl
-    by false true = refl
-    by false false = refl
-kinds_told sorts.Bitwise a b = by (is_chars a || is_chars b)
-  where
-    by : (c : Bool) → unless (not c) WrongKind ≡ told (cond c false true) false
-    by true = refl
-    by false = refl
-kinds_told sorts.Equality a b = by (is_chars a || is_chars b)
-  where
-    by : (c : Bool) → unless (not c) WrongKind ≡ told (cond c false true) false
-    by true = refl
-    by false = refl
-kinds_told sorts.Order a b = by (is_chars a || is_chars b)
-  where
-    by : (c : Bool) → unless (not c) WrongKind ≡ told (cond c false true) false
-    by true = refl
-    by false = refl
-kinds_told sorts.Division a b = by (is_chars a || is_chars b)
-  where
-    by : (c : Bool) → (unless (not c) WrongKind >>= λ v. Err WouldPromote) ≡ told (cond c false true) true
-    by true = refl
-    by false = refl
-
--- what the kind of two operands tells
-pub common_tells : (op : OpKind) (k u t : DType) → common_kind op k u ≡ Ok t → (is_division (sort_of op) ≡ false) × (promoted k u ≡ Some t)
-unfolding common_kind
-common_tells op k u t e = by (are_fit (sort_of op) k u) (is_division (sort_of op)) (promoted k u) (sym (ap (λ r. r >>= λ v. elim (promoted k u) [ None ↦ Err WouldPromote | Some w ↦ Ok w ]) (kinds_told (sort_of op) k u)) ∙ e)
-  where
-    by : (fit division : Bool) (o : Option DType) → (told fit division >>= λ v. elim o [ None ↦ Err WouldPromote | Some w ↦ Ok w ]) ≡ Ok t → (division ≡ false) × (o ≡ Some t)
-    by true true o e = absurd cc
-    by true false None e = absurd cc
-    by true false (Some w) e = (refl, cc)
-    by false division o e = absurd cc
+    by : (c : Bool) (u : Unit {0}) → (unless c WrongKind >>= λ v. Err WouldPromote) ≡ Ok u → true ≡ false
+    by true u e = absurd cc
+    by false u e = absurd cc
+not_division sort a b e = refl
 
 two_from : (op : OpKind) → is_division (sort_of op) ≡ false → takes_two op ≡ true
 two_from ops.Add e = refl
-two_from ops.Subtract e = refl
-two_from ops.Multiply e = refl
-two_from ops.FloorDivide e = refl
-two_from ops.Remainder e = refl
-two_from ops.Divide e = absurd cc
-two_from ops.And e = refl
-two_from ops.Or e = refl
-two_from ops.Xor e = refl
-two_from ops.Equal e = refl
-two_from ops.NotEqual e = refl
-two_from ops.Less e = refl
-two_from ops.LessEqual e = refl
-two_from ops.Greater e = refl
-two_from ops.GreaterEqual e = refl
-two_from ops.Negate e = absurd cc
-two_from ops.Invert e = absurd cc
-two_from ops.IsNull e = absurd cc
-two_from ops.NotNull e = absurd cc
-two_from ops.FillNa e = absurd cc
-two_from ops.Cast e = absurd cc
+two_from op e = cc
+
+-- what the kind of two operands tells
+common_tells : (op : OpKind) (k u t : DType) → common_kind op k u ≡ Ok t → (takes_two op ≡ true) × (promoted k u ≡ Some t)
+unfolding common_kind
+common_tells op k u t e = by (check_kinds (sort_of op) k u) refl (promoted k u) e
+  where
+    by : (r : Result (Unit {0}) Fault) → check_kinds (sort_of op) k u ≡ r → (o : Option DType) → (r >>= λ v. elim o [ None ↦ Err WouldPromote | Some w ↦ Ok w ]) ≡ Ok t → (takes_two op ≡ true) × (o ≡ Some t)
+    by (Err f) is o e = absurd cc
+    by (Ok tt) is None e = absurd cc
+    by (Ok tt) is (Some w) e = (two_from op (not_division (sort_of op) k u is), cc)
 
 -- ---- beside a whole number
 
 number_kind_is : (k t : DType) → promoted k (number_kind k) ≡ Some t → t ≡ number_kind k
 number_kind_is kinds.Bool t e = cc
-number_kind_is kinds.Char t e = cc
-number_kind_is kinds.Int8 t e = cc
-number_kind_is kinds.Int16 t e = cc
-number_kind_is kinds.Int32 t e = cc
-number_kind_is kinds.Int64 t e = cc
-number_kind_is kinds.UInt8 t e = cc
-number_kind_is kinds.UInt16 t e = cc
-number_kind_is kinds.UInt32 t e = cc
-number_kind_is kinds.UInt64 t e = cc
+number_kind_is k t e = cc
 
 no_truths : (k : DType) → number_kind k ≢ kinds.Bool
 no_truths kinds.Bool e = absurd cc
-no_truths kinds.Char e = absurd cc
-no_truths kinds.Int8 e = absurd cc
-no_truths kinds.Int16 e = absurd cc
-no_truths kinds.Int32 e = absurd cc
-no_truths kinds.Int64 e = absurd cc
-no_truths kinds.UInt8 e = absurd cc
-no_truths kinds.UInt16 e = absurd cc
-no_truths kinds.UInt32 e = absurd cc
-no_truths kinds.UInt64 e = absurd cc
+no_truths k e = absurd cc
 
 own_kind : (k t : DType) → t ≡ number_kind k → (is_truths k && not (is_truths t)) ≡ false → t ≡ k
 own_kind kinds.Bool t is e = absurd (true≢false (sym (ap (λ u. not (is_truths u)) is) ∙ e))
-own_kind kinds.Char t is e = is
-own_kind kinds.Int8 t is e = is
-own_kind kinds.Int16 t is e = is
-own_kind kinds.Int32 t is e = is
-own_kind kinds.Int64 t is e = is
-own_kind kinds.UInt8 t is e = is
-own_kind kinds.UInt16 t is e = is
-own_kind kinds.UInt32 t is e = is
-own_kind kinds.UInt64 t is e = is
+own_kind k t is e = is
 
 pub passes : (b : Bool) (f : Fault) → unless b f ≡ Ok tt → b ≡ true
 unfolding unless
@@ -142,7 +62,7 @@ module _ (side : Side) (op : OpKind) (k t : DType) (n : ℤ) (e : common_kind op
 
   pub number_placed : unless (is_comparison op || in_range t n) DoesNotFit ≡ Ok tt → IsPlaced t (record { side = side; op = op; number = n })
   number_placed fits = record {
-    two = two_from op (common_tells op k (number_kind k) t e).0;
+    two = (common_tells op k (number_kind k) t e).0;
     suits = λ sums same. no_truths k (sym kind_is ∙ same);
     fits = passes (is_comparison op || in_range t n) DoesNotFit fits;
   }
@@ -154,38 +74,11 @@ module _ (side : Side) (op : OpKind) (k t : DType) (n : ℤ) (e : common_kind op
 
 truths_is : (k : DType) → is_truths k ≡ true → k ≡ kinds.Bool
 truths_is kinds.Bool e = refl
-truths_is kinds.Char e = absurd cc
-truths_is kinds.Int8 e = absurd cc
-truths_is kinds.Int16 e = absurd cc
-truths_is kinds.Int32 e = absurd cc
-truths_is kinds.Int64 e = absurd cc
-truths_is kinds.UInt8 e = absurd cc
-truths_is kinds.UInt16 e = absurd cc
-truths_is kinds.UInt32 e = absurd cc
-truths_is kinds.UInt64 e = absurd cc
+truths_is k e = absurd cc
 
 truth_takes : (op : OpKind) → takes_truths (sort_of op) ≡ true → (takes_two op ≡ true) × Suits op kinds.Bool
-truth_takes ops.Add e = absurd cc
-truth_takes ops.Subtract e = absurd cc
-truth_takes ops.Multiply e = absurd cc
-truth_takes ops.FloorDivide e = absurd cc
-truth_takes ops.Remainder e = absurd cc
-truth_takes ops.Divide e = absurd cc
 truth_takes ops.And e = (refl, λ f. absurd cc)
-truth_takes ops.Or e = (refl, λ f. absurd cc)
-truth_takes ops.Xor e = (refl, λ f. absurd cc)
-truth_takes ops.Equal e = (refl, λ f. absurd cc)
-truth_takes ops.NotEqual e = (refl, λ f. absurd cc)
-truth_takes ops.Less e = absurd cc
-truth_takes ops.LessEqual e = absurd cc
-truth_takes ops.Greater e = absurd cc
-truth_takes ops.GreaterEqual e = absurd cc
-truth_takes ops.Negate e = absurd cc
-truth_takes ops.Invert e = absurd cc
-truth_takes ops.IsNull e = absurd cc
-truth_takes ops.NotNull e = absurd cc
-truth_takes ops.FillNa e = absurd cc
-truth_takes ops.Cast e = absurd cc
+truth_takes op e = (cc, λ f. absurd cc)
 
 truth_fits : (op : OpKind) (b : Bool) → (is_comparison op || in_range kinds.Bool (truth_number b)) ≡ true
 truth_fits op true = or_right (is_comparison op) true refl
@@ -202,12 +95,6 @@ module _ (side : Side) (op : OpKind) (k : DType) (b : Bool) (e : check_truths op
   truth_own = sym (truths_is k both.0)
 
 -- ---- what the calls tell
-
-pub number_told : (side : Side) (op : OpKind) (a : DataArray) (n : ℤ) (t : DType) → common_kind op a.kind (number_kind a.kind) ≡ Ok t → unless (is_comparison op || in_range t n) DoesNotFit ≡ Ok tt
-    → of_number side op a n ≡ Ok (with_literal side op t n a)
-unfolding of_number
-number_told side op a n t e fits =
-    ap (λ r. r >>= λ k. unless (is_comparison op || in_range k n) DoesNotFit >>= λ u. Ok (with_literal side op k n a)) e ∙ ap (λ r. r >>= λ u. Ok (with_literal side op t n a)) fits
 
 pub truth_told : (side : Side) (op : OpKind) (a : DataArray) (b : Bool) → check_truths op a.kind ≡ Ok tt → of_truth side op a b ≡ Ok (with_literal side op kinds.Bool (truth_number b) a)
 unfolding of_truth

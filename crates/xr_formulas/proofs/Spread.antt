@@ -1,24 +1,7 @@
 -- A number at all points of some axes.
-use Rattle.std.proofs.Common.{◌≡◌, ◌<◌, ◌≤◌, ◌+◌, ◌*◌, ◌==◌, ◌||◌, cond, ℕ, ℤ, suc, Bool, true, false, List, [], ◌∷◌, ◌++◌, length, Some, refl, sym, ap, subst, ◌∙◌, arith, lit<}
-use Rattle.std.proofs.lemmas.Bool.{or_parts}
+use Rattle.xr_formulas.proofs.Common.{Array, Axis, Bool, ChainFits, DType, InRange, IsPoint, List, Node, Some, Step, StepFits, StepsFit, Widen, [], ap, arith, at, chain_cells, chain_value, cond, false, has_none, length, length-map, lit<, literal, made, most_cells, most_dimensions, mul-le, nil_from_length, one_cell, or_parts, refl, shape_over, size, step_value, steps_cells, steps_value, subst, suc, sym, tab, tab-length, tab_same, true, widened, widens, without, ℕ, ℤ, ◌*◌, ◌++◌, ◌+◌, ◌<◌, ◌==◌, ◌||◌, ◌∙◌, ◌∷◌, ◌≡◌, ◌≤◌}
 use Rattle.std.proofs.lemmas.Bool.Decides.{nat_tests}
-use Rattle.std.proofs.lemmas.List.{length-map, nil_from_length}
-use Rattle.std.proofs.lemmas.Nat.{mul-le}
-use Rattle.xr_types.specs.Kinds.{InRange}
-use Rattle.xr_types.specs.Names.{shape_over}
-use Rattle.xr_types.specs.Points.{size, tab, IsPoint}
-use Rattle.xr_types.specs.declared.axis.Axis.{Axis}
-use Rattle.xr_types.specs.declared.kind.DType.{DType}
-use Rattle.xr_arrays.specs.declared.node.Node.{Node}
-use Rattle.xr_arrays.specs.Arrays.{Array, at, made}
-use Rattle.xr_arrays.specs.Nodes.{widened, without}
-use Rattle.xr_defs.specs.Limits.{most_cells, most_dimensions}
-use Rattle.plan_core.proofs.Tabs.{tab-length, tab_same}
 use Rattle.xr_formulas.specs.declared.chain.Start.TheVariants as starts
-use Rattle.xr_formulas.specs.declared.chain.Step.{Step}
-use Rattle.xr_formulas.specs.declared.chain.Step.TheVariants.{Widen}
-use Rattle.xr_formulas.specs.Chains.{chain_cells, chain_value, one_cell, step_value, steps_cells, steps_value, ChainFits, StepFits, StepsFit}
-use Rattle.xr_formulas.specs.Spread.{has_none, literal, widens}
 use Rattle.xr_formulas.proofs.Points.{made_at}
 
 -- ---- steps one after the other
@@ -42,10 +25,6 @@ some_here x xs some = let parts = or_parts (x.size == 0) (has_none xs) some in (
 
 rest_below : (x : Axis) (xs : List Axis) → has_none (x ∷ xs) ≡ false → size (shape_over xs) ≤ size (shape_over (x ∷ xs))
 rest_below x xs some = let up = mul-le 1 (size (shape_over xs)) x.size (size (shape_over xs)) (some_here x xs some).0 (omega arith) in omega arith
-
-pub some_points : (axes : List Axis) → has_none axes ≡ false → 1 ≤ size (shape_over axes)
-some_points [] some = omega arith
-some_points (x ∷ xs) some = let rest = some_points xs (some_here x xs some).1 in let up = rest_below x xs some in omega arith
 
 no_points : (axes : List Axis) → has_none axes ≡ true → size (shape_over axes) ≡ 0
 no_points [] none = absurd cc

@@ -61,22 +61,16 @@ abbrev pub seen_from : Side → OpKind → OpKind
 seen_from Left op = turned op
 seen_from Right op = op
 
--- whether it holds of numbers and one above them, and of numbers and one below them
+-- whether it holds of a number and one above it; turned, of a number and one below it
 abbrev pub holds_below : OpKind → Bool
 holds_below ops.Less = true
 holds_below ops.LessEqual = true
 holds_below ops.NotEqual = true
 holds_below op = false
 
-abbrev pub holds_above : OpKind → Bool
-holds_above ops.Greater = true
-holds_above ops.GreaterEqual = true
-holds_above ops.NotEqual = true
-holds_above op = false
-
 -- a comparison with a number below or above a kind says the same as one with the kind's least or greatest number
 abbrev pub beyond : DType → OpKind → Bool → Placed
-beyond t op true = record { side = Right; op = if holds_above op then ops.GreaterEqual else ops.Less; number = low t }
+beyond t op true = record { side = Right; op = if holds_below (turned op) then ops.GreaterEqual else ops.Less; number = low t }
 beyond t op false = record { side = Right; op = if holds_below op then ops.LessEqual else ops.Greater; number = high t }
 
 abbrev pub within_kind : DType → Placed → Placed

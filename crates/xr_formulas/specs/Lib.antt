@@ -4,4 +4,3 @@ pub mod Called
 pub mod Cellwise
 pub mod Spread
 pub mod Beside
-pub mod Operands

@@ -18,12 +18,7 @@ fn masked_after(op: OpKind, masked: bool) -> bool
 {
     match op {
         OpKind::IsNull | OpKind::NotNull => false,
-        OpKind::Add | OpKind::Subtract | OpKind::Multiply => masked,
-        OpKind::FloorDivide | OpKind::Remainder | OpKind::Divide => masked,
-        OpKind::And | OpKind::Or | OpKind::Xor => masked,
-        OpKind::Equal | OpKind::NotEqual => masked,
-        OpKind::Less | OpKind::LessEqual | OpKind::Greater | OpKind::GreaterEqual => masked,
-        OpKind::Negate | OpKind::Invert | OpKind::FillNa | OpKind::Cast => masked,
+        _ => masked,
     }
 }
 

@@ -24,9 +24,7 @@ pub fn is_chars(kind: DType) -> bool
 {
     match kind {
         DType::Char => true,
-        DType::Bool => false,
-        DType::Int8 | DType::Int16 | DType::Int32 | DType::Int64 => false,
-        DType::UInt8 | DType::UInt16 | DType::UInt32 | DType::UInt64 => false,
+        _ => false,
     }
 }
 

@@ -1,13 +1,14 @@
 //! Methods of one array that work cell by cell.
-ghost use Rattle.std.specs.Prelude.{◌≡◌, not, List};
+ghost use Rattle.std.specs.Prelude.{◌≡◌, not, false, List};
 ghost use Rattle.xr_types.specs.Results.{unless, Answers};
 ghost use Rattle.xr_types.specs.declared.fault.Fault.TheVariants.{WrongKind};
-ghost use Rattle.xr_types.specs.declared.operation.OpKind.TheVariants as ops;
+ghost use Rattle.xr_types.specs.declared.kind.DType.TheVariants as kinds;
 ghost use Rattle.xr_arrays.specs.declared.node.Node.{Node};
 ghost use Rattle.xr_operations.specs.CellMethods as calls;
 ghost use Rattle.xr_operations.specs.Methods as methods;
 ghost use Rattle.xr_values.specs.Meaning.{meaning, given};
 ghost use Rattle.xr_values.specs.Stands.{array_in, IsArrayIn};
+ghost use Rattle.xr_formulas.specs.Cellwise.{masked_after, Changes};
 ghost use Rattle.xr_formulas.specs.Mades.{AnswersMade};
 
 use crate::cellwise::{changed, of_method};
@@ -19,23 +20,15 @@ use xr_arguments::{as_text, nothing_given, only};
 use xr_types::{CallFault, DType, DeepCopy, Fault, OpKind, TextBytes};
 use xr_values::{Args, DataArray, Value};
 
-// `isnull()`
-#[tactic(auto, using(crate::proofs::Answered::answered, crate::proofs::Answered::tests_missing), unfolding(xr_operations::specs::CellMethods::tested))]
-fn is_null(alloc: Global, on: &DataArray, args: &Args) -> Result<Made, CallFault>
-    ensures { (nodes : List Node) → IsArrayIn nodes on.now → AnswersMade nodes result (calls.tested ops.IsNull (array_in nodes on.now) (given nodes args.now)) }
+// `isnull()` and `notnull()`
+#[tactic(auto, using(crate::proofs::Answered::answered), unfolding(xr_operations::specs::CellMethods::tested))]
+fn tested(alloc: Global, op: OpKind, on: &DataArray, args: &Args) -> Result<Made, CallFault>
+    requires tests { Changes op kinds.Bool on.now.kind }
+    requires mask { masked_after op on.now.masked ≡ false }
+    ensures { (nodes : List Node) → IsArrayIn nodes on.now → AnswersMade nodes result (calls.tested op (array_in nodes on.now) (given nodes args.now)) }
 {
     nothing_given(args)?;
-    let made = of_method(alloc, on, OpKind::IsNull, DType::Bool)?;
-    Ok(made)
-}
-
-// `notnull()`
-#[tactic(auto, using(crate::proofs::Answered::answered, crate::proofs::Answered::tests_present), unfolding(xr_operations::specs::CellMethods::tested))]
-fn not_null(alloc: Global, on: &DataArray, args: &Args) -> Result<Made, CallFault>
-    ensures { (nodes : List Node) → IsArrayIn nodes on.now → AnswersMade nodes result (calls.tested ops.NotNull (array_in nodes on.now) (given nodes args.now)) }
-{
-    nothing_given(args)?;
-    let made = of_method(alloc, on, OpKind::NotNull, DType::Bool)?;
+    let made = of_method(alloc, on, op, DType::Bool)?;
     Ok(made)
 }
 
@@ -50,7 +43,7 @@ fn kind_called(name: &TextBytes) -> Result<DType, CallFault>
 }
 
 #[tactic(auto, unfolding(xr_types::specs::Results::unless))]
-fn check_kind(fits: bool) -> Result<(), CallFault>
+pub(crate) fn check_kind(fits: bool) -> Result<(), CallFault>
     ensures { Answers (λ u. u) result (unless fits WrongKind) }
 {
     if fits {
@@ -138,7 +131,7 @@ fn fill_called(alloc: Global, on: &DataArray, args: &Args) -> Result<Made, CallF
 ///
 /// # Errors
 /// `UnknownName` for any other; then those of the method.
-#[tactic(auto, unfolding(xr_operations::specs::Methods::array_method))]
+#[tactic(auto, using(crate::proofs::Answered::tests_missing, crate::proofs::Answered::tests_present), unfolding(xr_operations::specs::Methods::array_method))]
 pub fn array_method(
     alloc: Global,
     name: &TextBytes,
@@ -149,9 +142,9 @@ pub fn array_method(
 {
     let called = name.as_str();
     if called == "isnull" {
-        is_null(alloc, on, args)
+        tested(alloc, OpKind::IsNull, on, args)
     } else if called == "notnull" {
-        not_null(alloc, on, args)
+        tested(alloc, OpKind::NotNull, on, args)
     } else if called == "astype" {
         cast_called(alloc, on, args)
     } else if called == "fillna" {

@@ -7,7 +7,7 @@ ghost use Rattle.xr_defs.specs.WellFormed.{AreAttributes};
 ghost use Rattle.xr_operations.specs.Arithmetic.{is_truths as of_truths, with_literal};
 ghost use Rattle.xr_operations.specs.CellMethods.{filled_with};
 ghost use Rattle.xr_values.specs.Stands.{array_in, IsArrayIn};
-ghost use Rattle.xr_formulas.specs.Beside.{beyond, formula_beside, holds_above, holds_below, operand, placed_on, seen_from, turned, within_kind, Fills, IsOver, IsPlaced};
+ghost use Rattle.xr_formulas.specs.Beside.{beyond, formula_beside, holds_below, operand, placed_on, turned, within_kind, Fills, IsOver, IsPlaced};
 ghost use Rattle.xr_formulas.specs.Mades.{Makes};
 
 use crate::chain::{Chain, Step, cells_of, one_step};
@@ -33,11 +33,7 @@ pub(crate) fn is_comparison(op: OpKind) -> bool
     match op {
         OpKind::Equal | OpKind::NotEqual => true,
         OpKind::Less | OpKind::LessEqual | OpKind::Greater | OpKind::GreaterEqual => true,
-        OpKind::Add | OpKind::Subtract | OpKind::Multiply => false,
-        OpKind::FloorDivide | OpKind::Remainder | OpKind::Divide => false,
-        OpKind::And | OpKind::Or | OpKind::Xor => false,
-        OpKind::Negate | OpKind::Invert | OpKind::IsNull | OpKind::NotNull => false,
-        OpKind::FillNa | OpKind::Cast => false,
+        _ => false,
     }
 }
 
@@ -56,21 +52,7 @@ fn turned(op: OpKind) -> OpKind
         OpKind::LessEqual => OpKind::GreaterEqual,
         OpKind::Greater => OpKind::Less,
         OpKind::GreaterEqual => OpKind::LessEqual,
-        OpKind::Equal | OpKind::NotEqual => op,
-        OpKind::Add | OpKind::Subtract | OpKind::Multiply => op,
-        OpKind::FloorDivide | OpKind::Remainder | OpKind::Divide => op,
-        OpKind::And | OpKind::Or | OpKind::Xor => op,
-        OpKind::Negate | OpKind::Invert | OpKind::IsNull | OpKind::NotNull => op,
-        OpKind::FillNa | OpKind::Cast => op,
-    }
-}
-
-fn seen_from(side: Side, op: OpKind) -> OpKind
-    ensures { result ≡ seen_from side op }
-{
-    match side {
-        Side::Left => turned(op),
-        Side::Right => op,
+        _ => op,
     }
 }
 
@@ -79,26 +61,7 @@ fn holds_below(op: OpKind) -> bool
 {
     match op {
         OpKind::Less | OpKind::LessEqual | OpKind::NotEqual => true,
-        OpKind::Equal | OpKind::Greater | OpKind::GreaterEqual => false,
-        OpKind::Add | OpKind::Subtract | OpKind::Multiply => false,
-        OpKind::FloorDivide | OpKind::Remainder | OpKind::Divide => false,
-        OpKind::And | OpKind::Or | OpKind::Xor => false,
-        OpKind::Negate | OpKind::Invert | OpKind::IsNull | OpKind::NotNull => false,
-        OpKind::FillNa | OpKind::Cast => false,
-    }
-}
-
-fn holds_above(op: OpKind) -> bool
-    ensures { result ≡ holds_above op }
-{
-    match op {
-        OpKind::Greater | OpKind::GreaterEqual | OpKind::NotEqual => true,
-        OpKind::Equal | OpKind::Less | OpKind::LessEqual => false,
-        OpKind::Add | OpKind::Subtract | OpKind::Multiply => false,
-        OpKind::FloorDivide | OpKind::Remainder | OpKind::Divide => false,
-        OpKind::And | OpKind::Or | OpKind::Xor => false,
-        OpKind::Negate | OpKind::Invert | OpKind::IsNull | OpKind::NotNull => false,
-        OpKind::FillNa | OpKind::Cast => false,
+        _ => false,
     }
 }
 
@@ -108,7 +71,7 @@ fn beyond(kind: DType, op: OpKind, below: bool) -> Placed
     if below {
         Placed {
             side: Side::Right,
-            op: if holds_above(op) {
+            op: if holds_below(turned(op)) {
                 OpKind::GreaterEqual
             } else {
                 OpKind::Less
@@ -135,7 +98,10 @@ pub(crate) fn within_kind(kind: DType, placed: Placed) -> Placed
     if fits(kind, placed.number) {
         placed
     } else {
-        let op = seen_from(placed.side, placed.op);
+        let op = match placed.side {
+            Side::Left => turned(placed.op),
+            Side::Right => placed.op,
+        };
         beyond(kind, op, placed.number < least(kind))
     }
 }

@@ -3,17 +3,16 @@ ghost use Rattle.std.specs.Prelude.{◌≡◌, ◌||◌, List};
 ghost use Rattle.xr_types.specs.Kinds.{in_range};
 ghost use Rattle.xr_types.specs.Results.{unless, Answers};
 ghost use Rattle.xr_types.specs.declared.fault.Fault.TheVariants.{DoesNotFit};
-ghost use Rattle.xr_types.specs.declared.operation.OpKind.TheVariants as ops;
 ghost use Rattle.xr_arrays.specs.declared.node.Node.{Node};
 ghost use Rattle.xr_arrays.specs.Elements.{is_comparison as compares};
 ghost use Rattle.xr_operations.specs.Arithmetic as calls;
 ghost use Rattle.xr_values.specs.Stands.{array_in, IsArrayIn};
 ghost use Rattle.xr_formulas.specs.Mades.{AnswersMade};
-ghost use Rattle.xr_formulas.specs.Operands.{are_fit, is_arithmetic, is_division};
 
 use crate::cellwise::of_method;
 use crate::kinds::{fits, is_chars, is_integer_kind, is_truths, number_kind, truth_number};
 use crate::made::Made;
+use crate::methods::check_kind;
 use crate::numbers::{Placed, is_comparison, with_literal};
 use std::alloc::Global;
 use xr_operations::Side;
@@ -22,37 +21,6 @@ use xr_values::DataArray;
 
 // ---- kinds
 
-// `+ - * // %`
-fn is_arithmetic(op: OpKind) -> bool
-    ensures { result ≡ is_arithmetic (calls.sort_of op) }
-{
-    match op {
-        OpKind::Add | OpKind::Subtract | OpKind::Multiply => true,
-        OpKind::FloorDivide | OpKind::Remainder => true,
-        OpKind::And | OpKind::Or | OpKind::Xor | OpKind::Divide => false,
-        OpKind::Equal | OpKind::NotEqual => false,
-        OpKind::Less | OpKind::LessEqual | OpKind::Greater | OpKind::GreaterEqual => false,
-        OpKind::Negate | OpKind::Invert | OpKind::IsNull | OpKind::NotNull => false,
-        OpKind::FillNa | OpKind::Cast => false,
-    }
-}
-
-// `/`, and what isn't written between two operands
-fn is_division(op: OpKind) -> bool
-    ensures { result ≡ is_division (calls.sort_of op) }
-{
-    match op {
-        OpKind::Divide => true,
-        OpKind::Negate | OpKind::Invert | OpKind::IsNull | OpKind::NotNull => true,
-        OpKind::FillNa | OpKind::Cast => true,
-        OpKind::Add | OpKind::Subtract | OpKind::Multiply => false,
-        OpKind::FloorDivide | OpKind::Remainder => false,
-        OpKind::And | OpKind::Or | OpKind::Xor => false,
-        OpKind::Equal | OpKind::NotEqual => false,
-        OpKind::Less | OpKind::LessEqual | OpKind::Greater | OpKind::GreaterEqual => false,
-    }
-}
-
 // `& | ^ == !=`
 fn joins_truths(op: OpKind) -> bool
     ensures { result ≡ calls.takes_truths (calls.sort_of op) }
@@ -60,36 +28,31 @@ fn joins_truths(op: OpKind) -> bool
     match op {
         OpKind::And | OpKind::Or | OpKind::Xor => true,
         OpKind::Equal | OpKind::NotEqual => true,
-        OpKind::Add | OpKind::Subtract | OpKind::Multiply => false,
-        OpKind::FloorDivide | OpKind::Remainder | OpKind::Divide => false,
-        OpKind::Less | OpKind::LessEqual | OpKind::Greater | OpKind::GreaterEqual => false,
-        OpKind::Negate | OpKind::Invert | OpKind::IsNull | OpKind::NotNull => false,
-        OpKind::FillNa | OpKind::Cast => false,
+        _ => false,
     }
 }
 
-fn are_fit(op: OpKind, a: DType, b: DType) -> bool
-    ensures { result ≡ are_fit (calls.sort_of op) a b }
+// `/`, and what isn't written between two operands
+#[tactic(auto, unfolding(xr_operations::specs::Arithmetic::check_kinds))]
+fn check_division(a: DType, b: DType) -> Result<(), CallFault>
+    ensures { Answers (λ u. u) result (calls.check_kinds calls.Division a b) }
 {
-    if is_chars(a) || is_chars(b) {
-        false
-    } else if is_arithmetic(op) {
-        is_integer_kind(a) || is_integer_kind(b)
-    } else {
-        true
-    }
+    check_kind(!(is_chars(a) || is_chars(b)))?;
+    Err(CallFault::Refused(Fault::WouldPromote))
 }
 
-#[tactic(auto, using(crate::proofs::Sorts::kinds_told), unfolding(xr_types::specs::Results::unless))]
+#[tactic(auto, unfolding(xr_operations::specs::Arithmetic::check_kinds))]
 fn check_kinds(op: OpKind, a: DType, b: DType) -> Result<(), CallFault>
     ensures { Answers (λ u. u) result (calls.check_kinds (calls.sort_of op) a b) }
 {
-    if !are_fit(op, a, b) {
-        Err(CallFault::Refused(Fault::WrongKind))
-    } else if is_division(op) {
-        Err(CallFault::Refused(Fault::WouldPromote))
-    } else {
-        Ok(())
+    let plain = !(is_chars(a) || is_chars(b));
+    let whole = is_integer_kind(a) || is_integer_kind(b);
+    match op {
+        OpKind::Add | OpKind::Subtract | OpKind::Multiply => check_kind(plain && whole),
+        OpKind::FloorDivide | OpKind::Remainder => check_kind(plain && whole),
+        OpKind::Divide | OpKind::Negate | OpKind::Invert => check_division(a, b),
+        OpKind::IsNull | OpKind::NotNull | OpKind::FillNa | OpKind::Cast => check_division(a, b),
+        _ => check_kind(plain),
     }
 }
 
@@ -110,55 +73,26 @@ pub fn common_kind(op: OpKind, a: DType, b: DType) -> Result<DType, CallFault>
 
 // ---- one array
 
-#[tactic(auto, using(crate::proofs::Answered::answered, crate::proofs::Answered::negates), unfolding(xr_operations::specs::Arithmetic::of_one_array, xr_operations::specs::Arithmetic::check_unary, xr_types::specs::Results::unless))]
-fn negated(alloc: Global, on: &DataArray) -> Result<Made, CallFault>
-    ensures { (nodes : List Node) → IsArrayIn nodes on.now → AnswersMade nodes result (calls.of_one_array ops.Negate (array_in nodes on.now)) }
-{
-    if is_integer_kind(on.kind) {
-        let made = of_method(alloc, on, OpKind::Negate, on.kind)?;
-        Ok(made)
-    } else {
-        Err(CallFault::Refused(Fault::WrongKind))
-    }
-}
-
-#[tactic(auto, using(crate::proofs::Answered::answered, crate::proofs::Answered::inverts), unfolding(xr_operations::specs::Arithmetic::of_one_array, xr_operations::specs::Arithmetic::check_unary, xr_types::specs::Results::unless))]
-fn inverted(alloc: Global, on: &DataArray) -> Result<Made, CallFault>
-    ensures { (nodes : List Node) → IsArrayIn nodes on.now → AnswersMade nodes result (calls.of_one_array ops.Invert (array_in nodes on.now)) }
-{
-    if is_chars(on.kind) {
-        Err(CallFault::Refused(Fault::WrongKind))
-    } else {
-        let made = of_method(alloc, on, OpKind::Invert, on.kind)?;
-        Ok(made)
-    }
-}
-
 /// What an operator before an array makes: unary minus of integers, and `~` of integers and truth values.
 ///
 /// # Errors
 /// `WrongKind` for other kinds and other operators.
-#[tactic(auto, unfolding(xr_operations::specs::Arithmetic::of_one_array, xr_operations::specs::Arithmetic::check_unary))]
+#[tactic(auto, using(crate::proofs::Answered::answered, crate::proofs::Answered::inverts, crate::proofs::Answered::negates), unfolding(xr_operations::specs::Arithmetic::of_one_array, xr_operations::specs::Arithmetic::check_unary, xr_types::specs::Results::unless))]
 pub fn unary(alloc: Global, op: OpKind, on: &DataArray) -> Result<Made, CallFault>
     ensures { (nodes : List Node) → IsArrayIn nodes on.now → AnswersMade nodes result (calls.of_one_array op (array_in nodes on.now)) }
 {
     match op {
-        OpKind::Negate => negated(alloc, on),
-        OpKind::Invert => inverted(alloc, on),
-        OpKind::Add | OpKind::Subtract | OpKind::Multiply => Err(CallFault::Refused(
-            Fault::WrongKind,
-        )),
-        OpKind::FloorDivide | OpKind::Remainder | OpKind::Divide => Err(CallFault::Refused(
-            Fault::WrongKind,
-        )),
-        OpKind::And | OpKind::Or | OpKind::Xor => Err(CallFault::Refused(Fault::WrongKind)),
-        OpKind::Equal | OpKind::NotEqual => Err(CallFault::Refused(Fault::WrongKind)),
-        OpKind::Less | OpKind::LessEqual | OpKind::Greater | OpKind::GreaterEqual => Err(
-            CallFault::Refused(Fault::WrongKind),
-        ),
-        OpKind::IsNull | OpKind::NotNull | OpKind::FillNa | OpKind::Cast => Err(CallFault::Refused(
-            Fault::WrongKind,
-        )),
+        OpKind::Negate => {
+            check_kind(is_integer_kind(on.kind))?;
+            let made = of_method(alloc, on, OpKind::Negate, on.kind)?;
+            Ok(made)
+        }
+        OpKind::Invert => {
+            check_kind(!is_chars(on.kind))?;
+            let made = of_method(alloc, on, OpKind::Invert, on.kind)?;
+            Ok(made)
+        }
+        _ => Err(CallFault::Refused(Fault::WrongKind)),
     }
 }
 
@@ -201,11 +135,7 @@ pub fn with_number(
 fn check_truths(op: OpKind, kind: DType) -> Result<(), CallFault>
     ensures { Answers (λ u. u) result (calls.check_truths op kind) }
 {
-    if is_truths(kind) && joins_truths(op) {
-        Ok(())
-    } else {
-        Err(CallFault::Refused(Fault::WrongKind))
-    }
+    check_kind(is_truths(kind) && joins_truths(op))
 }
 
 /// What an operator between an array of truth values and a truth value makes, with the truth value on this side.

@@ -1,15 +1,10 @@
 -- Formulas in a plan that has grown.
-use Rattle.std.proofs.Common.{◌≡◌, ◌+◌, ap, subst, sym, ◌∙◌}
+use Rattle.xr_moving.proofs.Common.{Array, Formula, FormulaFits, Grows, Match, Node, ap, chain_value, formula_cells, formula_value, paired, size, subst, sym, ◌+◌, ◌∙◌, ◌≡◌}
 use Rattle.std.specs.Prelude.{List}
-use Rattle.xr_types.specs.Points.{size}
-use Rattle.xr_arrays.specs.declared.node.Node.{Node}
-use Rattle.xr_arrays.specs.Arrays.{Array}
 use Rattle.xr_arrays.specs.Elements.{choose_of}
-use Rattle.plan_core.specs.Plans.{Grows}
-use Rattle.xr_formulas.specs.declared.made.Formula.{Formula}
 use Rattle.xr_formulas.specs.declared.made.Formula.TheVariants.{One, Two, Three}
-use Rattle.xr_formulas.specs.Chains.{chain_cells, chain_value}
-use Rattle.xr_formulas.specs.Mades.{formula_cells, formula_value, paired, Choices, FormulaFits, Match}
+use Rattle.xr_formulas.specs.Chains.{chain_cells}
+use Rattle.xr_formulas.specs.Mades.{Choices}
 use Rattle.xr_formulas.proofs.Mades as chains
 
 module _ (old new : List Node) where

@@ -1,10 +1,10 @@
 -- Numbers in the range of a kind.
-use Rattle.std.proofs.Common.{◌≡◌, ◌≤ℤ◌, ℤ, true, arith}
+use Rattle.xr_moving.proofs.Common.{DType, InRange, arith, in_range, true, ℤ, ◌≡◌}
+use Rattle.std.proofs.Common.{◌≤ℤ◌}
 use Rattle.std.specs.Prelude.{int_le}
 use Rattle.std.proofs.lemmas.Int.{ints}
 use Rattle.std.proofs.lemmas.Bool.{and_parts}
-use Rattle.xr_types.specs.Kinds.{high, in_range, low, InRange}
-use Rattle.xr_types.specs.declared.kind.DType.{DType}
+use Rattle.xr_types.specs.Kinds.{high, low}
 
 up_to : (x y : ℤ) → int_le x y ≡ true → x ≤ℤ y
 up_to x y is = grind (arith, ints)

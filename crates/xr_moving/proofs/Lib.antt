@@ -1,11 +1,11 @@
+pub mod Common
 pub mod Loops
 pub mod Sources
 pub mod InKind
-pub mod Taken
+pub mod Made
 pub mod Moved
-pub mod ArrayMade
 pub mod Answered
-pub mod Chosen
+pub mod Kept
 pub mod Differences
 pub mod Left
 pub mod Formulas

@@ -1,32 +1,18 @@
 -- Datasets that a call makes, in a plan.
-use Rattle.std.proofs.Common.{◌≡◌, ◌≤◌, ◌+◌, ◌*◌, ◌++◌, suc, true, List, [], ◌∷◌, length, map, All, refl, sym, ap, subst, ◌∙◌, arith}
-use Rattle.std.specs.List.{AllByRecursion}
-use Rattle.std.proofs.lemmas.List.{length-map}
+use Rattle.xr_moving.proofs.Common.{AddsAtMost, All, AllByRecursion, AreVarsOf, Array, Axis, Dataset, IsDataset, IsNodeOf, IsSetMade, IsVarFit, IsVarOf, Node, SetMade, VarMade, Variable, [], ap, are_distinct, arith, axis_names, dataset_in, labelled, length, length-map, map, mul-le, names_of, refl, set_made_in, sizes, subst, suc, sym, true, var_made_in, variable_in, variable_names, vars_cells, ◌*◌, ◌++◌, ◌+◌, ◌∙◌, ◌∷◌, ◌≡◌, ◌≤◌}
+use Rattle.std.proofs.Common.{List}
 use Rattle.std.proofs.lemmas.List.Elements.{All-from_recursion}
-use Rattle.std.proofs.lemmas.Nat.{mul-le}
-use Rattle.xr_types.specs.declared.axis.Axis.{Axis}
-use Rattle.xr_arrays.specs.declared.node.Node.{Node}
-use Rattle.xr_arrays.specs.Arrays.{Array}
-use Rattle.xr_types.specs.Names.{are_distinct}
-use Rattle.xr_arrays.specs.Added.{AddsAtMost}
 use Rattle.xr_defs.specs.Room.{room, span, Portion}
 use Rattle.xr_defs.specs.Room as rooms
 use Rattle.xr_defs.specs.Values as of
-use Rattle.xr_types.specs.Names.{axis_names}
 use Rattle.xr_defs.proofs.Spans.{back_among, greatest_both, span_up}
 use Rattle.plan_core.proofs.Added.{adds_up}
 use Rattle.xr_values.proofs.Rooms.{in_room}
-use Rattle.xr_values.specs.declared.dataset.Dataset.{Dataset}
-use Rattle.xr_values.specs.declared.variable.Variable.{Variable}
-use Rattle.xr_values.specs.Stands.{dataset_in, variable_in, IsNodeOf}
 use Rattle.xr_values.specs.Variables.{with_variables}
 use Rattle.xr_values.specs.Variables as named
-use Rattle.xr_defs.specs.WellFormed.{labelled, names_of, variable_names, IsDataset}
 use Rattle.xr_values.proofs.Named.{put_behind}
-use Rattle.xr_moving.specs.declared.sets.VarMade.{VarMade}
-use Rattle.xr_moving.specs.Sets.{set_made_in, sizes, var_made_in, vars_cells, AddsForAnySet, AreVarsOf, IsSetMade, IsSetOf, IsVarFit, IsVarOf}
+use Rattle.xr_moving.specs.Sets.{AddsForAnySet, IsSetOf}
 use Rattle.xr_parts.proofs.Words.{split}
-use Rattle.xr_moving.specs.declared.sets.SetMade.{SetMade}
 
 module _ (old new : List Node) where
   the_same : (ms : List VarMade) (vs : List Variable) → AreVarsOf old new ms vs → map (variable_in new) vs ≡ map (var_made_in old) ms

@@ -1,29 +1,11 @@
 -- Data variables that a call makes, added to a plan one after the other.
-use Rattle.std.proofs.Common.{◌≡◌, ◌+◌, ℕ, ℤ, Option, List, [], ◌∷◌, ◌++◌, sym, ap, subst, ◌∙◌, arith}
-use Rattle.xr_types.specs.declared.axis.Axis.{Axis}
-use Rattle.xr_types.specs.declared.kind.DType.{DType}
-use Rattle.xr_arrays.specs.declared.node.Node.{Node}
-use Rattle.xr_arrays.specs.Arrays.{Array}
-use Rattle.xr_arrays.specs.Added.{AddsAtMost}
-use Rattle.xr_arrays.specs.Nodes.{value}
-use Rattle.xr_defs.specs.Selecting.{variable_array}
+use Rattle.xr_moving.proofs.Common.{AddsAtMost, AreVarsOf, Array, FormulaFits, Grows, IsVarOf, Node, Option, VarMade, Variable, [], ap, arith, formula_cells, subst, sym, vars_cells, ℤ, ◌++◌, ◌+◌, ◌∙◌, ◌∷◌, ◌≡◌}
+use Rattle.std.proofs.Common.{List}
 use Rattle.xr_defs.specs.Values as of
-use Rattle.plan_core.specs.Plans.{Grows}
 use Rattle.plan_core.proofs.Added.{adds_both, adds_none}
 use Rattle.plan_core.proofs.Plans.{grown-length, grown_value, grows_by_none, grows_on}
-use Rattle.xr_values.specs.declared.variable.Variable.{Variable}
-use Rattle.xr_values.specs.Stands.{variable_in, IsNodeOf}
-use Rattle.xr_moving.specs.declared.sets.VarMade.{VarMade}
-use Rattle.xr_formulas.specs.Mades.{formula_cells, FormulaFits}
-use Rattle.xr_moving.specs.Sets.{sizes, vars_cells, AreFit, AreVarsOf, IsVarOf}
+use Rattle.xr_moving.specs.Sets.{AreFit}
 use Rattle.xr_moving.proofs.Formulas.{still_cells, still_fits, still_value}
-
--- the value of its node is the variable's array
-pub variable_value : (nodes : List Node) (axes : List Axis) (v : Variable) → IsNodeOf nodes v.node (sizes axes v.dims) v.kind → value nodes v.node ≡ variable_array axes (variable_in nodes v)
-variable_value nodes axes v node = by (value nodes v.node).kind (value nodes v.node).shape node.has_kind node.has_shape
-  where
-    by : (kind : DType) (shape : List ℕ) → kind ≡ v.kind → shape ≡ sizes axes v.dims → record { kind = kind; shape = shape; cells = (value nodes v.node).cells } ≡ variable_array axes (variable_in nodes v)
-    by kind shape k s = cc
 
 -- ---- so far
 

@@ -1,33 +1,19 @@
 -- The shift of a dataset: its fill, and the order of its checks.
-use Rattle.std.proofs.Common.{◌≡◌, ◌&&◌, ◌||◌, ℕ, ℤ, Bool, true, false, cond, List, [], ◌∷◌, length, map, find, Option, Some, None, is_some, Result, Ok, Err, refl, sym, ap, subst, ◌∙◌}
-use Rattle.std.specs.Prelude.{◌==◌, is_none, not, option_map}
-use Rattle.std.specs.Str.{bytes_eq}
-use Rattle.xr_types.specs.Results.{◌>>=◌, unless, all_of}
-use Rattle.xr_types.specs.declared.fault.Fault.{Fault}
-use Rattle.xr_types.specs.declared.fault.Fault.TheVariants.{BadArgument, DoesNotFit, WrongKind}
-use Rattle.xr_types.specs.Kinds.{in_range, InRange}
-use Rattle.xr_types.specs.declared.kind.DType.{DType}
-use Rattle.xr_arrays.specs.declared.node.Node.{Node}
-use Rattle.xr_arrays.specs.Arrays.{Array, IsCell}
-use Rattle.xr_defs.specs.Arguments.{check_dimension}
+use Rattle.xr_moving.proofs.Common.{Array, Bool, DType, Dataset, Err, Fault, Fit, Given, IsCell, IsSetMade, MakesSet, Moves, Node, None, Ok, Option, Result, SetMade, Shift, Some, Value, Variable, WrongKind, [], all_of, ap, bytes_eq, check_dimension, cond, dataset_in, distance, false, in_range, is_moved, is_none, is_some, is_truths, length, map, moved_along, named, option_map, refl, set_made_in, set_moved, set_moved_by, shifted, subst, sym, true, var_moved, variable_array, variable_in, ℕ, ℤ, ◌&&◌, ◌>>=◌, ◌||◌, ◌∙◌, ◌∷◌, ◌≡◌}
+use Rattle.std.proofs.Common.{List, find}
+use Rattle.std.specs.Prelude.{◌==◌, not}
+use Rattle.xr_types.specs.Results.{unless}
+use Rattle.xr_types.specs.declared.fault.Fault.TheVariants.{BadArgument, DoesNotFit}
 use Rattle.xr_defs.specs.Building.{element_cell, keyword, truth_number}
 use Rattle.xr_defs.specs.Meanings as of
-use Rattle.xr_defs.specs.Meanings.{Given, Value}
-use Rattle.xr_defs.specs.Selecting.{as_number, variable_array}
+use Rattle.xr_defs.specs.Selecting.{as_number}
 use Rattle.xr_defs.specs.Values as values
-use Rattle.xr_operations.specs.Arithmetic.{is_truths}
 use Rattle.xr_operations.specs.CellMethods.{check_fits, literal_for}
-use Rattle.xr_operations.specs.Moves.{check_fill, check_kinds, check_ranges, distance, distance_given, distances, fill_cell, fill_for, fill_given, has_any, is_literal, is_missing, is_moved, moved_along, needed, set_moved, shift_set, shifted, var_moved}
-use Rattle.xr_values.specs.declared.variable.Variable.{Variable}
-use Rattle.xr_values.specs.declared.dataset.Dataset.{Dataset}
-use Rattle.xr_values.specs.Stands.{dataset_in, variable_in}
-use Rattle.xr_moving.specs.declared.moves.Moves.{Moves}
-use Rattle.xr_moving.specs.declared.sets.SetMade.{SetMade}
-use Rattle.xr_moving.specs.declared.moves.Move.TheVariants.{Shift}
-use Rattle.xr_moving.specs.Sets.{set_made_in, set_moved_by, Fit, IsSetMade, MakesSet}
-use Rattle.xr_moving.specs.Steps.{check_kind, check_kinds_by, check_named, check_range, named, shifted_by, typed_shift_set}
-use Rattle.xr_moving.proofs.Answered.{all_named}
+use Rattle.xr_operations.specs.Moves.{check_fill, check_kinds, check_ranges, distance_given, distances, fill_cell, fill_for, fill_given, has_any, is_literal, is_missing, needed, shift_set}
+use Rattle.xr_moving.specs.Steps.{check_kind, check_kinds_by, check_range, shifted_by, typed_shift_set}
+use Rattle.xr_reducing.proofs.Reduced.{passed}
 use Rattle.xr_moving.proofs.InKind.{in_kind}
+use Rattle.xr_moving.proofs.Loops.{both_ok}
 use Rattle.xr_moving.proofs.VarsMoved.{unmoved}
 
 -- ---- which dimensions move
@@ -84,19 +70,8 @@ IsWrong r = (e : Fault) → r ≡ Err e → e ≡ WrongKind
 
 number_wrong : (v : Value) (e : Fault) → as_number v ≡ Err e → e ≡ WrongKind
 unfolding as_number
-number_wrong of.Absent e is = cc
-number_wrong of.Missing e is = cc
-number_wrong (of.Truth b) e is = cc
 number_wrong (of.Number n) e is = absurd cc
-number_wrong (of.Text t) e is = cc
-number_wrong (of.Sequence vs) e is = cc
-number_wrong (of.Table es) e is = cc
-number_wrong (of.Slice a b k) e is = cc
-number_wrong (of.Array a) e is = cc
-number_wrong (of.Set s) e is = cc
-number_wrong (of.Times k ts) e is = cc
-number_wrong (of.GroupedArray a g) e is = cc
-number_wrong (of.GroupedSet s g) e is = cc
+number_wrong v e is = cc
 
 -- what a literal is for a kind: its cell, or refused
 pub data Read (w : Value) (r : Result (Option ℤ) Fault) : Type 0 where
@@ -105,7 +80,6 @@ pub data Read (w : Value) (r : Result (Option ℤ) Fault) : Type 0 where
 
 read : (t : DType) (w : Value) → Read w (fill_for t w)
 unfolding fill_for literal_for unless
-read t of.Absent = Bad refl
 read t of.Missing = Good refl
 read t (of.Truth b) = by (is_truths t)
   where
@@ -117,15 +91,7 @@ read t (of.Number n) = by (is_truths t)
     by : (c : Bool) → Read (of.Number n) ((unless (not c) WrongKind >>= λ u. Ok n) >>= λ n. Ok (Some n))
     by true = Bad refl
     by false = Good refl
-read t (of.Text x) = Bad refl
-read t (of.Sequence vs) = Bad refl
-read t (of.Table es) = Bad refl
-read t (of.Slice a b k) = Bad refl
-read t (of.Array a) = Bad refl
-read t (of.Set s) = Bad refl
-read t (of.Times k ts) = Bad refl
-read t (of.GroupedArray a g) = Bad refl
-read t (of.GroupedSet s g) = Bad refl
+read t w = Bad refl
 
 fill_wrong : (t : DType) (w : Value) (e : Fault) → fill_for t w ≡ Err e → e ≡ WrongKind
 fill_wrong t w e is = by (read t w)
@@ -183,23 +149,18 @@ is_shift_set s g = ap (λ r. unless (length g.plain == 0) BadArgument >>= λ u. 
 
     by : (r : Result (List (List ℕ × ℤ)) Fault) → distances (named true g.keyed) ≡ r
         → (check_kinds (named true g.keyed) (fill_given g) s.vars >>= λ v. r >>= λ bys. all_of (check_dimension s.axes) (named true g.keyed) >>= λ w. needed (fill_given g) >>= λ fill. check_ranges (named true g.keyed) fill s.vars >>= λ x. Ok (set_moved shifted (fill_cell fill) (is_missing fill) bys s))
-        ≡ (r >>= λ bys. check_kinds_by bys (fill_given g) s.vars >>= λ v. all_of (check_named s.axes) bys >>= λ w. needed (fill_given g) >>= λ fill. all_of (check_range bys fill) s.vars >>= λ x. Ok (set_moved shifted (fill_cell fill) (is_missing fill) bys s))
+        ≡ (r >>= λ bys. check_kinds_by bys (fill_given g) s.vars >>= λ v. all_of (check_dimension s.axes) (named true g.keyed) >>= λ w. needed (fill_given g) >>= λ fill. all_of (check_range bys fill) s.vars >>= λ x. Ok (set_moved shifted (fill_cell fill) (is_missing fill) bys s))
     by (Err e) is = swap (check_kinds (named true g.keyed) (fill_given g) s.vars) e (kinds_wrong (named true g.keyed) (fill_given g) s.vars) (distances_wrong (named true g.keyed) e is)
     by (Ok bys) is =
         ap (λ r. r >>= λ v. all_of (check_dimension s.axes) (named true g.keyed) >>= λ w. needed (fill_given g) >>= λ fill. check_ranges (named true g.keyed) fill s.vars >>= λ x. Ok (set_moved shifted (fill_cell fill) (is_missing fill) bys s)) (kinds_same (named true g.keyed) bys (fill_given g) s.vars is)
-        ∙ ap (λ r. check_kinds_by bys (fill_given g) s.vars >>= λ v. r >>= λ w. needed (fill_given g) >>= λ fill. check_ranges (named true g.keyed) fill s.vars >>= λ x. Ok (set_moved shifted (fill_cell fill) (is_missing fill) bys s)) (all_named s.axes (named true g.keyed) bys is)
-        ∙ ap (λ r. check_kinds_by bys (fill_given g) s.vars >>= λ v. all_of (check_named s.axes) bys >>= λ w. r) (ranges bys is (fill_given g))
+        ∙ ap (λ r. check_kinds_by bys (fill_given g) s.vars >>= λ v. all_of (check_dimension s.axes) (named true g.keyed) >>= λ w. r) (ranges bys is (fill_given g))
 
 -- ---- the fill is a cell of each variable that moves
 
 cell_fits : (t : DType) (c : Option ℤ) → check_fill t c ≡ Ok tt → IsCell t c
-unfolding check_fill check_fits unless
+unfolding check_fill check_fits
 cell_fits t None is = tt
-cell_fits t (Some n) is = by (in_range t n) refl is
-  where
-    by : (b : Bool) → in_range t n ≡ b → unless b DoesNotFit ≡ Ok tt → InRange t n
-    by true e is = in_kind t n e
-    by false e is = absurd cc
+cell_fits t (Some n) is = in_kind t n (passed (in_range t n) DoesNotFit is)
 
 -- what the checks of a variable that moves tell of its fill
 pub record IsFill (w : Value) (t : DType) : Type 0 where
@@ -213,24 +174,11 @@ fill_told w t is = by (read t w)
     by (Good ok) = record { cell = ap (λ (r : Result (Option ℤ) Fault). elim r [ Err e ↦ None | Ok fill ↦ fill ]) ok; fits = cell_fits t (element_cell w) (sym (ap (λ r. r >>= λ fill. check_fill t fill) ok) ∙ is) }
     by (Bad err) = let none : Err WrongKind ≡ Ok tt = sym (ap (λ r. r >>= λ fill. check_fill t fill) err) ∙ is in absurd cc
 
-both_ok : (r s : Result (Unit {0}) Fault) → (r >>= λ u. s) ≡ Ok tt → (r ≡ Ok tt) × (s ≡ Ok tt)
-both_ok (Ok u) s e = (refl, e)
-both_ok (Err f) s e = absurd cc
-
 hide_same : (w : Value) → is_literal w ≡ true → is_none (element_cell w) ≡ is_missing w
-hide_same of.Absent e = absurd cc
 hide_same of.Missing e = refl
 hide_same (of.Truth b) e = refl
 hide_same (of.Number n) e = refl
-hide_same (of.Text t) e = absurd cc
-hide_same (of.Sequence vs) e = absurd cc
-hide_same (of.Table es) e = absurd cc
-hide_same (of.Slice a b k) e = absurd cc
-hide_same (of.Array a) e = absurd cc
-hide_same (of.Set s) e = absurd cc
-hide_same (of.Times k ts) e = absurd cc
-hide_same (of.GroupedArray a g) e = absurd cc
-hide_same (of.GroupedSet s g) e = absurd cc
+hide_same w e = absurd cc
 
 module _ (nodes : List Node) (s : values.Dataset) (bys : List (List ℕ × ℤ)) (w : Value) (literal : is_literal w ≡ true) where
   one_told : (v : values.Variable) → check_range bys w v ≡ Ok tt → is_moved bys v.dims ≡ true → IsFill w v.kind
@@ -277,18 +225,10 @@ unfolding check_kinds_by
 literal_kinds bys w vars e = ap (λ r. r >>= λ u. all_of (check_kind bys w) vars) e
 
 pub kinds_literal : (bys : List (List ℕ × ℤ)) (w : Value) (vars : List values.Variable) → check_kinds_by bys (Some w) vars ≡ Ok tt → is_literal w ≡ true
-unfolding check_kinds_by unless
-kinds_literal bys w vars e = by (is_literal w) e
-  where
-    by : (b : Bool) → (unless b WrongKind >>= λ u. all_of (check_kind bys w) vars) ≡ Ok tt → b ≡ true
-    by true e = refl
-    by false e = absurd cc
+unfolding check_kinds_by
+kinds_literal bys w vars e = passed (is_literal w) WrongKind (both_ok (unless (is_literal w) WrongKind) (all_of (check_kind bys w) vars) e).0
 
-pub shift_told : (s : values.Dataset) (g : Given) (bys : List (List ℕ × ℤ)) (w : Value) → length g.plain ≡ 0 → distances (named true g.keyed) ≡ Ok bys → fill_given g ≡ Some w → check_kinds_by bys (Some w) s.vars ≡ Ok tt → all_of (check_named s.axes) bys ≡ Ok tt
+pub shift_told : (s : values.Dataset) (g : Given) (bys : List (List ℕ × ℤ)) (w : Value) → length g.plain ≡ 0 → distances (named true g.keyed) ≡ Ok bys → fill_given g ≡ Some w → check_kinds_by bys (Some w) s.vars ≡ Ok tt → all_of (check_dimension s.axes) (named true g.keyed) ≡ Ok tt
     → typed_shift_set s g ≡ shifted_by bys w s
 unfolding typed_shift_set unless needed
-shift_told s g bys w none d f k e =
-    ap (λ n. unless (n == 0) BadArgument >>= λ u. distances (named true g.keyed) >>= λ bys. check_kinds_by bys (fill_given g) s.vars >>= λ v. all_of (check_named s.axes) bys >>= λ x. needed (fill_given g) >>= λ fill. shifted_by bys fill s) none
-    ∙ ap (λ r. r >>= λ bys. check_kinds_by bys (fill_given g) s.vars >>= λ v. all_of (check_named s.axes) bys >>= λ x. needed (fill_given g) >>= λ fill. shifted_by bys fill s) d
-    ∙ ap (λ o. check_kinds_by bys o s.vars >>= λ v. all_of (check_named s.axes) bys >>= λ x. needed o >>= λ fill. shifted_by bys fill s) f
-    ∙ ap (λ r. r >>= λ v. all_of (check_named s.axes) bys >>= λ x. shifted_by bys w s) k ∙ ap (λ r. r >>= λ x. shifted_by bys w s) e
+shift_told s g bys w none d f k e = rw (none, d, f, k, e) refl

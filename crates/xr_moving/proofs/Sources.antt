@@ -1,17 +1,13 @@
 -- The positions that a move shows.
-use Rattle.std.proofs.Common.{◌≡◌, ◌<◌, ◌+◌, ◌-◌, ◌%◌, ◌||◌, ℕ, ℤ, suc, pos, negsuc, Bool, true, false, cond, nat_lt, [], ◌∷◌, ◌++◌, length, map, get_or, Option, Some, None, is_some, All, refl, ap, ◌∙◌, arith}
-use Rattle.std.specs.List.{range_with_len}
-use Rattle.std.proofs.lemmas.Bool.{ltb-true}
+use Rattle.xr_moving.proofs.Common.{All, All-map, Bool, IsBelow, None, Option, Roll, Shift, Some, [], ap, arith, cond, false, get_or, get_or-range_with_len, hides, is_some, length, length-range_with_len, map, positions_by, range_with_len, refl, suc, true, ℕ, ℤ, ◌++◌, ◌+◌, ◌-◌, ◌<◌, ◌||◌, ◌∙◌, ◌∷◌, ◌≡◌}
+use Rattle.std.proofs.Common.{◌%◌, pos, negsuc, nat_lt}
+use Rattle.std.proofs.lemmas.Bool.{ltb-true, or_right}
 use Rattle.std.proofs.lemmas.List.{map-append}
-use Rattle.std.proofs.lemmas.List.Elements.{All-map}
-use Rattle.std.proofs.lemmas.List.FromFn.{get_or-range_with_len, length-map-range_with_len, length-range_with_len}
+use Rattle.std.proofs.lemmas.List.FromFn.{length-map-range_with_len}
 use Rattle.std.proofs.lemmas.Nat.{mod_below}
-use Rattle.xr_arrays.specs.Nodes.{IsBelow}
 use Rattle.xr_arrays.proofs.LabelPlaces.{range_with_len-add}
 use Rattle.xr_operations.specs.Moves.{roll_source, shift_source}
 use Rattle.xr_moving.specs.declared.moves.Move.{Move}
-use Rattle.xr_moving.specs.declared.moves.Move.TheVariants.{Roll, Shift}
-use Rattle.xr_moving.specs.Steps.{hides, positions_by}
 
 pub one_more : (f : ℕ → Option ℕ) (i : ℕ) → map f (range_with_len 0 (i + 1)) ≡ map f (range_with_len 0 i) ++ f i ∷ []
 one_more f i =
@@ -58,13 +54,9 @@ roll_there n (negsuc k) i = refl
 all_some : (f : ℕ → Option ℕ) (n : ℕ) → ((i : ℕ) → is_some (f i) ≡ true) → All (λ o. is_some o ≡ true) (map f (range_with_len 0 n))
 all_some f n each = All-map (λ o. is_some o ≡ true) f (range_with_len 0 n) (λ i d lt. each (get_or (range_with_len 0 n) i d))
 
-or_true : (a : Bool) → (a || true) ≡ true
-or_true true = refl
-or_true false = refl
-
 pub covers_by : (m : Move) (fill : Option ℤ) (by : ℤ) (n : ℕ) → hides m fill ≡ false → (i : ℕ) → i < length (positions_by m by n) → (is_some (get_or (positions_by m by n) i None) || is_some fill) ≡ true
 covers_by Shift None by n e i lt = absurd cc
-covers_by Shift (Some f) by n e i lt = or_true (is_some (get_or (positions_by Shift by n) i None))
+covers_by Shift (Some f) by n e i lt = or_right (is_some (get_or (positions_by Shift by n) i None)) true refl
 covers_by Roll fill by n e i lt = ap (λ b. b || is_some fill) (all_some (roll_source n by) n (roll_there n by) i None lt)
 
 -- ---- positions one after the other

@@ -1,42 +1,15 @@
--- Datasets with the cells of their variables moved.
-use Rattle.std.proofs.Common.{◌≡◌, ◌≤◌, ◌*◌, ◌++◌, ◌&&◌, ◌||◌, ℕ, ℤ, suc, Bool, true, false, List, [], ◌∷◌, length, map, Option, Some, None, is_some, All, refl, sym, ap, subst, ◌∙◌, arith}
-use Rattle.std.specs.List.{list_all, list_any, AllByRecursion}
-use Rattle.std.proofs.lemmas.List.{length-map}
-use Rattle.xr_types.specs.Names.{among, are_distinct, axis_names}
-use Rattle.xr_types.specs.Points.{size}
-use Rattle.xr_types.specs.declared.axis.Axis.{Axis}
-use Rattle.xr_arrays.specs.declared.node.Node.{Node}
-use Rattle.xr_arrays.specs.Arrays.{Array, IsCell}
-use Rattle.xr_arrays.specs.Nodes.{value}
-use Rattle.xr_defs.specs.Decoding.{is_kept}
-use Rattle.xr_defs.specs.Room.{span}
-use Rattle.xr_defs.specs.Selecting.{axis_called, variable_array}
+-- Arrays and datasets with their cells moved.
+use Rattle.xr_moving.proofs.Common.{All, AllByRecursion, Array, Axis, Dataset, Fit, IsArrayIn, IsCell, IsDataset, IsDatasetIn, IsNodeOf, IsVariable, Made, Makes, MakesSet, Moves, Node, None, Option, Some, Variable, [], ap, are_distinct, arith, array_in, array_of, axis_called, axis_names, dataset_in, distance, false, hides, is_moved, is_some, labelled, length-map, map, moved_along, moved_at, moved_by, moved_cells, names_of, own_axes, positions_by, refl, set_made_in, set_moved_by, shape_over, sizes, sizes_again, subst, suc, sym, true, var_moved, variable_array, variable_in, ℕ, ℤ, ◌&&◌, ◌++◌, ◌||◌, ◌∙◌, ◌∷◌, ◌≡◌}
+use Rattle.std.proofs.Common.{List}
+use Rattle.xr_values.specs.declared.data_array.DataArray.{DataArray}
+use Rattle.xr_formulas.specs.Mades.{like}
+use Rattle.xr_moving.specs.Sets.{set_made, var_made}
+use Rattle.xr_parts.proofs.Axes.{the_axes}
+use Rattle.xr_moving.proofs.Made.{all_done, array_made, busy_stays, names_stay, var_done, AreDone, AreMade, IsDone, IsVarDone}
+use Rattle.xr_moving.proofs.Moved.{all_at, moves_made, AreAt}
 use Rattle.xr_defs.specs.Values as of
-use Rattle.xr_defs.specs.declared.value.Coord.{Coord}
-use Rattle.xr_defs.specs.WellFormed.{labelled, names_of, variable_names, AreCells, IsDataset, IsVariable}
-use Rattle.xr_values.specs.declared.dataset.Dataset.{Dataset}
-use Rattle.xr_values.specs.declared.variable.Variable.{Variable}
-use Rattle.xr_values.specs.Stands.{dataset_in, variable_in, IsDatasetIn, IsNodeOf}
-use Rattle.xr_reducing.proofs.OneVariable.{within_span}
-use Rattle.xr_operations.specs.Moves.{distance, is_moved, moved_along, moved_at, var_moved}
-use Rattle.xr_formulas.specs.Chains.{steps_cells, steps_value, StepsFit}
-use Rattle.xr_moving.specs.declared.moves.Moves.{Moves}
-use Rattle.xr_moving.specs.Sets.{set_made, set_made_in, set_moved_by, sizes, var_made, var_made_in, Fit, IsVarFit, MakesSet}
-use Rattle.xr_moving.specs.Steps.{hides, positions_by, sides_named, step_at, steps_along}
-use Rattle.xr_moving.proofs.ArrayMade.{times_up}
-use Rattle.xr_moving.proofs.Realized.{variable_value}
-use Rattle.xr_moving.proofs.Moved as moved
-use Rattle.xr_moving.proofs.Moved.{all_at, names, steps_move, AreAt, IsMoved}
 
 -- ---- what has none of the dimensions stays
-
-unmoved_steps : (m : Moves) (xs : List (List ℕ × ℕ)) (k : ℕ) → is_moved m.by (names xs) ≡ false → steps_along m k xs ≡ []
-unmoved_steps m [] k e = refl
-unmoved_steps m (x ∷ xs) k e = by (distance m.by x.0) e (unmoved_steps m xs (suc k))
-  where
-    by : (o : Option ℤ) → (is_some o || is_moved m.by (names xs)) ≡ false → (is_moved m.by (names xs) ≡ false → steps_along m (suc k) xs ≡ []) → step_at m.how m.fill k x.1 o ++ steps_along m (suc k) xs ≡ []
-    by None e rest = rest e
-    by (Some n) e rest = absurd cc
 
 pub unmoved : (move : ℤ → ℕ → List (Option ℕ)) (fill : Option ℤ) (bys : List (List ℕ × ℤ)) (dims : List (List ℕ)) (k : ℕ) (a : Array) → is_moved bys dims ≡ false → moved_along move fill bys k dims a ≡ a
 unmoved move fill bys [] k a e = refl
@@ -46,96 +19,27 @@ unmoved move fill bys (d ∷ dims) k a e = by (distance bys d) e (unmoved move f
     by None e rest = rest e
     by (Some n) e rest = absurd cc
 
-still_masked : (masked hiding b : Bool) → b ≡ false → masked ≡ (masked || hiding && b)
-still_masked true hiding b e = refl
-still_masked false true b e = sym e
-still_masked false false b e = refl
+-- ---- an array
 
-sides_names : (axes : List Axis) (dims : List (List ℕ)) → names (sides_named axes dims) ≡ dims
-sides_names axes [] = refl
-sides_names axes (d ∷ dims) = ap (λ ds. d ∷ ds) (sides_names axes dims)
+module _ (nodes : List Node) (a : DataArray) (m : Moves) (is : IsArrayIn nodes a) (fits : IsCell a.kind m.fill) where
+  abbrev made : Made
+  made = like a a.kind (a.masked || hides m.how m.fill && is_moved m.by (axis_names a.axes)) a.attrs (moved_cells m a.axes a.node (axis_names a.axes))
 
-sides_sizes : (axes : List Axis) (dims : List (List ℕ)) → moved.sizes (sides_named axes dims) ≡ sizes axes dims
-sides_sizes axes [] = refl
-sides_sizes axes (d ∷ dims) = ap (λ ns. (axis_called axes d).size ∷ ns) (sides_sizes axes dims)
+  abbrev moved_to : Array
+  moved_to = moved_along (positions_by m.how) m.fill m.by 0 (axis_names a.axes) (array_of (array_in nodes a))
 
--- ---- one variable
+  own_shape : sizes a.axes (axis_names a.axes) ≡ shape_over a.axes
+  own_shape = sym (sizes_again a.axes (axis_names a.axes)) ∙ ap shape_over (the_axes a.axes a.axes (own_axes a.axes is.formed.axes.distinct))
 
-pub record IsVarMade (nodes : List Node) (axes : List Axis) (m : Moves) (v : Variable) (means : of.Variable) : Type 0 where
-  pub is : var_made_in nodes (var_made m axes v) ≡ means
-  pub fit : IsVarFit nodes axes (var_made m axes v)
-  pub formed : IsVariable axes means
+  cells_made : AreMade nodes made.cells (shape_over a.axes) a.kind made.masked moved_to
+  cells_made =
+      moves_made nodes a.node m a.axes (axis_names a.axes) (shape_over a.axes) a.kind a.masked is.node is.formed.cells (subst (λ s. AreAt a.axes s 0 (axis_names a.axes)) own_shape (all_at a.axes (axis_names a.axes)))
+      (length-map a.axes (λ (x : Axis). x.name) ∙ sym (length-map a.axes (λ (x : Axis). x.size))) (λ e. fits)
 
-module _ (nodes : List Node) (set : of.Dataset) (m : Moves) where
-  abbrev changed : of.Variable → of.Variable
-  changed = var_moved (positions_by m.how) (λ t. m.fill) (hides m.how m.fill) m.by set
+  pub array_makes : Makes nodes (moved_by m (array_in nodes a)) made
+  array_makes = array_made nodes made moved_to cells_made (record { name = is.formed.name; axes = is.formed.axes; coords = is.formed.coords; distinct = is.formed.distinct; attrs = is.formed.attrs; cells = cells_made.are })
 
-  module _ (v : Variable) (node : IsNodeOf nodes v.node (sizes set.axes v.dims) v.kind) (var : IsVariable set.axes (variable_in nodes v)) (fits : is_moved m.by v.dims ≡ true → IsCell v.kind m.fill) where
-    abbrev own : Array
-    own = variable_array set.axes (variable_in nodes v)
-
-    abbrev xs : List (List ℕ × ℕ)
-    xs = sides_named set.axes v.dims
-
-    abbrev masked_by : Bool → Bool
-    masked_by b = v.masked || hides m.how m.fill && b
-
-    abbrev then : List (List ℕ) → Array
-    then ns = moved_along (positions_by m.how) m.fill m.by 0 ns own
-
-    moves : (b : Bool) → is_moved m.by v.dims ≡ b → IsMoved (sizes set.axes v.dims) v.kind (masked_by (is_moved m.by v.dims)) (steps_along m 0 xs) (length xs) own (then v.dims)
-    moves true e =
-        subst (λ ns. IsMoved (sizes set.axes v.dims) v.kind (masked_by (is_moved m.by ns)) (steps_along m 0 xs) (length xs) own (then ns)) (sides_names set.axes v.dims)
-        (steps_move m (sizes set.axes v.dims) v.kind (fits e) xs 0 v.masked (variable_in nodes v).cells (subst (λ s. AreAt s 0 xs) (sides_sizes set.axes v.dims) (all_at xs)) var.cells)
-    moves false e =
-        let none = unmoved_steps m xs 0 (ap (is_moved m.by) (sides_names set.axes v.dims) ∙ e) in
-        let same = unmoved (positions_by m.how) m.fill m.by v.dims 0 own e in
-        subst (λ ss. IsMoved (sizes set.axes v.dims) v.kind (masked_by (is_moved m.by v.dims)) ss (length xs) own (then v.dims)) (sym none)
-        (subst (λ w. IsMoved (sizes set.axes v.dims) v.kind (masked_by (is_moved m.by v.dims)) [] (length xs) own w) (sym same) (record {
-          value = refl;
-          shape = refl;
-          kind_is = refl;
-          fits = tt;
-          cells = subst (λ b. AreCells (sizes set.axes v.dims) v.kind b (variable_in nodes v).cells) (still_masked v.masked (hides m.how m.fill) (is_moved m.by v.dims) e) var.cells;
-          room = omega arith;
-        }))
-
-    after : IsMoved (sizes set.axes v.dims) v.kind (masked_by (is_moved m.by v.dims)) (steps_along m 0 xs) (length xs) own (then v.dims)
-    after = moves (is_moved m.by v.dims) refl
-
-    node_is : value nodes v.node ≡ own
-    node_is = variable_value nodes set.axes v node
-
-    value_is : steps_value (steps_along m 0 xs) (value nodes v.node) ≡ then v.dims
-    value_is = ap (steps_value (steps_along m 0 xs)) node_is ∙ after.value
-
-    few_steps : steps_cells (steps_along m 0 xs) (value nodes v.node) ≤ 256 * span set.axes
-    few_steps =
-        let cells = ap (steps_cells (steps_along m 0 xs)) node_is in
-        let room = after.room in
-        let over = within_span set.axes v.dims var.over var.distinct in
-        let low : length (sizes set.axes v.dims) ≤ 16 = var.cells.low_rank in
-        let rank : length (sizes set.axes v.dims) ≡ length v.dims = length-map v.dims (λ d. (axis_called set.axes d).size) in
-        let count : length (sides_named set.axes v.dims) ≡ length v.dims = length-map v.dims (λ d. (d, (axis_called set.axes d).size)) in
-        let most = times_up (length (sides_named set.axes v.dims)) 16 (size (sizes set.axes v.dims)) (omega arith) in
-        omega arith
-
-    pub var_makes : IsVarMade nodes set.axes m v (changed (variable_in nodes v))
-    var_makes = record {
-      is = ap (λ (w : Array). of_cells w.cells) value_is;
-      fit = record {
-        fits = record { start = node.placed; steps = subst (StepsFit (steps_along m 0 xs)) (sym node_is) after.fits };
-        shape = ap (λ (w : Array). w.shape) value_is ∙ after.shape;
-        kind = ap (λ (w : Array). w.kind) value_is ∙ after.kind_is;
-        room = let few = few_steps in omega arith;
-      };
-      formed = record { name = var.name; over = var.over; distinct = var.distinct; attrs = var.attrs; cells = after.cells };
-    }
-      where
-        of_cells : List (Option ℤ) → of.Variable
-        of_cells cells = record { name = v.name; dims = v.dims; kind = v.kind; masked = masked_by (is_moved m.by v.dims); attrs = v.attrs; cells = cells }
-
--- ---- all of a dataset
+-- ---- a dataset
 
 each_of : {X : Type 0} (P : X → Type 0) (xs : List X) → All P xs → AllByRecursion P xs
 each_of P [] all = tt
@@ -145,57 +49,39 @@ module _ (nodes : List Node) (s : Dataset) (m : Moves) (is : IsDatasetIn nodes s
   abbrev set : of.Dataset
   set = dataset_in nodes s
 
-  abbrev after_moves : of.Variable → of.Variable
-  after_moves = var_moved (positions_by m.how) (λ t. m.fill) (hides m.how m.fill) m.by set
+  abbrev after : of.Variable → of.Variable
+  after = var_moved (positions_by m.how) (λ t. m.fill) (hides m.how m.fill) m.by set
 
-  record AreMade (vs : List Variable) : Type 0 where
-    are : map (var_made_in nodes) (map (var_made m s.axes) vs) ≡ map after_moves (map (variable_in nodes) vs)
-    fit : AllByRecursion (IsVarFit nodes s.axes) (map (var_made m s.axes) vs)
-    formed : AllByRecursion (IsVariable s.axes) (map after_moves (map (variable_in nodes) vs))
-    names_stay : variable_names (map after_moves (map (variable_in nodes) vs)) ≡ variable_names (map (variable_in nodes) vs)
-    count : length (map after_moves (map (variable_in nodes) vs)) ≡ length (map (variable_in nodes) vs)
-    dims_stay : (n : List ℕ) → list_any (λ (v : of.Variable). among v.dims n) (map after_moves (map (variable_in nodes) vs)) ≡ list_any (λ (v : of.Variable). among v.dims n) (map (variable_in nodes) vs)
+  abbrev IsHere : Variable → Type 0
+  IsHere v = IsNodeOf nodes v.node (sizes s.axes v.dims) v.kind
 
-  all_made : (vs : List Variable) → AllByRecursion (λ (v : Variable). IsNodeOf nodes v.node (sizes s.axes v.dims) v.kind) vs → AllByRecursion (IsVariable s.axes) (map (variable_in nodes) vs) → Fit m vs → AreMade vs
-  all_made [] ns fs few = record { are = refl; fit = tt; formed = tt; names_stay = refl; count = refl; dims_stay = λ n. refl }
-  all_made (v ∷ vs) ns fs few =
-      let one = var_makes nodes set m v ns.0 fs.0 few.0 in
-      let rest = all_made vs ns.1 fs.1 few.1 in
-      record {
-        are = ap (λ w. w ∷ map (var_made_in nodes) (map (var_made m s.axes) vs)) one.is ∙ ap (λ ws. after_moves (variable_in nodes v) ∷ ws) rest.are;
-        fit = (one.fit, rest.fit);
-        formed = (one.formed, rest.formed);
-        names_stay = ap (λ ns. v.name ∷ ns) rest.names_stay;
-        count = ap suc rest.count;
-        dims_stay = λ n. ap (λ b. among v.dims n || b) (rest.dims_stay n);
-      }
+  var_makes : (v : Variable) → IsHere v → IsVariable s.axes (variable_in nodes v) → (is_moved m.by v.dims ≡ true → IsCell v.kind m.fill) → IsVarDone nodes s.axes (after (variable_in nodes v)) (var_made m s.axes v)
+  var_makes v node var fill =
+      let all = moves_made nodes v.node m s.axes v.dims (sizes s.axes v.dims) v.kind v.masked node var.cells (all_at s.axes v.dims) (sym (length-map v.dims (λ d. (axis_called s.axes d).size))) fill in
+      var_done nodes s.axes (var_made m s.axes v) (moved_along (positions_by m.how) m.fill m.by 0 v.dims (variable_array s.axes (variable_in nodes v))) all
+      (record { name = var.name; over = var.over; distinct = var.distinct; attrs = var.attrs; cells = all.are })
 
-  made : AreMade s.vars
-  made = all_made s.vars (each_of (λ (v : Variable). IsNodeOf nodes v.node (sizes s.axes v.dims) v.kind) s.vars is.nodes_of) is.formed.vars fits
+  each_makes : (vs : List Variable) → AllByRecursion IsHere vs → AllByRecursion (IsVariable s.axes) (map (variable_in nodes) vs) → Fit m vs → AllByRecursion (IsDone nodes s.axes (var_made m s.axes) after) vs
+  each_makes [] ns fs few = tt
+  each_makes (v ∷ vs) ns fs few = (var_makes v ns.0 fs.0 few.0, each_makes vs ns.1 fs.1 few.1)
 
-  all_kept : (axes : List Axis) → list_all (is_kept s.coords (map after_moves set.vars)) axes ≡ list_all (is_kept s.coords set.vars) axes
-  all_kept [] = refl
-  all_kept (x ∷ axes) =
-      ap (λ b. (is_some x.labels || list_any (λ (c : Coord). among (axis_names c.axes) x.name) s.coords || b) && list_all (is_kept s.coords (map after_moves set.vars)) axes) (made.dims_stay x.name)
-      ∙ ap (λ b. is_kept s.coords set.vars x && b) (all_kept axes)
+  all_made : AreDone nodes s.axes (var_made m s.axes) after s.vars
+  all_made = all_done nodes s.axes (var_made m s.axes) after s.vars (each_makes s.vars (each_of IsHere s.vars is.nodes_of) is.formed.vars fits)
 
   formed : IsDataset (set_moved_by m set)
   formed = record {
     axes = is.formed.axes;
     coords = is.formed.coords;
-    vars = made.formed;
+    vars = all_made.formed;
     coords_distinct = is.formed.coords_distinct;
-    vars_distinct = ap (λ ns. are_distinct (axis_names (labelled s.axes) ++ (names_of s.coords ++ ns))) made.names_stay ∙ is.formed.vars_distinct;
-    busy = all_kept s.axes ∙ is.formed.busy;
+    vars_distinct = ap (λ ns. are_distinct (axis_names (labelled s.axes) ++ (names_of s.coords ++ ns))) (names_stay after (λ v. refl) set.vars) ∙ is.formed.vars_distinct;
+    busy = busy_stays after (λ v. refl) s.coords set.vars s.axes ∙ is.formed.busy;
     attrs = is.formed.attrs;
-    few = let same = made.count in let few = is.formed.few in omega arith;
+    few = let same = length-map set.vars after in let few = is.formed.few in omega arith;
   }
 
   is_moved_set : set_made_in nodes (set_made m s) ≡ set_moved_by m set
-  is_moved_set = ap with_vars made.are
-    where
-      with_vars : List of.Variable → of.Dataset
-      with_vars vs = record { axes = s.axes; coords = s.coords; vars = vs; attrs = s.attrs; skipped = s.skipped }
+  is_moved_set = ap (λ vs. record set { vars = vs }) all_made.are
 
   pub set_makes : MakesSet nodes (set_moved_by m (dataset_in nodes s)) (set_made m s)
-  set_makes = record { is = is_moved_set; made = record { vars = made.fit; formed = subst IsDataset (sym is_moved_set) formed } }
+  set_makes = record { is = is_moved_set; made = record { vars = all_made.fit; formed = subst IsDataset (sym is_moved_set) formed } }

@@ -9,11 +9,11 @@ use Rattle.xr_types.specs.declared.fault.Fault.TheVariants.{NoDimension}
 use Rattle.xr_types.specs.declared.operation.OpKind.TheVariants.{Subtract}
 use Rattle.xr_defs.specs.Selecting.{place_of}
 use Rattle.xr_defs.specs.Values as of
-use Rattle.xr_defs.specs.Values.{axis_position, chosen_axes, chosen_coord, no_axis, without_fills}
+use Rattle.xr_defs.specs.Values.{axis_position, no_axis, without_fills}
 use Rattle.xr_defs.specs.WellFormed.{names_of, AreDimensions, IsCoordinate}
 use Rattle.xr_defs.specs.declared.value.Coord.{Coord}
-use Rattle.xr_operations.specs.declared.change.Change.{Change}
-use Rattle.xr_operations.specs.Moves.{check_numbers, labels_kept, set_differences}
+use Rattle.xr_operations.specs.Changing.{changed_coord, new_axis}
+use Rattle.xr_operations.specs.Moves.{check_numbers, keeping, labels_kept, set_differences}
 use Rattle.xr_formulas.specs.declared.chain.Chain.{Chain}
 use Rattle.xr_formulas.specs.declared.chain.Start.TheVariants as starts
 use Rattle.xr_formulas.specs.declared.chain.Step.{Step}
@@ -45,18 +45,12 @@ pub record IsFramed (xs : List Axis) (cs : List Coord) : Type 0 where
   pub coords : AllByRecursion (IsCoordinate xs) cs
   pub distinct : are_distinct (axis_names xs ++ names_of cs) ≡ true
 
--- the labels of axis number k that are kept, and what lies along it there
-abbrev pub kept : Bool → List Axis → ℕ → List ℕ
-kept upper xs k = labels_kept upper (get_or xs k no_axis).size
-
-abbrev pub change_to : Bool → Axis → List Change
-change_to upper x = record { name = x.name; labels = None; from = map Some (labels_kept upper x.size) } ∷ []
-
+-- axes and coordinates where labels of axis number k are kept
 abbrev pub axes_left : Bool → List Axis → ℕ → List Axis
-axes_left upper xs k = chosen_axes xs k (kept upper xs k)
+axes_left upper xs k = map (new_axis (keeping upper (get_or xs k no_axis))) xs
 
 abbrev pub coords_left : Bool → List Axis → ℕ → List Coord → List Coord
-coords_left upper xs k cs = map (chosen_coord (get_or xs k no_axis).name (kept upper xs k)) cs
+coords_left upper xs k cs = map (changed_coord (keeping upper (get_or xs k no_axis)) None) cs
 
 -- ---- a dataset
 

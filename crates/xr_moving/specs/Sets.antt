@@ -17,13 +17,11 @@ use Rattle.xr_values.specs.declared.variable.Variable.{Variable}
 use Rattle.xr_values.specs.Answers.{Fails}
 use Rattle.xr_values.specs.Stands.{dataset_in, variable_in, IsDatasetIn}
 use Rattle.xr_operations.specs.Moves.{is_moved, set_moved}
-use Rattle.xr_formulas.specs.declared.chain.Start.TheVariants as starts
-use Rattle.xr_formulas.specs.declared.made.Formula.TheVariants.{One}
 use Rattle.xr_formulas.specs.Mades.{formula_cells, formula_value, FormulaFits}
 use Rattle.xr_moving.specs.declared.moves.Moves.{Moves}
 use Rattle.xr_moving.specs.declared.sets.SetMade.{SetMade}
 use Rattle.xr_moving.specs.declared.sets.VarMade.{VarMade}
-use Rattle.xr_moving.specs.Steps.{hides, positions_by, sides_named, steps_along}
+use Rattle.xr_moving.specs.Steps.{hides, moved_cells, positions_by}
 
 abbrev pub sizes : List Axis → List (List ℕ) → List ℕ
 sizes axes dims = map (λ d. (axis_called axes d).size) dims
@@ -87,7 +85,7 @@ var_made m axes v =
       kind = v.kind;
       masked = v.masked || hides m.how m.fill && is_moved m.by v.dims;
       attrs = v.attrs;
-      cells = One (record { start = starts.Node v.node; steps = steps_along m 0 (sides_named axes v.dims) });
+      cells = moved_cells m axes v.node v.dims;
     }
 
 abbrev pub set_made : Moves → Dataset → SetMade

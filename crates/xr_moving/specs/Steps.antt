@@ -1,17 +1,21 @@
 -- The steps that move cells along dimensions.
-use Rattle.std.specs.Prelude.{◌++◌, ◌&&◌, ◌==◌, ℕ, ℤ, suc, Bool, true, false, not, if◌then◌else◌, List, [], ◌∷◌, length, map, filter, Option, Some, None, is_none, Result, Ok, Err}
+use Rattle.std.specs.Prelude.{◌++◌, ◌==◌, ℕ, ℤ, suc, Bool, true, false, not, if◌then◌else◌, List, [], ◌∷◌, length, filter, Option, Some, None, is_none, Result, Ok}
 use Rattle.xr_types.specs.Results.{◌>>=◌, unless, all_of}
 use Rattle.xr_types.specs.declared.axis.Axis.{Axis}
 use Rattle.xr_types.specs.declared.fault.Fault.{Fault}
-use Rattle.xr_types.specs.declared.fault.Fault.TheVariants.{BadArgument, NoDimension, WrongKind}
+use Rattle.xr_types.specs.declared.fault.Fault.TheVariants.{BadArgument, WrongKind}
+use Rattle.xr_defs.specs.Arguments.{check_dimension}
 use Rattle.xr_defs.specs.Meanings.{Given, Value}
 use Rattle.xr_defs.specs.Selecting.{axis_called}
 use Rattle.xr_defs.specs.Values as values
 use Rattle.xr_defs.specs.Values.{axis_position}
 use Rattle.xr_operations.specs.Moves as of
 use Rattle.xr_operations.specs.Moves.{distance}
+use Rattle.xr_formulas.specs.declared.chain.Start.TheVariants as starts
 use Rattle.xr_formulas.specs.declared.chain.Step.{Step}
 use Rattle.xr_formulas.specs.declared.chain.Step.TheVariants.{Take}
+use Rattle.xr_formulas.specs.declared.made.Formula.{Formula}
+use Rattle.xr_formulas.specs.declared.made.Formula.TheVariants.{One}
 use Rattle.xr_moving.specs.declared.moves.Move.{Move}
 use Rattle.xr_moving.specs.declared.moves.Move.TheVariants.{Roll, Shift}
 use Rattle.xr_moving.specs.declared.moves.Moves.{Moves}
@@ -31,22 +35,20 @@ abbrev pub hides : Move → Option ℤ → Bool
 hides Shift fill = is_none fill
 hides Roll fill = false
 
--- ---- axes with their names and sizes
+-- ---- axes by their names
 
 abbrev pub step_at : Move → Option ℤ → ℕ → ℕ → Option ℤ → List Step
 step_at how fill k n None = []
 step_at how fill k n (Some by) = Take k (positions_by how by n) fill false ∷ []
 
--- along those that are named, the first of which is number k
-abbrev pub steps_along : Moves → ℕ → List (List ℕ × ℕ) → List Step
-steps_along m k [] = []
-steps_along m k (x ∷ xs) = step_at m.how m.fill k x.1 (distance m.by x.0) ++ steps_along m (suc k) xs
+-- along those of these names, the first of which is number k
+abbrev pub steps_along : Moves → List Axis → ℕ → List (List ℕ) → List Step
+steps_along m axes k [] = []
+steps_along m axes k (d ∷ dims) = step_at m.how m.fill k (axis_called axes d).size (distance m.by d) ++ steps_along m axes (suc k) dims
 
-abbrev pub sides : List Axis → List (List ℕ × ℕ)
-sides axes = map (λ (x : Axis). (x.name, x.size)) axes
-
-abbrev pub sides_named : List Axis → List (List ℕ) → List (List ℕ × ℕ)
-sides_named axes dims = map (λ d. (d, (axis_called axes d).size)) dims
+-- the cells of a node over axes of these names
+abbrev pub moved_cells : Moves → List Axis → ℕ → List (List ℕ) → Formula
+moved_cells m axes n dims = One (record { start = starts.Node n; steps = steps_along m axes 0 dims })
 
 -- ---- what is read one after the other
 
@@ -57,30 +59,13 @@ behind out r = r >>= λ xs. Ok (out ++ xs)
 
 -- those that name dimensions
 abbrev pub named : Bool → List (List ℕ × Value) → List (List ℕ × Value)
-named filled kvs = filter (λ kv. not (filled && of.is_fill kv)) kvs
-
-abbrev pub check_named : List Axis → List ℕ × ℤ → Result (Unit {0}) Fault
-check_named axes by = elim (axis_position by.0 axes) [ None ↦ Err (NoDimension by.0) | Some k ↦ Ok tt ]
+named true kvs = filter (λ kv. not (of.is_fill kv)) kvs
+named false kvs = kvs
 
 -- ---- an array
 
 abbrev pub moved_by : Moves → values.DataArray → values.DataArray
 moved_by m a = of.array_moved (positions_by m.how) m.fill (hides m.how m.fill) m.by a
-
--- ---- the calls, where the names of dimensions are looked at behind the numbers
-
-unfoldable pub typed_roll : values.DataArray → Given → Result values.DataArray Fault
-typed_roll a g =
-    unless (length g.plain == 0) BadArgument >>= λ u. of.distances (named false g.keyed) >>= λ bys. all_of (check_named a.axes) bys >>= λ v. Ok (of.array_moved of.rolled None false bys a)
-
-unfoldable pub typed_shift : values.DataArray → Given → Result values.DataArray Fault
-typed_shift a g =
-    unless (length g.plain == 0) BadArgument >>= λ u. of.fill_called a.kind (of.fill_given g) >>= λ f. of.distances (named true g.keyed) >>= λ bys. all_of (check_named a.axes) bys >>= λ v. of.needed f >>= λ fill.
-    of.check_fill a.kind fill >>= λ w. Ok (of.array_moved of.shifted fill (is_none fill) bys a)
-
-unfoldable pub typed_roll_set : values.Dataset → Given → Result values.Dataset Fault
-typed_roll_set set g =
-    unless (length g.plain == 0) BadArgument >>= λ u. of.distances (named false g.keyed) >>= λ bys. all_of (check_named set.axes) bys >>= λ v. Ok (of.set_moved of.rolled (λ t. None) false bys set)
 
 -- ---- shift of a dataset
 
@@ -100,5 +85,5 @@ shifted_by bys w set = all_of (check_range bys w) set.vars >>= λ u. Ok (of.set_
 
 unfoldable pub typed_shift_set : values.Dataset → Given → Result values.Dataset Fault
 typed_shift_set set g =
-    unless (length g.plain == 0) BadArgument >>= λ u. of.distances (named true g.keyed) >>= λ bys. check_kinds_by bys (of.fill_given g) set.vars >>= λ v. all_of (check_named set.axes) bys >>= λ w.
+    unless (length g.plain == 0) BadArgument >>= λ u. of.distances (named true g.keyed) >>= λ bys. check_kinds_by bys (of.fill_given g) set.vars >>= λ v. all_of (check_dimension set.axes) (named true g.keyed) >>= λ w.
     of.needed (of.fill_given g) >>= λ fill. shifted_by bys fill set

@@ -8,7 +8,7 @@ ghost use Rattle.xr_operations.specs.Moves as of;
 ghost use Rattle.xr_values.specs.Meaning.{given, meaning};
 ghost use Rattle.xr_values.specs.Stands.{array_in, IsArrayIn};
 ghost use Rattle.xr_formulas.specs.Mades.{AnswersMade, Makes};
-ghost use Rattle.xr_moving.specs.Diffs.{asked, axes_left, change_to, coords_left, neighbours, step_to, IsFramed};
+ghost use Rattle.xr_moving.specs.Diffs.{asked, axes_left, coords_left, neighbours, step_to, IsFramed};
 
 use crate::names::position_of;
 use std::alloc::{AllocError, Global};
@@ -125,9 +125,9 @@ pub struct Framed {
 }
 
 // The labels of an axis that are kept.
-fn change_to(alloc: Global, upper: bool, axis: &Axis) -> Result<Items<Change>, AllocError>
+fn keeping(alloc: Global, upper: bool, axis: &Axis) -> Result<Items<Change>, AllocError>
     requires { axis.now.size < 2 ^ 31 }
-    ensures { IfOk result (λ cs. cs ≡ change_to upper axis.now) }
+    ensures { IfOk result (λ cs. cs ≡ of.keeping upper axis.now) }
 {
     let name = axis.name.deep_copy(alloc)?;
     let labels = None;
@@ -152,7 +152,7 @@ pub fn left_along(
     ensures framed { IfOk result (λ f. IsFramed (axes_left upper axes.now k) (coords_left upper axes.now k coords.now)) }
 {
     let axes = axes.as_slice();
-    let changes = change_to(alloc, upper, &axes[k])?;
+    let changes = keeping(alloc, upper, &axes[k])?;
     let changes = changes.as_slice();
     let left = new_axes(alloc, changes, axes)?;
     let coords = changed_coords(alloc, changes, left.as_slice(), None, coords.as_slice())?;

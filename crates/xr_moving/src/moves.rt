@@ -1,14 +1,14 @@
 //! Steps that move cells along dimensions.
 ghost use Rattle.std.specs.Prelude.{◌≡◌, ◌<◌, ◌^◌, ◌&&◌, ◌||◌, ◌+◌, ◌++◌, length, map, IfOk, OnOk};
-ghost use Rattle.xr_types.specs.Names.{axis_names};
+ghost use Rattle.xr_defs.specs.Selecting.{axis_called};
 ghost use Rattle.xr_operations.specs.Moves as of;
 ghost use Rattle.xr_moving.specs.Steps as steps;
 
-use crate::names::distance;
+use crate::names::{distance, position_of};
 use std::alloc::{AllocError, Global};
 use xr_arrays::Sources;
-use xr_formulas::Step;
-use xr_types::{Axis, Items, TextBytes};
+use xr_formulas::{Chain, Formula, Start, Step};
+use xr_types::{Axis, Items, Name, NodeId, TextBytes};
 
 /// How cells move along a dimension.
 #[derive(Clone, Copy)]
@@ -92,8 +92,8 @@ fn positions(alloc: Global, how: Move, by: i128, n: u64) -> Result<Sources, Allo
     Ok(from)
 }
 
-/// Whether missing cells move in.
-pub fn hides(how: Move, fill: Option<i128>) -> bool
+// Whether missing cells move in.
+fn hides(how: Move, fill: Option<i128>) -> bool
     ensures { result ≡ steps.hides how fill }
 {
     match how {
@@ -102,8 +102,8 @@ pub fn hides(how: Move, fill: Option<i128>) -> bool
     }
 }
 
-/// Adds the step along an axis of this size, if it moves.
-pub fn push_step(
+// Adds the step along an axis of this size, if it moves.
+fn push_step(
     alloc: Global,
     out: &mut Items<Step>,
     moves: &Moves,
@@ -127,39 +127,65 @@ pub fn push_step(
     }
 }
 
-/// Adds the steps along axes, the first of which is number `k`.
-pub fn push_steps(
+fn size_called(axes: &[Axis], name: &TextBytes) -> u64
+    ensures { result ≡ (axis_called axes.now name.now).size }
+{
+    match position_of(axes, name) {
+        Some(k) => axes[k].size,
+        None => 0,
+    }
+}
+
+// Adds the steps along the axes of these names, the first of which is number `k`.
+fn push_steps(
     alloc: Global,
     out: &mut Items<Step>,
     moves: &Moves,
-    k: usize,
     axes: &[Axis],
+    k: usize,
+    dims: &[Name],
 ) -> Result<(), AllocError>
-    requires { k + length axes.now < 2 ^ 64 }
-    ensures { OnOk result (out.new ≡ out.old ++ steps.steps_along moves.now k (steps.sides axes.now)) }
+    requires { k + length dims.now < 2 ^ 64 }
+    ensures { OnOk result (out.new ≡ out.old ++ steps.steps_along moves.now axes.now k dims.now) }
 {
-    match axes {
+    match dims {
         [] => Ok(()),
-        [axis, rest @ ..] => {
-            push_step(alloc, out, moves, k, &axis.name, axis.size)?;
-            push_steps(alloc, out, moves, k + 1, rest)
+        [dim, rest @ ..] => {
+            push_step(alloc, out, moves, k, dim, size_called(axes, dim))?;
+            push_steps(alloc, out, moves, axes, k + 1, rest)
         }
     }
 }
 
-// Whether an axis moves.
-fn is_moved(bys: &[(TextBytes, i128)], axes: &[Axis]) -> bool
-    ensures { result ≡ of.is_moved bys.now (axis_names axes.now) }
+/// The cells of a node over the axes of these names, moved.
+pub fn moved_cells(
+    alloc: Global,
+    moves: &Moves,
+    axes: &[Axis],
+    node: NodeId,
+    dims: &[Name],
+) -> Result<Formula, AllocError>
+    ensures { IfOk result (λ f. f ≡ steps.moved_cells moves.now axes.now node dims.now) }
 {
-    match axes {
+    let mut steps = Items::new(alloc);
+    push_steps(alloc, &mut steps, moves, axes, 0, dims)?;
+    let start = Start::Node(node);
+    Ok(Formula::One(Chain { start, steps }))
+}
+
+/// Whether cells over these dimensions move.
+pub fn is_moved(bys: &[(TextBytes, i128)], dims: &[Name]) -> bool
+    ensures { result ≡ of.is_moved bys.now dims.now }
+{
+    match dims {
         [] => false,
-        [axis, rest @ ..] => distance(bys, &axis.name).is_some() || is_moved(bys, rest),
+        [dim, rest @ ..] => distance(bys, dim).is_some() || is_moved(bys, rest),
     }
 }
 
-/// Whether an array over these axes has missing cells after a move.
-pub fn masked_after(moves: &Moves, masked: bool, axes: &[Axis]) -> bool
-    ensures { result ≡ (masked || steps.hides moves.now.how moves.now.fill && of.is_moved moves.now.by (axis_names axes.now)) }
+/// Whether cells over these dimensions may be missing after a move.
+pub fn masked_after(moves: &Moves, masked: bool, dims: &[Name]) -> bool
+    ensures { result ≡ (masked || steps.hides moves.now.how moves.now.fill && of.is_moved moves.now.by dims.now) }
 {
-    masked || (hides(moves.how, moves.fill) && is_moved(moves.by.as_slice(), axes))
+    masked || (hides(moves.how, moves.fill) && is_moved(moves.by.as_slice(), dims))
 }

@@ -3,11 +3,12 @@ ghost use Rattle.std.specs.Prelude.{◌≡◌, ◌<◌, List, map, length, codes
 ghost use Rattle.std.specs.Str.{bytes_eq};
 ghost use Rattle.xr_arrays.specs.declared.node.Node.{Node};
 ghost use Rattle.xr_types.specs.Results.{Answers, all_of};
+ghost use Rattle.xr_defs.specs.Arguments.{check_dimension};
 ghost use Rattle.xr_defs.specs.Selecting as selecting;
 ghost use Rattle.xr_defs.specs.Values.{axis_position};
 ghost use Rattle.xr_operations.specs.Moves as of;
 ghost use Rattle.xr_values.specs.Meaning.{meaning, with_key};
-ghost use Rattle.xr_moving.specs.Steps.{behind, check_named, named};
+ghost use Rattle.xr_moving.specs.Steps.{behind, named};
 
 use std::alloc::Global;
 use xr_types::{Axis, CallFault, DeepCopy, Fault, Items, TextBytes};
@@ -31,7 +32,7 @@ pub fn is_fill(name: &TextBytes) -> bool
 }
 
 // Adds how far each dimension moves that an argument names.
-#[tactic(auto, using(crate::proofs::Loops::behind_both, crate::proofs::Loops::behind_nothing), unfolding(xr_operations::specs::Moves::distances, xr_operations::specs::Moves::distance_given))]
+#[tactic(auto, using(crate::proofs::Loops::behind_both, crate::proofs::Loops::behind_nothing, crate::proofs::Loops::named_next, crate::proofs::Loops::named_none), unfolding(xr_operations::specs::Moves::distances, xr_operations::specs::Moves::distance_given))]
 fn push_distances(
     alloc: Global,
     out: &mut Items<(TextBytes, i128)>,
@@ -105,19 +106,27 @@ pub fn position_of(axes: &[Axis], name: &TextBytes) -> Option<usize>
     }
 }
 
-/// Refuses the first name that is no dimension.
+/// Refuses the first argument whose name is no dimension. Where a call takes a fill, `fill_value` is none that names one.
+///
+/// # Errors
+/// `NoDimension`.
+#[tactic(auto, using(crate::proofs::Loops::named_next, crate::proofs::Loops::named_none), unfolding(xr_defs::specs::Arguments::check_dimension))]
 pub fn check_dimensions(
     alloc: Global,
     axes: &[Axis],
-    bys: &[(TextBytes, i128)],
+    filled: bool,
+    keyed: &[(TextBytes, Value)],
 ) -> Result<(), CallFault>
-    ensures { Answers (λ u. u) result (all_of (check_named axes.now) bys.now) }
+    ensures { (nodes : List Node) → Answers (λ u. u) result (all_of (check_dimension axes.now) (named filled (map (with_key nodes) keyed.now))) }
 {
-    match bys {
+    match keyed {
         [] => Ok(()),
-        [by, rest @ ..] => match position_of(axes, &by.0) {
-            Some(_) => check_dimensions(alloc, axes, rest),
-            None => Err(CallFault::Refused(Fault::NoDimension(by.0.deep_copy(alloc)?))),
-        },
+        [argument, rest @ ..] => {
+            let name = &argument.0;
+            if !(filled && is_fill(name)) && position_of(axes, name).is_none() {
+                return Err(CallFault::Refused(Fault::NoDimension(name.deep_copy(alloc)?)));
+            }
+            check_dimensions(alloc, axes, filled, rest)
+        }
     }
 }

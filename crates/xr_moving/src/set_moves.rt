@@ -1,9 +1,8 @@
 //! `roll(DIM)` of a dataset.
-ghost use Rattle.std.specs.Prelude.{◌≡◌, ◌<◌, ◌+◌, ◌^◌, ◌++◌, ◌∷◌, ◌&&◌, ◌||◌, List, [], length, map, IfOk, OnOk};
+ghost use Rattle.std.specs.Prelude.{◌≡◌, ◌∷◌, List, [], map, IfOk};
 ghost use Rattle.xr_arrays.specs.declared.node.Node.{Node};
 ghost use Rattle.xr_arrays.specs.Added.{AddsAtMost};
 ghost use Rattle.xr_defs.specs.Room.{of_set, room};
-ghost use Rattle.xr_defs.specs.Selecting.{axis_called};
 ghost use Rattle.plan_core.specs.Plans.{Grows};
 ghost use Rattle.xr_operations.specs.Moves as of;
 ghost use Rattle.xr_values.specs.Answers.{AnswersSet};
@@ -11,63 +10,14 @@ ghost use Rattle.xr_values.specs.Meaning.{given};
 ghost use Rattle.xr_values.specs.Stands.{dataset_in, IsDatasetIn};
 ghost use Rattle.xr_moving.specs.Sets as sets;
 ghost use Rattle.xr_moving.specs.Sets.{set_moved_by, AnswersSetMade, Fit, MakesSet};
-ghost use Rattle.xr_moving.specs.Steps as steps;
-ghost use Rattle.xr_moving.specs.Steps.{typed_roll_set};
 
-use crate::moves::{Move, Moves, hides, push_step};
-use crate::names::{check_dimensions, distance, distances, position_of};
+use crate::moves::{Move, Moves, masked_after, moved_cells};
+use crate::names::{check_dimensions, distances};
 use crate::sets::{SetMade, VarMade, realize_set};
 use plan_core::Plan;
 use std::alloc::{AllocError, Global};
-use xr_formulas::{Chain, Formula, Start, Step};
-use xr_types::{Axis, CallFault, DeepCopy, Fault, Items, Name, TextBytes};
+use xr_types::{Axis, CallFault, DeepCopy, Fault, Items};
 use xr_values::{Args, Dataset, Variable, copy_coords};
-
-fn size_called(axes: &[Axis], name: &TextBytes) -> u64
-    ensures { result ≡ (axis_called axes.now name.now).size }
-{
-    match position_of(axes, name) {
-        Some(k) => axes[k].size,
-        None => 0,
-    }
-}
-
-// Adds the steps along the axes of these names, the first of which is number `k` of a variable.
-fn push_steps_named(
-    alloc: Global,
-    out: &mut Items<Step>,
-    moves: &Moves,
-    axes: &[Axis],
-    k: usize,
-    dims: &[Name],
-) -> Result<(), AllocError>
-    requires { k + length dims.now < 2 ^ 64 }
-    ensures { OnOk result (out.new ≡ out.old ++ steps.steps_along moves.now k (steps.sides_named axes.now dims.now)) }
-{
-    match dims {
-        [] => Ok(()),
-        [dim, rest @ ..] => {
-            push_step(alloc, out, moves, k, dim, size_called(axes, dim))?;
-            push_steps_named(alloc, out, moves, axes, k + 1, rest)
-        }
-    }
-}
-
-/// Whether a variable over these dimensions moves.
-pub fn is_moved(bys: &[(TextBytes, i128)], dims: &[Name]) -> bool
-    ensures { result ≡ of.is_moved bys.now dims.now }
-{
-    match dims {
-        [] => false,
-        [dim, rest @ ..] => distance(bys, dim).is_some() || is_moved(bys, rest),
-    }
-}
-
-fn masked_after(moves: &Moves, masked: bool, dims: &[Name]) -> bool
-    ensures { result ≡ (masked || steps.hides moves.now.how moves.now.fill && of.is_moved moves.now.by dims.now) }
-{
-    masked || (hides(moves.how, moves.fill) && is_moved(moves.by.as_slice(), dims))
-}
 
 fn var_made(
     alloc: Global,
@@ -78,9 +28,6 @@ fn var_made(
     ensures { IfOk result (λ m. m ≡ sets.var_made moves.now axes.now var.now) }
 {
     let dims = var.dims.as_slice();
-    let mut steps = Items::new(alloc);
-    push_steps_named(alloc, &mut steps, moves, axes, 0, dims)?;
-    let start = Start::Node(var.node);
     let masked = masked_after(moves, var.masked, dims);
     Ok(VarMade {
         name: var.name.deep_copy(alloc)?,
@@ -88,7 +35,7 @@ fn var_made(
         kind: var.kind,
         masked,
         attrs: var.attrs.deep_copy(alloc)?,
-        cells: Formula::One(Chain { start, steps }),
+        cells: moved_cells(alloc, moves, axes, var.node, dims)?,
     })
 }
 
@@ -121,15 +68,15 @@ pub fn set_moved(alloc: Global, moves: &Moves, on: &Dataset) -> Result<SetMade, 
 }
 
 // The checks of `roll` in their order, and then what it makes.
-#[tactic(auto, using(crate::proofs::SetsAnswered::roll_answered, crate::proofs::SetsAnswered::none_fits), unfolding(crate::specs::Steps::typed_roll_set, xr_types::specs::Results::unless, xr_values::specs::Meaning::given))]
+#[tactic(auto, using(crate::proofs::SetsAnswered::roll_answered, crate::proofs::SetsAnswered::none_fits), unfolding(xr_operations::specs::Moves::roll_set, xr_types::specs::Results::unless, xr_values::specs::Meaning::given))]
 fn typed_roll(alloc: Global, on: &Dataset, args: &Args) -> Result<SetMade, CallFault>
-    ensures { (nodes others : List Node) → IsDatasetIn nodes on.now → AnswersSetMade nodes result (typed_roll_set (dataset_in nodes on.now) (given others args.now)) }
+    ensures { (nodes others : List Node) → IsDatasetIn nodes on.now → AnswersSetMade nodes result (of.roll_set (dataset_in nodes on.now) (given others args.now)) }
 {
     if args.plain.len() != 0 {
         return Err(CallFault::Refused(Fault::BadArgument));
     }
     let by = distances(alloc, false, args.keyed.as_slice())?;
-    check_dimensions(alloc, on.axes.as_slice(), by.as_slice())?;
+    check_dimensions(alloc, on.axes.as_slice(), false, args.keyed.as_slice())?;
     let how = Move::Roll;
     let fill = None;
     let moves = Moves { how, fill, by };

@@ -1,5 +1,5 @@
 //! `shift(DIM, fill_value)` of a dataset.
-ghost use Rattle.std.specs.Prelude.{◌≡◌, ◌∷◌, List, [], map, option_map, IfOk};
+ghost use Rattle.std.specs.Prelude.{◌≡◌, ◌∷◌, List, [], true, map, option_map, IfOk};
 ghost use Rattle.xr_types.specs.Results.{Answers, all_of, unless};
 ghost use Rattle.xr_types.specs.declared.fault.Fault.TheVariants.{WrongKind};
 ghost use Rattle.xr_arrays.specs.declared.node.Node.{Node};
@@ -12,13 +12,12 @@ ghost use Rattle.xr_values.specs.Answers.{AnswersSet};
 ghost use Rattle.xr_values.specs.Meaning.{given, meaning};
 ghost use Rattle.xr_values.specs.Stands.{dataset_in, variable_in, IsDatasetIn};
 ghost use Rattle.xr_moving.specs.Sets.{AnswersSetMade};
-ghost use Rattle.std.specs.Prelude.{true};
 ghost use Rattle.xr_moving.specs.Steps.{check_kind, check_kinds_by, check_range, shifted_by, typed_shift_set};
 
 use crate::fills::{check_fill, fill_for, fill_given};
-use crate::moves::{Move, Moves};
+use crate::moves::{Move, Moves, is_moved};
 use crate::names::{check_dimensions, distances};
-use crate::set_moves::{is_moved, set_moved};
+use crate::set_moves::set_moved;
 use crate::sets::{SetMade, realize_set};
 use plan_core::Plan;
 use std::alloc::Global;
@@ -145,7 +144,7 @@ fn typed_shift(alloc: Global, on: &Dataset, args: &Args) -> Result<SetMade, Call
     let by = distances(alloc, true, args.keyed.as_slice())?;
     let value = fill_given(args);
     check_kinds(by.as_slice(), value, on.vars.as_slice())?;
-    check_dimensions(alloc, on.axes.as_slice(), by.as_slice())?;
+    check_dimensions(alloc, on.axes.as_slice(), true, args.keyed.as_slice())?;
     match value {
         None => Err(CallFault::Refused(Fault::WouldPromote)),
         Some(value) => shift_by(alloc, on, by, value),

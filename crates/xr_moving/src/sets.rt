@@ -1,18 +1,18 @@
 //! Data variables and datasets that a call makes, before their cells stand in a plan.
-ghost use Rattle.std.specs.Prelude.{◌≡◌, [], IfOk};
+ghost use Rattle.std.specs.Prelude.{IfOk};
 ghost use Rattle.xr_arrays.specs.Added.{AddsAtMost};
 ghost use Rattle.plan_core.specs.Plans.{Grows};
 ghost use Rattle.xr_values.specs.Stands.{dataset_in};
-ghost use Rattle.xr_values.specs.Variables.{with_variables};
 ghost use Rattle.xr_formulas.specs.Mades.{formula_cells, FormulaFits};
 ghost use Rattle.xr_moving.specs.Sets.{set_made_in, vars_cells, AddsForAnySet, AreFit, AreVarsOf, IsSetMade, IsSetOf, IsVarOf};
 
 use plan_core::Plan;
-use std::alloc::{AllocError, Global};
+use std::alloc::Global;
 use xr_defs::Coord;
 use xr_formulas::{Formula, push_formula};
+use xr_reducing::by_name;
 use xr_types::{Attr, Axis, DType, DeepCopy, Items, Name, NoMemory};
-use xr_values::{Dataset, Variable, Variables};
+use xr_values::{Dataset, Variable};
 
 /// A data variable with a formula in place of its cells.
 #[derive(Drop)]
@@ -67,16 +67,6 @@ fn realize_vars(
     let mut out = Items::new(alloc);
     for m in made {
         out.push(realize_var(alloc, plan, m)?)?;
-    }
-    Ok(out)
-}
-
-fn by_name(alloc: Global, vars: &[Variable]) -> Result<Variables, AllocError>
-    ensures { IfOk result (λ vs. vs ≡ with_variables [] vars.now) }
-{
-    let mut out = Variables::new(alloc);
-    for var in vars {
-        out.put(alloc, var.deep_copy(alloc)?)?;
     }
     Ok(out)
 }

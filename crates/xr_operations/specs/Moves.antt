@@ -5,6 +5,7 @@ use Rattle.std.specs.Str.{bytes_eq}
 use Rattle.std.specs.List.{list_any, range_with_len}
 use Rattle.xr_types.specs.Results.{◌>>=◌, unless, all_of}
 use Rattle.xr_types.specs.Names.{axis_names}
+use Rattle.xr_types.specs.declared.axis.Axis.{Axis}
 use Rattle.xr_types.specs.declared.fault.Fault.{Fault}
 use Rattle.xr_types.specs.declared.fault.Fault.TheVariants.{BadArgument, NoDimension, WouldPromote, WrongKind}
 use Rattle.xr_types.specs.declared.kind.DType.{DType}
@@ -20,9 +21,11 @@ use Rattle.xr_defs.specs.Meanings as of
 use Rattle.xr_defs.specs.Meanings.{Given, Value}
 use Rattle.xr_defs.specs.Parts.{without_idle}
 use Rattle.xr_defs.specs.Selecting.{as_number, place_of, variable_array}
-use Rattle.xr_defs.specs.Values.{DataArray, Dataset, Variable, array_of, axis_position, chosen_axes, chosen_cells, chosen_coord, no_axis, without_fills}
+use Rattle.xr_defs.specs.Values.{DataArray, Dataset, Variable, array_of, axis_position, no_axis, without_fills}
 use Rattle.xr_operations.specs.Arithmetic.{is_truths}
 use Rattle.xr_operations.specs.CellMethods.{check_fits, literal_for}
+use Rattle.xr_operations.specs.Changing.{changed_coord, new_axis}
+use Rattle.xr_operations.specs.declared.change.Change.{Change}
 
 -- ---- the old position that each position of an axis of n shows, if there is one
 
@@ -182,17 +185,20 @@ labels_kept upper n = if upper then uppers n else lowers n
 
 -- along axis number k
 abbrev pub differences : Array → ℕ → Array
-differences a k = let n = get_or a.shape k 0 in binary_of ops.Subtract a.kind (chosen_cells a k (uppers n)) (chosen_cells a k (lowers n))
+differences a k = let n = get_or a.shape k 0 in binary_of ops.Subtract a.kind (taken_from a k (map Some (uppers n)) None) (taken_from a k (map Some (lowers n)) None)
 
--- what lies along the axis is chosen with its labels
+-- the dimension at the labels that are kept
+abbrev pub keeping : Bool → Axis → List Change
+keeping upper x = record { name = x.name; labels = None; from = map Some (labels_kept upper x.size) } ∷ []
+
+-- what lies along the dimension is changed with its labels
 abbrev pub array_differences : Bool → ℕ → DataArray → DataArray
 array_differences upper k a =
-    let x = get_or a.axes k no_axis in
-    let ps = labels_kept upper x.size in
+    let cs = keeping upper (get_or a.axes k no_axis) in
     record a {
-      axes = chosen_axes a.axes k ps;
+      axes = map (new_axis cs) a.axes;
       attrs = attr_rule carry.Method (a ∷ []);
-      coords = map (chosen_coord x.name ps) a.coords;
+      coords = map (changed_coord cs None) a.coords;
       cells = (differences (array_of a) k).cells;
     }
 
@@ -203,10 +209,10 @@ var_differences dim set v =
 abbrev pub set_differences : Bool → ℕ → Dataset → Dataset
 set_differences upper k set =
     let x = get_or set.axes k no_axis in
-    let ps = labels_kept upper x.size in
+    let cs = keeping upper x in
     record set {
-      axes = chosen_axes set.axes k ps;
-      coords = map (chosen_coord x.name ps) set.coords;
+      axes = map (new_axis cs) set.axes;
+      coords = map (changed_coord cs None) set.coords;
       vars = map (var_differences x.name set) set.vars;
       attrs = without_fills set.attrs;
     }

@@ -1,6 +1,6 @@
 -- Axes by their names, and the coordinates over them.
 use Rattle.xr_parts.proofs.Common.{AllByRecursion, Axis, Bool, Coord, IsCoordinate, IsDimension, IsFrame, IsThere, List, None, Option, Some, [], add-one, all_among, among, and_parts, ap, are_distinct, axes_called, axis_called, axis_names, axis_position, bytes_eq, bytes_eq_swap, cases_Bool, cond, cond-false, cond-true, coords_over, false, get_or, if◌then◌else◌, inl, inr, map, names_of, no_axis, option_map, or_parts, refl, shape_over, subst, sym, true, ℕ, ◌++◌, ◌+◌, ◌||◌, ◌∙◌, ◌∷◌, ◌≡◌}
-use Rattle.xr_parts.proofs.Words.{AreAmong, AreAbsent, absent_among, anything, distinct_left, distinct_parts, each_left, each_named_left, each_weaker, itself, join, same_text, split}
+use Rattle.xr_parts.proofs.Words.{AreAmong, AreAbsent, absent_among, anything, distinct_left, distinct_parts, each_left, each_map, each_named_left, each_weaker, itself, join, same_text, split}
 
 -- ---- the axis of a name
 
@@ -79,14 +79,12 @@ sizes_again axes (d ∷ ds) = ap (λ t. (axis_called axes d).size ∷ t) (sizes_
 pub called_again : (axes : List Axis) (dims : List (List ℕ)) (name : List ℕ) → AreAmong (axis_names axes) dims → among dims name ≡ true → axis_called (axes_called axes dims) name ≡ axis_called axes name
 called_again axes [] name all has = absurd cc
 called_again axes (d ∷ ds) name all has =
-    let named = called_name axes d all.0 in
-    elim (cases_Bool (bytes_eq d name)) [
-      | inl e ↦ called_here (axis_called axes d) (axes_called axes ds) name (ap (λ n. bytes_eq n name) named ∙ e) ∙ ap (axis_called axes) (same_text d name e)
-      | inr e ↦
-          let other : bytes_eq name d ≡ false = bytes_eq_swap name d ∙ e in
-          called_on (axis_called axes d) (axes_called axes ds) name (ap (λ n. bytes_eq n name) named ∙ e)
-          ∙ called_again axes ds name all.1 (ap (λ b. b || among ds name) (sym other) ∙ has)
-    ]
+    called_cons (axis_called axes d) (axes_called axes ds) name ∙ ap (λ n. cond (bytes_eq n name) (axis_called axes d) (axis_called (axes_called axes ds) name)) (called_name axes d all.0)
+    ∙ by (bytes_eq d name) refl (ap (λ t. t || among ds name) (bytes_eq_swap d name) ∙ has) (called_again axes ds name all.1)
+  where
+    by : (b : Bool) → bytes_eq d name ≡ b → (b || among ds name) ≡ true → (among ds name ≡ true → axis_called (axes_called axes ds) name ≡ axis_called axes name) → cond b (axis_called axes d) (axis_called (axes_called axes ds) name) ≡ axis_called axes name
+    by true e has rest = ap (axis_called axes) (same_text d name e)
+    by false e has rest = rest has
 
 -- axes that are there are those of their names
 pub the_axes : (axes xs : List Axis) → AllByRecursion (IsThere axes) xs → axes_called axes (axis_names xs) ≡ xs
@@ -94,8 +92,7 @@ the_axes axes [] all = refl
 the_axes axes (x ∷ xs) all = ap (λ y. y ∷ axes_called axes (axis_names xs)) all.0.1 ∙ ap (λ ys. x ∷ ys) (the_axes axes xs all.1)
 
 pub names_there : (axes xs : List Axis) → AllByRecursion (IsThere axes) xs → AreAmong (axis_names axes) (axis_names xs)
-names_there axes [] all = tt
-names_there axes (x ∷ xs) all = (all.0.0, names_there axes xs all.1)
+names_there axes xs all = each_map (IsThere axes) (λ n. among (axis_names axes) n ≡ true) (λ (x : Axis). x.name) xs (λ x is. is.0) all
 
 -- ---- a frame over some of the axes
 
@@ -106,8 +103,7 @@ dims_there axes (x ∷ xs) dims among_axes within all =
     ((ap (λ ns. among ns x.name) (named_again axes dims among_axes) ∙ parts.0, called_again axes dims x.name among_axes parts.0 ∙ all.0.1), dims_there axes xs dims among_axes parts.1 all.1)
 
 each_called : (axes : List Axis) (dims : List (List ℕ)) → AllByRecursion IsDimension axes → AreAmong (axis_names axes) dims → AllByRecursion IsDimension (axes_called axes dims)
-each_called axes [] each all = tt
-each_called axes (d ∷ ds) each all = ((called_holds IsDimension d axes each all.0).0, each_called axes ds each all.1)
+each_called axes dims each all = each_map (λ d. among (axis_names axes) d ≡ true) IsDimension (axis_called axes) dims (λ d has. (called_holds IsDimension d axes each has).0) all
 
 coord_over : (axes : List Axis) (dims : List (List ℕ)) (c : Coord) → AreAmong (axis_names axes) dims → all_among dims (axis_names c.axes) ≡ true → IsCoordinate axes c → IsCoordinate (axes_called axes dims) c
 coord_over axes dims c among_axes within is =

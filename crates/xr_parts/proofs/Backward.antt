@@ -1,6 +1,6 @@
 -- The numbers of the axes from the last to the first.
-use Rattle.xr_parts.proofs.Common.{All, All-cons, All-nil, All-weaker, Axis, IsArrangement, List, [], and_from, ap, append_assoc, arith, backwards, drop, drop_more, false, is_once, length, length-drop, list_any, ne_eqb, no_axis, not, not_from_false, refl, subst, suc, sym, true, ℕ, ◌++◌, ◌+◌, ◌-◌, ◌<◌, ◌==◌, ◌∙◌, ◌∷◌, ◌≡◌, ◌≤◌}
-use Rattle.xr_parts.proofs.Words.{neither}
+use Rattle.xr_parts.proofs.Common.{All-cons, All-nil, All-weaker, Axis, IsArrangement, List, [], and_from, ap, append_assoc, arith, backwards, drop, drop_more, false, is_once, length, length-drop, list_any, ne_eqb, no_axis, not, not_from_false, refl, subst, suc, sym, ℕ, ◌++◌, ◌+◌, ◌-◌, ◌<◌, ◌==◌, ◌∙◌, ◌∷◌, ◌≡◌}
+use Rattle.std.proofs.lemmas.List.Folds.{list_any_none}
 
 -- ---- one more number
 
@@ -16,23 +16,16 @@ back_on axes order new at lt pushed so_far =
 
 -- ---- each number once
 
-back_long : (axes : List Axis) → length (backwards axes) ≡ length axes
-back_long [] = refl
-back_long (x ∷ xs) = ap suc (back_long xs)
-
-back_below : (axes : List Axis) → All (λ k. k < length axes) (backwards axes)
-back_below [] = All-nil (λ k. k < 0)
-back_below (x ∷ xs) =
-    All-cons (λ k. k < suc (length xs)) (length xs) (backwards xs) (omega arith) (All-weaker (λ k. k < length xs) (λ k. k < suc (length xs)) (λ k lt. omega arith) (backwards xs) (back_below xs))
-
-back_absent : (axes : List Axis) (n : ℕ) → length axes ≤ n → list_any (λ j. j == n) (backwards axes) ≡ false
-back_absent [] n above = refl
-back_absent (x ∷ xs) n above = neither (length xs == n) (list_any (λ j. j == n) (backwards xs)) (ne_eqb (length xs) n (λ e. omega arith)) (back_absent xs n (omega arith))
-
-back_once : (axes : List Axis) → is_once (backwards axes) ≡ true
-back_once [] = refl
-back_once (x ∷ xs) =
-    and_from (not (list_any (λ j. j == length xs) (backwards xs))) (is_once (backwards xs)) (not_from_false (list_any (λ j. j == length xs) (backwards xs)) (back_absent xs (length xs) (omega arith))) (back_once xs)
+back_fits_own : (axes : List Axis) → IsArrangement (length axes) (backwards axes)
+back_fits_own [] = record { long = refl; once = refl; below = All-nil (λ k. k < 0) }
+back_fits_own (x ∷ xs) =
+    let rest = back_fits_own xs in
+    let absent = list_any_none (λ j. j == length xs) (backwards xs) (All-weaker (λ k. k < length xs) (λ k. (k == length xs) ≡ false) (λ k lt. ne_eqb k (length xs) (λ e. omega arith)) (backwards xs) rest.below) in
+    record {
+      long = ap suc rest.long;
+      once = and_from (not (list_any (λ j. j == length xs) (backwards xs))) (is_once (backwards xs)) (not_from_false (list_any (λ j. j == length xs) (backwards xs)) absent) rest.once;
+      below = All-cons (λ k. k < suc (length xs)) (length xs) (backwards xs) (omega arith) (All-weaker (λ k. k < length xs) (λ k. k < suc (length xs)) (λ k lt. omega arith) (backwards xs) rest.below);
+    }
 
 pub back_fits : (axes : List Axis) (order : List ℕ) → order ≡ backwards axes → IsArrangement (length axes) order
-back_fits axes order is = subst (IsArrangement (length axes)) (sym is) (record { long = back_long axes; once = back_once axes; below = back_below axes })
+back_fits axes order is = subst (IsArrangement (length axes)) (sym is) (back_fits_own axes)

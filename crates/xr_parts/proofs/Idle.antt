@@ -1,8 +1,8 @@
 -- A dataset without its idle axes, the bare ones that nothing has, is as it has to be.
-use Rattle.xr_parts.proofs.Common.{All, All-cons, All-head, All-nil, All-tail, AllByRecursion, AreAttributes, AreCells, Axis, Bool, Coord, Dataset, IsCoordinate, IsDataset, IsDatasetIn, IsDimension, IsFrame, IsNodeOf, IsThere, IsVariable, List, Node, Variable, [], among, ap, are_distinct, axis_called, axis_names, bytes_eq, bytes_eq_swap, cases_Bool, cond, cond-true, dataset_in, false, filter, filter_agree, inl, inr, is_held, is_kept, is_some, labelled, length, list_all, list_any, map, most_variables, names_of, or_left, or_right, refl, shape_named, subst, sym, true, variable_in, variable_names, without_idle, ℕ, ◌++◌, ◌+◌, ◌||◌, ◌∙◌, ◌∷◌, ◌≡◌, ◌≤◌}
+use Rattle.xr_parts.proofs.Common.{All, All-cons, All-head, All-nil, All-tail, AllByRecursion, AreAttributes, AreCells, Axis, Bool, Coord, Dataset, IsCoordinate, IsDataset, IsDatasetIn, IsDimension, IsFrame, IsNodeOf, IsThere, IsVariable, List, Node, Variable, [], among, ap, are_distinct, axis_called, axis_names, bytes_eq, bytes_eq_swap, cond, dataset_in, false, filter, filter_agree, is_held, is_kept, is_some, labelled, length, list_all, list_any, map, most_variables, names_of, or_left, or_right, refl, shape_named, subst, sym, true, variable_in, variable_names, without_idle, ℕ, ◌++◌, ◌+◌, ◌||◌, ◌∙◌, ◌∷◌, ◌≡◌, ◌≤◌}
 use Rattle.xr_defs.specs.Values as of
 use Rattle.xr_parts.proofs.Words.{AreAmong, absent_both, absent_left, absent_parts, all_hold, any_mapped, anything, both_hold, distinct_left, each_left, each_mapped, each_weaker, itself, some_both, some_left, some_same}
-use Rattle.xr_parts.proofs.Axes.{called_here, called_name, called_on}
+use Rattle.xr_parts.proofs.Axes.{called_cons, called_here, called_name, called_on}
 
 -- ---- an axis that a test leaves
 
@@ -33,24 +33,15 @@ module _ (p : Axis → Bool) where
       → (among (axis_names (filter p axes)) name ≡ true) × (axis_called (filter p axes) name ≡ axis_called axes name)
   kept_called [] name has passes = absurd cc
   kept_called (x ∷ xs) name has passes =
-      elim (cases_Bool (bytes_eq x.name name)) [
-        | inl e ↦
-            let here = called_here x xs name e in
-            let yes : p x ≡ true = ap p (sym here) ∙ passes in
-            let stays : filter p (x ∷ xs) ≡ x ∷ filter p xs = cond-true (p x) (x ∷ filter p xs) (filter p xs) yes in
-            let first = or_left (bytes_eq name x.name) (among (axis_names (filter p xs)) name) (bytes_eq_swap name x.name ∙ e) in
-            (ap (λ ys. among (axis_names ys) name) stays ∙ first, ap (λ ys. axis_called ys name) stays ∙ called_here x (filter p xs) name e ∙ sym here)
-        | inr e ↦
-            let on = called_on x xs name e in
-            let still : among (axis_names xs) name ≡ true = ap (λ b. b || among (axis_names xs) name) (sym (bytes_eq_swap name x.name ∙ e)) ∙ has in
-            let rest = kept_called xs name still (ap p (sym on) ∙ passes) in
-            by (p x) e rest on
-      ]
+      by (bytes_eq x.name name) (p x) refl refl (ap (λ t. t || among (axis_names xs) name) (bytes_eq_swap x.name name) ∙ has) (sym (ap p (called_cons x xs name)) ∙ passes) (kept_called xs name)
     where
-      by : (b : Bool) → bytes_eq x.name name ≡ false → (among (axis_names (filter p xs)) name ≡ true) × (axis_called (filter p xs) name ≡ axis_called xs name) → axis_called (x ∷ xs) name ≡ axis_called xs name
-          → (among (axis_names (cond b (x ∷ filter p xs) (filter p xs))) name ≡ true) × (axis_called (cond b (x ∷ filter p xs) (filter p xs)) name ≡ axis_called (x ∷ xs) name)
-      by true e rest on = (or_right (bytes_eq name x.name) _ rest.0, called_on x (filter p xs) name e ∙ rest.1 ∙ sym on)
-      by false e rest on = (rest.0, rest.1 ∙ sym on)
+      by : (b k : Bool) → bytes_eq x.name name ≡ b → p x ≡ k → (b || among (axis_names xs) name) ≡ true → p (cond b x (axis_called xs name)) ≡ true
+          → (among (axis_names xs) name ≡ true → p (axis_called xs name) ≡ true → (among (axis_names (filter p xs)) name ≡ true) × (axis_called (filter p xs) name ≡ axis_called xs name))
+          → (among (axis_names (cond k (x ∷ filter p xs) (filter p xs))) name ≡ true) × (axis_called (cond k (x ∷ filter p xs) (filter p xs)) name ≡ axis_called (x ∷ xs) name)
+      by true true e f has passes rest = (or_left (bytes_eq name x.name) _ (bytes_eq_swap name x.name ∙ e), called_here x (filter p xs) name e ∙ sym (called_here x xs name e))
+      by true false e f has passes rest = absurd cc
+      by false true e f has passes rest = let more = rest has passes in (or_right (bytes_eq name x.name) _ more.0, called_on x (filter p xs) name e ∙ more.1 ∙ sym (called_on x xs name e))
+      by false false e f has passes rest = let more = rest has passes in (more.0, more.1 ∙ sym (called_on x xs name e))
 
 -- ---- what something has
 

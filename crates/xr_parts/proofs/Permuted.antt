@@ -1,7 +1,7 @@
 -- Names that are as many as those of the axes and differ are all of them.
-use Rattle.xr_parts.proofs.Common.{All, All-head, All-tail, AllByRecursion, Axis, Bool, IsArrangement, IsOrder, IsThere, List, [], among, and_parts, ap, are_distinct, arith, axes_called, axis_called, axis_names, bytes_eq, bytes_eq_swap, cases_Bool, cond, cond-false, cond-true, eq-eqb, false, get_or, inl, inr, is_once, length, length-map, list_any, map, no_axis, not, not-true, or_parts, refl, shape_over, size, suc, sym, true, zero, ℕ, ◌*◌, ◌<◌, ◌==◌, ◌||◌, ◌∙◌, ◌∷◌, ◌≡◌, ◌⊎◌}
+use Rattle.xr_parts.proofs.Common.{All, All-head, All-tail, AllByRecursion, Axis, Bool, IsArrangement, IsOrder, IsThere, List, [], among, and_parts, ap, are_distinct, arith, axes_called, axis_called, axis_names, bytes_eq, bytes_eq_swap, cases_Bool, cond, eq-eqb, false, get_or, inl, inr, is_once, length, length-map, list_any, map, no_axis, not, not-true, or_left, or_parts, or_right, refl, shape_over, size, suc, subst, sym, true, zero, ℕ, ◌*◌, ◌<◌, ◌==◌, ◌||◌, ◌∙◌, ◌∷◌, ◌≡◌}
 use Rattle.xr_parts.proofs.Words.{AreAmong, distinct_cons, distinct_parts, neither, same_text}
-use Rattle.xr_parts.proofs.Axes.{called_here, called_on, own_axes}
+use Rattle.xr_parts.proofs.Axes.{called_cons, called_on, own_axes}
 
 -- ---- an axis taken out
 
@@ -10,107 +10,64 @@ out name [] = []
 out name (x ∷ xs) = cond (bytes_eq x.name name) xs (x ∷ out name xs)
 
 module _ (name : List ℕ) where
-  out_here : (x : Axis) (xs : List Axis) → bytes_eq x.name name ≡ true → out name (x ∷ xs) ≡ xs
-  out_here x xs e = cond-true (bytes_eq x.name name) xs (x ∷ out name xs) e
-
-  out_on : (x : Axis) (xs : List Axis) → bytes_eq x.name name ≡ false → out name (x ∷ xs) ≡ x ∷ out name xs
-  out_on x xs e = cond-false (bytes_eq x.name name) xs (x ∷ out name xs) e
-
-  still : (x : Axis) (xs : List Axis) → bytes_eq x.name name ≡ false → among (axis_names (x ∷ xs)) name ≡ true → among (axis_names xs) name ≡ true
-  still x xs e has = ap (λ b. b || among (axis_names xs) name) (sym (bytes_eq_swap name x.name ∙ e)) ∙ has
-
-  size_out : (axes : List Axis) → among (axis_names axes) name ≡ true → size (shape_over axes) ≡ (axis_called axes name).size * size (shape_over (out name axes))
-  size_out [] has = absurd cc
-  size_out (x ∷ xs) has =
-      elim (cases_Bool (bytes_eq x.name name)) [
-        | inl e ↦ sym (ap (λ (y : Axis). y.size * size (shape_over (out name (x ∷ xs)))) (called_here x xs name e) ∙ ap (λ ys. x.size * size (shape_over ys)) (out_here x xs e))
-        | inr e ↦
-            let rest = size_out xs (still x xs e has) in
-            let s = (axis_called xs name).size in
-            let t = size (shape_over (out name xs)) in
-            ap (λ n. x.size * n) rest ∙ turned x.size s t
-            ∙ sym (ap (λ (y : Axis). y.size * size (shape_over (out name (x ∷ xs)))) (called_on x xs name e) ∙ ap (λ ys. s * size (shape_over ys)) (out_on x xs e))
-      ]
+  taken_out : (axes : List Axis) → among (axis_names axes) name ≡ true
+      → (size (shape_over axes) ≡ (axis_called axes name).size * size (shape_over (out name axes))) × (length axes ≡ suc (length (out name axes)))
+  taken_out [] has = absurd cc
+  taken_out (x ∷ xs) has =
+      subst (λ (y : Axis). (size (shape_over (x ∷ xs)) ≡ y.size * size (shape_over (out name (x ∷ xs)))) × (length (x ∷ xs) ≡ suc (length (out name (x ∷ xs))))) (sym (called_cons x xs name))
+      (by (bytes_eq x.name name) (ap (λ t. t || among (axis_names xs) name) (bytes_eq_swap x.name name) ∙ has) (taken_out xs))
     where
       turned : (a b c : ℕ) → a * (b * c) ≡ b * (a * c)
       turned a b c = grind arith
 
-  length_out : (axes : List Axis) → among (axis_names axes) name ≡ true → length axes ≡ suc (length (out name axes))
-  length_out [] has = absurd cc
-  length_out (x ∷ xs) has =
-      elim (cases_Bool (bytes_eq x.name name)) [
-        | inl e ↦ ap (λ ys. suc (length ys)) (sym (out_here x xs e))
-        | inr e ↦ ap suc (length_out xs (still x xs e has)) ∙ ap (λ ys. suc (length ys)) (sym (out_on x xs e))
-      ]
+      by : (b : Bool) → (b || among (axis_names xs) name) ≡ true → (among (axis_names xs) name ≡ true → (size (shape_over xs) ≡ (axis_called xs name).size * size (shape_over (out name xs))) × (length xs ≡ suc (length (out name xs))))
+          → (x.size * size (shape_over xs) ≡ (cond b x (axis_called xs name)).size * size (shape_over (cond b xs (x ∷ out name xs)))) × (suc (length xs) ≡ suc (length (cond b xs (x ∷ out name xs))))
+      by true e rest = (refl, refl)
+      by false e rest = let more = rest e in (ap (λ n. x.size * n) more.0 ∙ turned x.size (axis_called xs name).size (size (shape_over (out name xs))), ap suc more.1)
 
-  module _ (other : List ℕ) (differ : bytes_eq name other ≡ false) where
-    -- an axis of the one name hasn't the other
-    apart : (x : Axis) → bytes_eq x.name name ≡ true → bytes_eq x.name other ≡ false
-    apart x e = ap (λ n. bytes_eq n other) (same_text x.name name e) ∙ differ
-
-    called_out : (axes : List Axis) → axis_called (out name axes) other ≡ axis_called axes other
-    called_out [] = refl
-    called_out (x ∷ xs) =
-        elim (cases_Bool (bytes_eq x.name name)) [
-          | inl e ↦ ap (λ ys. axis_called ys other) (out_here x xs e) ∙ sym (called_on x xs other (apart x e))
-          | inr e ↦ ap (λ ys. axis_called ys other) (out_on x xs e) ∙ on (called_out xs) (cases_Bool (bytes_eq x.name other))
-        ]
-      where
-        on : axis_called (out name xs) other ≡ axis_called xs other → ((bytes_eq x.name other ≡ true) ⊎ (bytes_eq x.name other ≡ false)) → axis_called (x ∷ out name xs) other ≡ axis_called (x ∷ xs) other
-        on rest (inl f) = called_here x (out name xs) other f ∙ sym (called_here x xs other f)
-        on rest (inr f) = called_on x (out name xs) other f ∙ rest ∙ sym (called_on x xs other f)
-
-    among_out : (axes : List Axis) → among (axis_names (out name axes)) other ≡ among (axis_names axes) other
-    among_out [] = refl
-    among_out (x ∷ xs) =
-        elim (cases_Bool (bytes_eq x.name name)) [
-          | inl e ↦ ap (λ ys. among (axis_names ys) other) (out_here x xs e) ∙ ap (λ b. b || among (axis_names xs) other) (sym (bytes_eq_swap other x.name ∙ apart x e))
-          | inr e ↦ ap (λ ys. among (axis_names ys) other) (out_on x xs e) ∙ ap (λ b. bytes_eq other x.name || b) (among_out xs)
-        ]
-
--- the names behind one that differs from them are left
-others_left : (d : List ℕ) (ds : List (List ℕ)) (axes : List Axis) → among ds d ≡ false → AreAmong (axis_names axes) ds → AreAmong (axis_names (out d axes)) ds
-others_left d [] axes lacks all = tt
-others_left d (n ∷ ns) axes lacks all =
-    let parts = or_parts (bytes_eq d n) (among ns d) lacks in
-    (among_out d n parts.0 axes ∙ all.0, others_left d ns axes parts.1 all.1)
+  -- an axis of another name stays
+  left_out : (other : List ℕ) → bytes_eq name other ≡ false → (axes : List Axis) → (axis_called (out name axes) other ≡ axis_called axes other) × (among (axis_names (out name axes)) other ≡ among (axis_names axes) other)
+  left_out other differ [] = (refl, refl)
+  left_out other differ (x ∷ xs) = by (bytes_eq x.name name) refl (left_out other differ xs)
+    where
+      by : (b : Bool) → bytes_eq x.name name ≡ b → (axis_called (out name xs) other ≡ axis_called xs other) × (among (axis_names (out name xs)) other ≡ among (axis_names xs) other)
+          → (axis_called (cond b xs (x ∷ out name xs)) other ≡ axis_called (x ∷ xs) other) × (among (axis_names (cond b xs (x ∷ out name xs))) other ≡ among (axis_names (x ∷ xs)) other)
+      by true e rest =
+          let apart : bytes_eq x.name other ≡ false = ap (λ n. bytes_eq n other) (same_text x.name name e) ∙ differ in
+          (sym (called_on x xs other apart), sym (ap (λ b. b || among (axis_names xs) other) (bytes_eq_swap other x.name ∙ apart)))
+      by false e rest = (called_cons x (out name xs) other ∙ ap (cond (bytes_eq x.name other) x) rest.0 ∙ sym (called_cons x xs other), ap (λ b. bytes_eq other x.name || b) rest.1)
 
 abbrev pub sizes : List Axis → List (List ℕ) → List ℕ
 sizes axes dims = map (λ d. (axis_called axes d).size) dims
 
-sizes_left : (d : List ℕ) (ds : List (List ℕ)) (axes : List Axis) → among ds d ≡ false → sizes (out d axes) ds ≡ sizes axes ds
-sizes_left d [] axes lacks = refl
-sizes_left d (n ∷ ns) axes lacks =
+-- the names behind one that differs from them are left
+others_left : (d : List ℕ) (ds : List (List ℕ)) (axes : List Axis) → among ds d ≡ false → AreAmong (axis_names axes) ds → AreAmong (axis_names (out d axes)) ds × (sizes (out d axes) ds ≡ sizes axes ds)
+others_left d [] axes lacks all = (tt, refl)
+others_left d (n ∷ ns) axes lacks all =
     let parts = or_parts (bytes_eq d n) (among ns d) lacks in
-    ap (λ (x : Axis). x.size ∷ sizes (out d axes) ns) (called_out d n parts.0 axes) ∙ ap (λ t. (axis_called axes n).size ∷ t) (sizes_left d ns axes parts.1)
+    let here = left_out d n parts.0 axes in
+    let rest = others_left d ns axes parts.1 all.1 in
+    ((here.1 ∙ all.0, rest.0), ap (λ (x : Axis). x.size ∷ sizes (out d axes) ns) here.0 ∙ ap (λ t. (axis_called axes n).size ∷ t) rest.1)
 
 -- ---- all of the axes
 
-pub same_size : (dims : List (List ℕ)) (axes : List Axis) → AreAmong (axis_names axes) dims → are_distinct dims ≡ true → length dims ≡ length axes → size (sizes axes dims) ≡ size (shape_over axes)
-same_size [] [] all d long = refl
-same_size [] (x ∷ xs) all d long = absurd (omega arith)
-same_size (n ∷ ns) axes all d long =
+pub all_named : (dims : List (List ℕ)) (axes : List Axis) → AreAmong (axis_names axes) dims → are_distinct dims ≡ true → length dims ≡ length axes
+    → (size (sizes axes dims) ≡ size (shape_over axes)) × ((name : List ℕ) → among (axis_names axes) name ≡ true → among dims name ≡ true)
+all_named [] [] all d long = (refl, λ name has. has)
+all_named [] (x ∷ xs) all d long = absurd (omega arith)
+all_named (n ∷ ns) axes all d long =
     let parts = distinct_parts n ns d in
-    let fewer = length_out n axes all.0 in
-    let rest = same_size ns (out n axes) (others_left n ns axes parts.0 all.1) parts.1 (omega arith) in
-    ap (λ t. (axis_called axes n).size * size t) (sym (sizes_left n ns axes parts.0)) ∙ ap (λ m. (axis_called axes n).size * m) rest ∙ sym (size_out n axes all.0)
-
-pub all_named : (dims : List (List ℕ)) (axes : List Axis) (name : List ℕ) → AreAmong (axis_names axes) dims → are_distinct dims ≡ true → length dims ≡ length axes → among (axis_names axes) name ≡ true → among dims name ≡ true
-all_named [] [] name all d long has = has
-all_named [] (x ∷ xs) name all d long has = absurd (omega arith)
-all_named (n ∷ ns) axes name all d long has =
-    let parts = distinct_parts n ns d in
-    let fewer = length_out n axes all.0 in
-    elim (cases_Bool (bytes_eq n name)) [
-      | inl e ↦ ap (λ b. b || among ns name) (bytes_eq_swap name n ∙ e)
-      | inr e ↦
-          let rest = all_named ns (out n axes) name (others_left n ns axes parts.0 all.1) parts.1 (omega arith) (among_out n name e axes ∙ has) in
-          ap (λ b. bytes_eq name n || b) rest ∙ or-true (bytes_eq name n)
-    ]
-  where
-    or-true : (b : Bool) → (b || true) ≡ true
-    or-true true = refl
-    or-true false = refl
+    let taken = taken_out n axes all.0 in
+    let left = others_left n ns axes parts.0 all.1 in
+    let fewer : length axes ≡ suc (length (out n axes)) = taken.1 in
+    let rest = all_named ns (out n axes) left.0 parts.1 (omega arith) in (
+      ap (λ t. (axis_called axes n).size * size t) (sym left.1) ∙ ap (λ m. (axis_called axes n).size * m) rest.0 ∙ sym taken.0,
+      λ name has.
+          elim (cases_Bool (bytes_eq n name)) [
+            | inl e ↦ or_left (bytes_eq name n) (among ns name) (bytes_eq_swap name n ∙ e)
+            | inr e ↦ or_right (bytes_eq name n) (among ns name) (rest.1 name ((left_out n name e axes).1 ∙ has))
+          ],
+    )
 
 -- ---- axes by their numbers
 
@@ -184,5 +141,5 @@ module _ (axes : List Axis) (distinct : are_distinct (axis_names axes) ≡ true)
     λ k lt.
         let long : length (names_at order) ≡ length axes = length-map order (named_at axes) ∙ is.long in
         let there = there_at axes axes k (own_axes axes distinct) lt in
-        any_number k order lt is.below (all_named (names_at order) axes (named_at axes k) (names_among order is.below) (names_differ order is.below is.once) long there.0),
+        any_number k order lt is.below ((all_named (names_at order) axes (names_among order is.below) (names_differ order is.below is.once) long).1 (named_at axes k) there.0),
   )

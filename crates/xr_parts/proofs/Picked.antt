@@ -4,7 +4,10 @@ use Rattle.xr_types.specs.declared.axis.LabelList.TheVariants.{Numbers}
 use Rattle.xr_defs.specs.declared.value.Content.TheVariants.{Cells}
 use Rattle.xr_defs.specs.Values as of
 use Rattle.xr_parts.specs.Pieces as spec
-use Rattle.xr_parts.specs.Pieces.{array_over, IsMade}
+use Rattle.std.specs.Prelude.{Err, Option, if◌then◌else◌}
+use Rattle.xr_defs.specs.Parts.{index_as_array, list_as_array}
+use Rattle.xr_types.specs.declared.fault.Fault.TheVariants.{NotLoaded, NoVariable}
+use Rattle.xr_parts.specs.Pieces.{array_over}
 use Rattle.xr_parts.proofs.Words.{each_mapped, found_one}
 use Rattle.xr_parts.proofs.Axes.{frame_over, named_again, names_there, own_axes, sizes_again, the_axes}
 
@@ -62,7 +65,7 @@ module _ (nodes : List Node) (s : Dataset) (name : List ℕ) (v : Variable) (is 
       over ns = record { name = Some v.name; axes = axes_called s.axes v.dims; kind = v.kind; masked = v.masked; attrs = v.attrs; coords = coords_over ns s.coords; cells = (value nodes v.node).cells }
 
 -- where no variable has the name, the rest tells
-pub not_called : (nodes : List Node) (s : Dataset) (name : List ℕ) → None ≡ find (λ (w : Variable). bytes_eq w.name name) s.vars → picked_of_set (dataset_in nodes s) name ≡ spec.other_part s name
+pub not_called : (nodes : List Node) (s : Dataset) (name : List ℕ) → None ≡ find (λ (w : Variable). bytes_eq w.name name) s.vars → picked_of_set (dataset_in nodes s) name ≡ spec.other_part s.axes s.coords s.skipped name
 unfolding picked_of_set
 not_called nodes s name none =
     ap (λ o. elim o as (λ o. Result of.DataArray Fault) [ Some w ↦ Ok (variable_as_array (dataset_in nodes s) w) | None ↦ elim (coordinate_of s.axes s.coords name) [ None ↦ not_there (dataset_in nodes s) name | Some r ↦ r ] ])
@@ -84,8 +87,20 @@ module _ (axes : List Axis) (coords : List Coord) (frame : IsFrame axes coords) 
   pub frame_there : (xs : List Axis) → AllByRecursion (IsThere axes) xs → are_distinct (axis_names xs) ≡ true → IsFrame xs (coords_over (axis_names xs) coords)
   frame_there xs there distinct = subst (λ ys. IsFrame ys (coords_over (axis_names xs) coords)) (the_axes axes xs there) (frame_over axes coords (axis_names xs) frame (names_there axes xs there) distinct)
 
-  pub coord_found : (name : List ℕ) (c : Coord) → Some c ≡ find (λ (d : Coord). bytes_eq d.name name) coords → IsCoordinate axes c
+  coord_found : (name : List ℕ) (c : Coord) → Some c ≡ find (λ (d : Coord). bytes_eq d.name name) coords → IsCoordinate axes c
   coord_found name c found = (found_one (IsCoordinate axes) (λ (d : Coord). bytes_eq d.name name) c coords frame.over (sym found)).holds
+
+  -- it is what the name means
+  pub coord_means : (skipped : List (List ℕ)) (name : List ℕ) (c d : Coord) → Some c ≡ find (λ (d : Coord). bytes_eq d.name name) coords → d ≡ c → (spec.other_part axes coords skipped name ≡ coord_as_array coords d) × IsCoordinate axes d
+  coord_means skipped name c d found same =
+      subst (λ d. (spec.other_part axes coords skipped name ≡ coord_as_array coords d) × IsCoordinate axes d) (sym same) (ap means (sym found), coord_found name c found)
+    where
+      means : Option Coord → Result of.DataArray Fault
+      means o =
+          elim (elim o as (λ o. Option (Result of.DataArray Fault)) [ Some c ↦ Some (coord_as_array coords c) | None ↦ elim (find (is_labelled_as name) axes) [ None ↦ None | Some x ↦ Some (index_as_array coords x) ] ]) [
+            | None ↦ Err (if among skipped name then NotLoaded name else NoVariable name)
+            | Some r ↦ r
+          ]
 
   pub index_there : (name : List ℕ) (x : Axis) → Some x ≡ find (is_labelled_as name) axes → IsThere axes x
   index_there name x found = (found_one (IsThere axes) (is_labelled_as name) x axes (own_axes axes frame.dims.distinct) (sym found)).holds
@@ -116,7 +131,7 @@ cells_fit done axes c a masked is e =
 
 -- ---- the labels of an axis
 
-pub label_coordinate : (axes : List Axis) (x : Axis) (l : Labels) (kind : DType) (ns : List ℤ) (c : Coord) → IsThere axes x → IsDimension x → IsIndex x.size l → l.list ≡ Numbers kind ns → c ≡ spec.label_coord x l.attrs kind ns → IsCoordinate axes c
+label_coordinate : (axes : List Axis) (x : Axis) (l : Labels) (kind : DType) (ns : List ℤ) (c : Coord) → IsThere axes x → IsDimension x → IsIndex x.size l → l.list ≡ Numbers kind ns → c ≡ spec.label_coord x l.attrs kind ns → IsCoordinate axes c
 label_coordinate axes x l kind ns c there is index numbers e =
     let few = is.few in
     let same : length (map Some ns) ≡ length ns = length-map ns Some in
@@ -133,3 +148,7 @@ label_coordinate axes x l kind ns c there is index numbers e =
         record { whole = omega (arith, long, same); range = All-map (IsCell kind) Some ns range.1; seen = λ plain. All-map (λ c. is_some c ≡ true) Some ns (λ i d lt. refl); low_rank = omega arith; few = omega (arith, few) },
       );
     })
+
+pub labels_answer : (axes : List Axis) (coords : List Coord) (x : Axis) (l : Labels) (kind : DType) (ns : List ℤ) (c : Coord) → IsThere axes x → IsDimension x → IsIndex x.size l → l.list ≡ Numbers kind ns → c ≡ spec.label_coord x l.attrs kind ns
+    → (list_as_array coords x l l.list ≡ coord_as_array coords c) × IsCoordinate axes c
+labels_answer axes coords x l kind ns c there is index numbers e = (ap (list_as_array coords x l) numbers ∙ ap (coord_as_array coords) (sym e), label_coordinate axes x l kind ns c there is index numbers e)

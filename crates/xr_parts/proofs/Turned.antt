@@ -6,7 +6,7 @@ use Rattle.plan_core.proofs.Moves.{moving_inside}
 use Rattle.plan_core.proofs.Tabs.{All-tab, place_below, tab-length}
 use Rattle.xr_parts.proofs.Words.{AreAmong}
 use Rattle.xr_parts.proofs.Axes.{frame_over, sizes_again}
-use Rattle.xr_parts.proofs.Permuted.{all_named, called_names, names_among, names_differ, named_at, order_from, same_size}
+use Rattle.xr_parts.proofs.Permuted.{all_named, called_names, names_among, names_differ, named_at, order_from}
 
 size_at : (axes : List Axis) (k : ℕ) → get_or (shape_over axes) k 0 ≡ (get_or axes k no_axis).size
 size_at [] k = refl
@@ -66,12 +66,12 @@ module _ (a : of.DataArray) (order : List ℕ) (is : IsDataArray a) (fits : IsAr
   ordered = subst (λ n. IsOrder n order) (sym (length-map a.axes (λ (x : Axis). x.size))) (order_from a.axes is.axes.distinct order fits)
 
   pub moved_size : size (moved_sizes order (shape_over a.axes)) ≡ size (shape_over a.axes)
-  moved_size = ap size (moved_shape a.axes order) ∙ ap (λ xs. size (shape_over xs)) chosen ∙ ap size (sizes_again a.axes (map (named_at a.axes) order)) ∙ same_size (map (named_at a.axes) order) a.axes inside differ long
+  moved_size = ap size (moved_shape a.axes order) ∙ ap (λ xs. size (shape_over xs)) chosen ∙ ap size (sizes_again a.axes (map (named_at a.axes) order)) ∙ (all_named (map (named_at a.axes) order) a.axes inside differ long).0
 
   frame : IsFrame (map (λ k. get_or a.axes k no_axis) order) a.coords
   frame =
       let whole = frame_over a.axes a.coords (map (named_at a.axes) order) (record { dims = is.axes; over = is.coords; distinct = is.distinct }) inside differ in
-      let stay = coords_stay a.axes (map (named_at a.axes) order) a.coords (λ name has. all_named (map (named_at a.axes) order) a.axes name inside differ long has) is.coords in
+      let stay = coords_stay a.axes (map (named_at a.axes) order) a.coords (all_named (map (named_at a.axes) order) a.axes inside differ long).1 is.coords in
       subst (λ xs. IsFrame xs a.coords) (sym chosen) (subst (IsFrame (axes_called a.axes (map (named_at a.axes) order))) stay whole)
 
   pub turned : IsDataArray (in_order a order)

@@ -1,19 +1,7 @@
 -- Variables of the program by their names, and the axes that something has.
-use Rattle.std.specs.Prelude.{◌||◌, ℕ, Bool, not, List, [], filter, map, is_some, Result, Ok}
-use Rattle.std.specs.Str.{bytes_eq}
-use Rattle.std.specs.List.{list_any}
-use Rattle.xr_types.specs.declared.axis.Axis.{Axis}
-use Rattle.xr_defs.specs.declared.value.Coord.{Coord}
-use Rattle.xr_types.specs.Names.{among}
-use Rattle.xr_types.specs.Names.{axis_names}
-use Rattle.xr_defs.specs.Parts.{coords_left, has_coordinate, names_given, unlabelled}
-use Rattle.xr_defs.specs.Meanings.{Given}
-use Rattle.xr_types.specs.Results.{◌>>=◌, all_of, unless}
-use Rattle.xr_types.specs.declared.fault.Fault.{Fault}
-use Rattle.xr_types.specs.declared.fault.Fault.TheVariants.{NoVariable}
-use Rattle.xr_values.specs.declared.data_array.DataArray.{DataArray}
-use Rattle.xr_values.specs.declared.variable.Variable.{Variable}
-use Rattle.xr_values.specs.declared.dataset.Dataset.{Dataset}
+use Rattle.std.specs.Prelude.{◌||◌}
+use Rattle.xr_types.specs.Results.{◌>>=◌}
+use Rattle.xr_parts.specs.Common.{Axis, Bool, Coord, DataArray, Dataset, Fault, Given, List, NoVariable, Ok, Result, Variable, [], all_of, among, axis_names, bytes_eq, coords_left, filter, has_coordinate, is_some, list_any, map, names_given, not, unlabelled, unless, ℕ}
 
 abbrev pub has_variable : List Variable → List ℕ → Bool
 has_variable vs name = list_any (λ (v : Variable). bytes_eq v.name name) vs

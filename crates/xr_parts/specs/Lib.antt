@@ -1,3 +1,4 @@
+pub mod Common
 pub mod Frames
 pub mod Single
 pub mod Numbered

@@ -1,13 +1,7 @@
 -- Where an attribute of a name stands, and the attribute of a number in four bytes.
-use Rattle.std.specs.Prelude.{ℕ, ℤ, List, Option, Some, None, Result, Ok, if◌then◌else◌}
-use Rattle.std.specs.Str.{bytes_eq}
-use Rattle.std.specs.List.{position}
-use Rattle.xr_types.specs.declared.attr.Attr.{Attr}
-use Rattle.xr_types.specs.declared.attr.NcType.TheVariants.{Int}
-use Rattle.xr_types.specs.declared.fault.Fault.{Fault}
-use Rattle.xr_types.specs.declared.fault.Fault.TheVariants.{DoesNotFit}
-use Rattle.xr_defs.specs.Encoding.{holds, value_bytes}
-use Rattle.xr_types.specs.Results.{◌>>=◌, unless}
+use Rattle.std.specs.Prelude.{if◌then◌else◌}
+use Rattle.xr_types.specs.Results.{◌>>=◌}
+use Rattle.xr_parts.specs.Common.{Attr, DoesNotFit, Fault, Int, List, None, Ok, Option, Result, Some, bytes_eq, holds, position, unless, value_bytes, ℕ, ℤ}
 
 -- the first of the name
 unfoldable pub attr_place : List Attr → List ℕ → Option ℕ

@@ -1,12 +1,8 @@
 -- The numbers of axes in another order.
-use Rattle.std.specs.Prelude.{◌≡◌, ◌<◌, ◌++◌, ℕ, true, List, length, All, Result, Ok}
-use Rattle.xr_types.specs.declared.fault.Fault.{Fault}
-use Rattle.xr_arrays.specs.declared.node.Node.{Node}
+use Rattle.std.specs.Prelude.{◌++◌, ◌<◌, ◌≡◌}
 use Rattle.xr_types.specs.Results.{◌>>=◌}
+use Rattle.xr_parts.specs.Common.{All, DataArray, Fault, IsArrayIn, List, Node, Ok, Result, array_in, in_order, is_once, length, true, ℕ}
 use Rattle.xr_defs.specs.Values as of
-use Rattle.xr_defs.specs.Parts.{in_order, is_once}
-use Rattle.xr_values.specs.declared.data_array.DataArray.{DataArray}
-use Rattle.xr_values.specs.Stands.{array_in, IsArrayIn}
 
 -- each axis of a rank once
 pub record IsArrangement (rank : ℕ) (order : List ℕ) : Type 0 where

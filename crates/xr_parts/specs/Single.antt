@@ -1,10 +1,6 @@
 -- An array as a dataset of one variable, both over the same node, and a call without arguments.
-use Rattle.std.specs.Prelude.{◌&&◌, ◌==◌, ℕ, Bool, List, [], ◌∷◌, length}
-use Rattle.xr_defs.specs.Meanings.{Given}
-use Rattle.xr_types.specs.Names.{axis_names}
-use Rattle.xr_values.specs.declared.data_array.DataArray.{DataArray}
-use Rattle.xr_values.specs.declared.variable.Variable.{Variable}
-use Rattle.xr_values.specs.declared.dataset.Dataset.{Dataset}
+use Rattle.std.specs.Prelude.{◌&&◌, ◌==◌, ◌∷◌}
+use Rattle.xr_parts.specs.Common.{Bool, DataArray, Dataset, Given, List, Variable, [], axis_names, length, ℕ}
 
 abbrev pub variable_of : List ℕ → DataArray → Variable
 variable_of name a = record { name = name; dims = axis_names a.axes; kind = a.kind; masked = a.masked; attrs = a.attrs; node = a.node }

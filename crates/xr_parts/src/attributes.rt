@@ -1,13 +1,7 @@
 //! `assign_attrs(name=value)`: attributes of arrays and datasets.
-ghost use Rattle.std.specs.Prelude.{◌≡◌, ◌<◌, List, length, map, true, IfOk, IfSome, OnOk};
-ghost use Rattle.xr_arrays.specs.declared.node.Node.{Node};
-ghost use Rattle.xr_types.specs.Results.{Answers, all_of};
-ghost use Rattle.xr_files.specs.Classic.{is_name};
+ghost use Rattle.std.specs.Prelude.{◌<◌, ◌≡◌};
+ghost use Rattle.xr_parts.specs.Common.{Answers, AnswersArray, AnswersSet, AreAttributes, IfOk, IfSome, IsArrayIn, IsAttribute, IsDatasetIn, List, Node, OnOk, all_of, array_in, dataset_in, given, is_name, length, map, meaning, true, with_key};
 ghost use Rattle.xr_defs.specs.Parts as of;
-ghost use Rattle.xr_values.specs.Answers.{AnswersArray, AnswersSet};
-ghost use Rattle.xr_values.specs.Meaning.{given, meaning, with_key};
-ghost use Rattle.xr_values.specs.Stands.{array_in, dataset_in, IsArrayIn, IsDatasetIn};
-ghost use Rattle.xr_defs.specs.WellFormed.{AreAttributes, IsAttribute};
 ghost use Rattle.xr_parts.specs.Numbered.{attr_place, in_four_bytes, number_attr};
 
 use std::alloc::{AllocError, Global};
@@ -62,24 +56,7 @@ fn number_attr(alloc: Global, name: &TextBytes, n: &i128) -> Result<Attr, CallFa
 }
 
 // The attribute of a keyword and its value.
-#[tactic(auto, using(crate::proofs::Described::number_given, crate::proofs::Described::text_formed, xr_arguments::proofs::Variants::is_text, xr_arguments::proofs::Variants::is_number, xr_values::proofs::Meaning::meaning_out), unfolding(xr_defs::specs::Parts::attr_given, crate::specs::Numbered::number_attr))]
-fn attr_of(alloc: Global, name: &TextBytes, value: &Value) -> Result<Attr, CallFault>
-    requires { is_name name.now ≡ true }
-    ensures answers { (nodes : List Node) → Answers (λ a. a) result (of.attr_given (name.now, meaning nodes value.now)) }
-    ensures formed { IfOk result IsAttribute }
-{
-    match value {
-        Value::Text(text) => Ok(Attr {
-            name: name.deep_copy(alloc)?,
-            kind: NcType::Char,
-            raw: Items::from_slice(alloc, text.as_bytes())?,
-        }),
-        Value::Number(n) => number_attr(alloc, name, n),
-        _ => Err(CallFault::Refused(Fault::WrongKind)),
-    }
-}
-
-#[tactic(auto, using(crate::proofs::Naming::named_text))]
+#[tactic(auto, using(crate::proofs::Described::number_given, crate::proofs::Described::text_formed, crate::proofs::Naming::named_text, xr_arguments::proofs::Variants::is_text, xr_arguments::proofs::Variants::is_number, xr_values::proofs::Meaning::meaning_out), unfolding(xr_defs::specs::Parts::attr_given, crate::specs::Numbered::number_attr))]
 fn attr_given(alloc: Global, argument: &(TextBytes, Value)) -> Result<Attr, CallFault>
     ensures answers { (nodes : List Node) → Answers (λ a. a) result (of.attr_given (with_key nodes argument.now)) }
     ensures formed { IfOk result IsAttribute }
@@ -88,7 +65,15 @@ fn attr_given(alloc: Global, argument: &(TextBytes, Value)) -> Result<Attr, Call
         // No script has an empty keyword.
         return Err(CallFault::NoMemory);
     }
-    attr_of(alloc, &argument.0, &argument.1)
+    match &argument.1 {
+        Value::Text(text) => Ok(Attr {
+            name: argument.0.deep_copy(alloc)?,
+            kind: NcType::Char,
+            raw: Items::from_slice(alloc, text.as_bytes())?,
+        }),
+        Value::Number(n) => number_attr(alloc, &argument.0, n),
+        _ => Err(CallFault::Refused(Fault::WrongKind)),
+    }
 }
 
 #[tactic(auto, unfolding(crate::specs::Numbered::attr_place))]
@@ -113,24 +98,8 @@ fn put_attr(attrs: &mut Items<Attr>, attr: Attr) -> Result<(), AllocError>
     }
 }
 
-#[tactic(auto, unfolding(xr_defs::specs::Parts::each_attr))]
-fn each_attr(
-    alloc: Global,
-    attrs: Items<Attr>,
-    keyed: &[(TextBytes, Value)],
-) -> Result<Items<Attr>, CallFault>
-    ensures answers { (nodes : List Node) → Answers (λ a. a) result (of.each_attr attrs (map (with_key nodes) keyed.now)) }
-    ensures formed { AreAttributes attrs → IfOk result AreAttributes }
-{
-    let mut attrs = attrs;
-    for argument in keyed {
-        put_attr(&mut attrs, attr_given(alloc, argument)?)?;
-    }
-    Ok(attrs)
-}
-
 // The attributes with those that a call gives.
-#[tactic(auto, unfolding(xr_defs::specs::Parts::attrs_assigned, xr_types::specs::Results::unless, xr_values::specs::Meaning::given))]
+#[tactic(auto, unfolding(xr_defs::specs::Parts::attrs_assigned, xr_defs::specs::Parts::each_attr, xr_types::specs::Results::unless, xr_values::specs::Meaning::given))]
 fn attrs_assigned(alloc: Global, attrs: &Items<Attr>, args: &Args) -> Result<Items<Attr>, CallFault>
     ensures answers { (nodes : List Node) → Answers (λ a. a) result (of.attrs_assigned attrs.now (given nodes args.now)) }
     ensures formed { AreAttributes attrs.now → IfOk result AreAttributes }
@@ -140,7 +109,11 @@ fn attrs_assigned(alloc: Global, attrs: &Items<Attr>, args: &Args) -> Result<Ite
     }
     let keyed = args.keyed.as_slice();
     check_attrs(keyed)?;
-    each_attr(alloc, attrs.deep_copy(alloc)?, keyed)
+    let mut attrs = attrs.deep_copy(alloc)?;
+    for argument in keyed {
+        put_attr(&mut attrs, attr_given(alloc, argument)?)?;
+    }
+    Ok(attrs)
 }
 
 /// An array with more attributes, each a text or a whole number of type int.

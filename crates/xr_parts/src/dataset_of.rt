@@ -1,19 +1,8 @@
 //! Arrays as datasets of one variable: `to_dataset(name)`.
-ghost use Rattle.std.specs.Prelude.{◌≡◌, ◌+◌, ◌||◌, List, length, nat_le, true, codes, IfOk};
-ghost use Rattle.std.specs.Str.{bytes_eq};
-ghost use Rattle.std.specs.List.{list_any};
-ghost use Rattle.xr_arrays.specs.declared.node.Node.{Node};
-ghost use Rattle.xr_defs.specs.declared.value.Coord.{Coord as Other};
-ghost use Rattle.xr_types.specs.Names.{among};
-ghost use Rattle.xr_files.specs.Classic.{is_name};
-ghost use Rattle.xr_defs.specs.Limits.{most_variables};
-ghost use Rattle.xr_types.specs.Results.{Answers};
-ghost use Rattle.xr_types.specs.Names.{axis_names};
+ghost use Rattle.std.specs.Prelude.{◌+◌, ◌||◌, ◌≡◌};
+ghost use Rattle.xr_parts.specs.Common.{Answers, AnswersSet, Coord as Other, IfOk, IsArrayIn, List, Node, among, array_in, axis_names, bytes_eq, codes, given, is_name, length, list_any, meaning, most_variables, nat_le, true};
 ghost use Rattle.xr_defs.specs.Parts as of;
-ghost use Rattle.xr_values.specs.Answers.{AnswersSet};
-ghost use Rattle.xr_values.specs.Meaning.{meaning, given};
-ghost use Rattle.xr_values.specs.Stands.{array_in, IsArrayIn};
-ghost use Rattle.xr_parts.specs.Single.{is_bare, set_of, variable_of};
+ghost use Rattle.xr_parts.specs.Single.{is_bare, set_of};
 
 use crate::names::{new_name, own_name};
 use std::alloc::{AllocError, Global};
@@ -49,19 +38,6 @@ fn names_of(alloc: Global, axes: &[Axis]) -> Result<Items<Name>, AllocError>
     Ok(names)
 }
 
-fn as_variable(alloc: Global, name: &TextBytes, on: &DataArray) -> Result<Variable, AllocError>
-    ensures { IfOk result (λ v. v ≡ variable_of name.now on.now) }
-{
-    Ok(Variable {
-        name: name.deep_copy(alloc)?,
-        dims: names_of(alloc, on.axes.as_slice())?,
-        kind: on.kind,
-        masked: on.masked,
-        attrs: on.attrs.deep_copy(alloc)?,
-        node: on.node,
-    })
-}
-
 // Whether a dimension or a coordinate has the name.
 fn is_taken(on: &DataArray, name: &TextBytes) -> bool
     ensures { result ≡ (among (axis_names on.now.axes) name.now || list_any (λ (c : Other). bytes_eq c.name name.now) on.now.coords) }
@@ -80,7 +56,15 @@ fn set_of(alloc: Global, name: &TextBytes, on: &DataArray) -> Result<Dataset, Al
     ensures { IfOk result (λ s. s ≡ set_of name.now on.now) }
 {
     let mut vars = Variables::new(alloc);
-    vars.put(alloc, as_variable(alloc, name, on)?)?;
+    let variable = Variable {
+        name: name.deep_copy(alloc)?,
+        dims: names_of(alloc, on.axes.as_slice())?,
+        kind: on.kind,
+        masked: on.masked,
+        attrs: on.attrs.deep_copy(alloc)?,
+        node: on.node,
+    };
+    vars.put(alloc, variable)?;
     Ok(Dataset {
         axes: on.axes.deep_copy(alloc)?,
         coords: copy_coords(alloc, on.coords.as_slice())?,

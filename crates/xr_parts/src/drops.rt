@@ -1,42 +1,25 @@
 //! `drop_vars(names)`: arrays and datasets without some coordinates, labels and data variables.
-ghost use Rattle.std.specs.Prelude.{◌≡◌, ◌||◌, [], List, map, filter, true, IfOk, OnOk};
-ghost use Rattle.std.specs.Str.{bytes_eq};
-ghost use Rattle.std.specs.List.{list_any};
-ghost use Rattle.xr_defs.specs.declared.value.Coord.{Coord as Other};
-ghost use Rattle.xr_types.specs.declared.fault.Fault.TheVariants.{NoVariable};
-ghost use Rattle.xr_arrays.specs.declared.node.Node.{Node};
-ghost use Rattle.xr_types.specs.Names.{are_distinct};
-ghost use Rattle.xr_types.specs.Names.{among};
-ghost use Rattle.xr_types.specs.Results.{Answers, unless};
-ghost use Rattle.xr_types.specs.Names.{axis_names};
+ghost use Rattle.std.specs.Prelude.{◌||◌, ◌≡◌};
+ghost use Rattle.xr_parts.specs.Common.{Answers, AnswersArray, AnswersSet, Coord as Other, IfOk, IsArrayIn, IsDatasetIn, List, NoVariable, Node, OnOk, Variable as Var, [], among, are_distinct, array_in, axis_names, bytes_eq, dataset_in, filter, given, list_any, map, names_of, true, unless, with_variables};
 ghost use Rattle.xr_defs.specs.Parts as of;
-ghost use Rattle.xr_values.specs.declared.variable.Variable.{Variable as Var};
-ghost use Rattle.xr_values.specs.Answers.{AnswersArray, AnswersSet};
-ghost use Rattle.xr_values.specs.Meaning.{given};
-ghost use Rattle.xr_values.specs.Stands.{array_in, dataset_in, IsArrayIn, IsDatasetIn};
-ghost use Rattle.xr_values.specs.Variables.{names_of, with_variables};
-ghost use Rattle.xr_parts.specs.Kept.{array_without, check_names, has_variable, is_held, names_checked, set_without, vars_left};
+ghost use Rattle.xr_parts.specs.Kept.{array_without, has_variable, is_held, names_checked, set_without, vars_left};
 
 use crate::dataset_of::{has_axis, has_coord};
 use crate::texts::{is_among, names_given};
 use std::alloc::{AllocError, Global};
 use xr_defs::Coord;
 use xr_types::{Axis, CallFault, DeepCopy, Fault, Items, TextBytes};
-use xr_values::{Args, DataArray, Dataset, Variable, Variables, copy_content};
+use xr_values::{Args, DataArray, Dataset, Variable, Variables, copy_coord};
 
 // An axis without its labels, where it is named.
 fn unlabelled(alloc: Global, names: &[TextBytes], axis: &Axis) -> Result<Axis, AllocError>
     ensures { IfOk result (λ x. x ≡ of.unlabelled names.now axis.now) }
 {
+    let mut left = axis.deep_copy(alloc)?;
     if is_among(names, &axis.name) {
-        Ok(Axis {
-            name: axis.name.deep_copy(alloc)?,
-            size: axis.size,
-            labels: None,
-        })
-    } else {
-        axis.deep_copy(alloc)
+        left.labels = None;
     }
+    Ok(left)
 }
 
 fn all_unlabelled(
@@ -53,17 +36,6 @@ fn all_unlabelled(
     Ok(out)
 }
 
-fn coord_left(alloc: Global, names: &[TextBytes], coord: &Coord) -> Result<Coord, AllocError>
-    ensures { IfOk result (λ c. c ≡ record coord.now { axes = map (of.unlabelled names.now) coord.now.axes }) }
-{
-    Ok(Coord {
-        name: coord.name.deep_copy(alloc)?,
-        axes: all_unlabelled(alloc, names, coord.axes.as_slice())?,
-        attrs: coord.attrs.deep_copy(alloc)?,
-        content: copy_content(alloc, &coord.content)?,
-    })
-}
-
 // The coordinates that aren't named, whose axes lose their labels too.
 fn coords_left(
     alloc: Global,
@@ -75,7 +47,9 @@ fn coords_left(
     let mut out = Items::new(alloc);
     for coord in coords {
         if !is_among(names, &coord.name) {
-            out.push(coord_left(alloc, names, coord)?)?;
+            let mut left = copy_coord(alloc, coord)?;
+            left.axes = all_unlabelled(alloc, names, coord.axes.as_slice())?;
+            out.push(left)?;
         }
     }
     Ok(out)
@@ -100,40 +74,14 @@ fn has_variable(vars: &[Variable], name: &TextBytes) -> bool
     vars.iter().any(|variable| variable.name.is(name))
 }
 
-#[tactic(auto, unfolding(xr_types::specs::Results::unless))]
-fn check_name(
-    alloc: Global,
-    vars: &[Variable],
-    axes: &[Axis],
-    coords: &[Coord],
-    name: &TextBytes,
-) -> Result<(), CallFault>
-    ensures { Answers (λ u. u) result (unless (has_variable vars.now name.now || of.has_coordinate axes.now coords.now name.now) (NoVariable name.now)) }
+fn has_name(vars: &[Variable], axes: &[Axis], coords: &[Coord], name: &TextBytes) -> bool
+    ensures { result ≡ (has_variable vars.now name.now || of.has_coordinate axes.now coords.now name.now) }
 {
-    if has_variable(vars, name) || has_coordinate(axes, coords, name) {
-        Ok(())
-    } else {
-        Err(CallFault::Refused(Fault::NoVariable(name.deep_copy(alloc)?)))
-    }
-}
-
-fn check_names(
-    alloc: Global,
-    vars: &[Variable],
-    axes: &[Axis],
-    coords: &[Coord],
-    names: &[TextBytes],
-) -> Result<(), CallFault>
-    ensures { Answers (λ u. u) result (check_names vars.now axes.now coords.now names.now) }
-{
-    for name in names {
-        check_name(alloc, vars, axes, coords, name)?;
-    }
-    Ok(())
+    has_variable(vars, name) || has_coordinate(axes, coords, name)
 }
 
 // The names that a call gives, each of something that is there.
-#[tactic(auto, unfolding(crate::specs::Kept::names_checked))]
+#[tactic(auto, unfolding(crate::specs::Kept::names_checked, xr_types::specs::Results::unless))]
 fn names_checked(
     alloc: Global,
     vars: &[Variable],
@@ -144,7 +92,12 @@ fn names_checked(
     ensures { (nodes : List Node) → Answers (λ ns. ns) result (names_checked vars.now axes.now coords.now (given nodes args.now)) }
 {
     let names = names_given(alloc, args)?;
-    check_names(alloc, vars, axes, coords, names.as_slice())?;
+    let list = names.as_slice();
+    for name in list {
+        if !has_name(vars, axes, coords, name) {
+            return Err(CallFault::Refused(Fault::NoVariable(name.deep_copy(alloc)?)));
+        }
+    }
     Ok(names)
 }
 

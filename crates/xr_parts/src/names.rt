@@ -1,12 +1,7 @@
 //! Names of arrays: `rename(name)`, and the name of an array as a data variable.
-ghost use Rattle.std.specs.Prelude.{◌≡◌, List, true, codes, IfOk};
-ghost use Rattle.xr_arrays.specs.declared.node.Node.{Node};
-ghost use Rattle.xr_files.specs.Classic.{is_name};
-ghost use Rattle.xr_types.specs.Results.{Answers};
+ghost use Rattle.std.specs.Prelude.{◌≡◌};
+ghost use Rattle.xr_parts.specs.Common.{Answers, AnswersArray, IfOk, IsArrayIn, List, Node, array_in, codes, given, is_name, meaning, true};
 ghost use Rattle.xr_defs.specs.Parts as of;
-ghost use Rattle.xr_values.specs.Answers.{AnswersArray};
-ghost use Rattle.xr_values.specs.Meaning.{meaning, given};
-ghost use Rattle.xr_values.specs.Stands.{array_in, IsArrayIn};
 
 use std::alloc::Global;
 use xr_arguments::{as_text, only};

@@ -1,16 +1,7 @@
 //! `transpose(d1, d2)`: dimensions in another order.
-ghost use Rattle.std.specs.Prelude.{◌≡◌, ◌==◌, ◌<◌, List, [], ◌∷◌, length, map, get_or, All, IfOk, IfSome};
-ghost use Rattle.std.specs.List.{list_any};
-ghost use Rattle.xr_arrays.specs.declared.node.Node.{Node};
-ghost use Rattle.xr_types.specs.Results.{Answers};
-ghost use Rattle.xr_defs.specs.Values.{axis_position, no_axis};
+ghost use Rattle.std.specs.Prelude.{◌<◌, ◌==◌, ◌∷◌, ◌≡◌};
+ghost use Rattle.xr_parts.specs.Common.{AddsAtMost, AddsForAny, All, Answers, AnswersArray, Grows, IfOk, IfSome, IsArrayIn, List, Node, [], array_in, axis_position, get_or, given, length, list_any, map, no_axis, of_array, room};
 ghost use Rattle.xr_defs.specs.Parts as of;
-ghost use Rattle.xr_arrays.specs.Added.{AddsAtMost};
-ghost use Rattle.xr_defs.specs.Room.{of_array, room, AddsForAny};
-ghost use Rattle.plan_core.specs.Plans.{Grows};
-ghost use Rattle.xr_values.specs.Answers.{AnswersArray};
-ghost use Rattle.xr_values.specs.Meaning.{given};
-ghost use Rattle.xr_values.specs.Stands.{array_in, IsArrayIn};
 ghost use Rattle.xr_parts.specs.Orders.{IsArrangement, IsMovedTo};
 
 use crate::texts::as_texts;

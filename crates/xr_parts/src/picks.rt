@@ -1,28 +1,10 @@
 //! `x["v"]`: a data variable or a coordinate as an array.
-ghost use Rattle.std.specs.Prelude.{◌≡◌, ◌∷◌, [], false, true, length, map, find, IfOk, IfSome, MatchOption, Some, option_copied, if◌then◌else◌};
-ghost use Rattle.std.specs.Str.{bytes_eq};
-ghost use Rattle.std.specs.List.{All, AllByRecursion};
-ghost use Rattle.xr_types.specs.Kinds.{InRange};
-ghost use Rattle.xr_types.specs.declared.axis.Axis.{Axis as Dimension};
-ghost use Rattle.xr_types.specs.declared.fault.Fault.TheVariants.{NoVariable, NotLoaded};
-ghost use Rattle.xr_types.specs.declared.axis.LabelList.TheVariants.{Numbers};
-ghost use Rattle.xr_defs.specs.declared.value.Content.TheVariants as contents;
-ghost use Rattle.xr_defs.specs.declared.value.Coord.{Coord as Other};
-ghost use Rattle.xr_arrays.specs.Arrays.{kind_of, wide, Array, InKind};
-ghost use Rattle.xr_defs.specs.Building.{is_integer_kind};
-ghost use Rattle.xr_types.specs.Names.{among};
-ghost use Rattle.xr_defs.specs.Encoding.{all_among, coords_over};
-ghost use Rattle.xr_arrays.specs.Added.{AddsAtMost};
-ghost use Rattle.xr_defs.specs.Room.{of_array, of_set, room, AddsForAny};
-ghost use Rattle.xr_defs.specs.Selecting.{axis_called};
-ghost use Rattle.xr_types.specs.Names.{axis_names};
+ghost use Rattle.std.specs.Prelude.{if◌then◌else◌, ◌∷◌, ◌≡◌};
+ghost use Rattle.xr_parts.specs.Common.{AddsAtMost, AddsForAny, AllByRecursion, AnswersArray, Axis as Dimension, Coord as Other, Grows, IfOk, InKind, InRange, IsArrayIn, IsDatasetIn, IsDimension, IsIndex, List, MatchOption, NoVariable, NotLoaded, Some, [], all_among, among, array_in, axis_called, axis_names, bytes_eq, coords_over, dataset_in, false, find, is_integer_kind, kind_of, length, map, of_array, of_set, option_copied, room, true, wide};
+ghost use Rattle.std.specs.List.{All};
 ghost use Rattle.xr_defs.specs.Parts as of;
-ghost use Rattle.plan_core.specs.Plans.{Grows};
-ghost use Rattle.xr_values.specs.Answers.{AnswersArray};
-ghost use Rattle.xr_values.specs.Stands.{array_in, dataset_in, IsArrayIn, IsDatasetIn};
-ghost use Rattle.xr_defs.specs.WellFormed.{AreAttributes, AreLabels, IsCoordinate, IsDimension, IsIndex};
 ghost use Rattle.xr_parts.specs.Frames.{IsFrame, IsThere};
-ghost use Rattle.xr_parts.specs.Pieces.{array_over, index_found, label_coord, other_part, AnswersFound, IsMade};
+ghost use Rattle.xr_parts.specs.Pieces.{array_over, label_coord, other_part, AnswersCoord};
 
 use crate::dataset_of::has_axis;
 use crate::orders::axis_place;
@@ -36,13 +18,6 @@ use xr_types::{
     NoMemory, TextBytes,
 };
 use xr_values::{DataArray, Dataset, Variable, copy_coord};
-
-/// Axes with the coordinates over them.
-#[derive(Clone, Copy)]
-pub(crate) struct Frame<'a> {
-    pub axes: &'a [Axis],
-    pub coords: &'a [Coord],
-}
 
 fn have_axes(axes: &[Axis], some: &[Axis]) -> bool
     ensures { result ≡ all_among (axis_names axes.now) (axis_names some.now) }
@@ -144,64 +119,6 @@ fn typed_cells(alloc: Global, kind: DType, numbers: &Integers) -> Result<Cells, 
     }
 }
 
-// Numbers of a kind along one dimension.
-fn numbers_array(alloc: Global, kind: DType, numbers: &Integers) -> Result<ArrayValue, AllocError>
-    requires integer { is_integer_kind kind ≡ true }
-    requires range { All (InRange kind) numbers.now }
-    ensures { IfOk result (λ a. a ≡ record { kind = kind; shape = length numbers.now ∷ []; cells = map Some numbers.now }) }
-{
-    let cells = typed_cells(alloc, kind, numbers)?;
-    let shape = Items::of(vec![in alloc; numbers.len() as u64]?);
-    Ok(ArrayValue::of(shape, cells, None))
-}
-
-// A coordinate with those beside it. Texts and times have no cells.
-fn coord_as_array(
-    alloc: Global,
-    plan: &mut Plan,
-    frame: &Frame<'_>,
-    coord: Coord,
-) -> Result<DataArray, CallFault>
-    requires frame { IsFrame frame.now.axes.now frame.now.coords.now }
-    requires formed { IsCoordinate frame.now.axes.now coord }
-    ensures answers { AnswersArray plan.new result (of.coord_as_array frame.now.coords.now coord) }
-    ensures grows { Grows plan.old plan.new }
-    ensures room { IfOk result (λ b. AddsForAny plan.old plan.new (array_in plan.new b)) }
-{
-    let Coord {
-        name,
-        axes,
-        attrs,
-        content,
-    } = coord;
-    match content {
-        Content::Cells(cells, masked) => {
-            let coords = coords_over(alloc, axes.as_slice(), frame.coords)?;
-            let kind = cells.kind();
-            let node = plan.push(Node::Source { cells })?;
-            Ok(DataArray {
-                name: Some(name),
-                axes,
-                kind,
-                masked,
-                attrs,
-                coords,
-                node,
-            })
-        }
-        Content::Text(_text) => Err(CallFault::Refused(Fault::WrongKind)),
-        Content::Time(_coding, _seconds) => Err(CallFault::Refused(Fault::WrongKind)),
-    }
-}
-
-fn alone(alloc: Global, axis: &Axis) -> Result<Items<Axis>, AllocError>
-    ensures { IfOk result (λ axes. axes ≡ axis.now ∷ []) }
-{
-    let mut axes = Items::new(alloc);
-    axes.push(axis.deep_copy(alloc)?)?;
-    Ok(axes)
-}
-
 // The labels of an axis as a coordinate.
 fn label_coord(
     alloc: Global,
@@ -214,54 +131,39 @@ fn label_coord(
     requires range { All (InRange kind) numbers.now }
     ensures { IfOk result (λ c. c ≡ label_coord axis.now attrs.now kind numbers.now) }
 {
+    let mut axes = Items::new(alloc);
+    axes.push(axis.deep_copy(alloc)?)?;
+    let cells = typed_cells(alloc, kind, numbers)?;
+    let shape = Items::of(vec![in alloc; numbers.len() as u64]?);
     Ok(Coord {
         name: axis.name.deep_copy(alloc)?,
-        axes: alone(alloc, axis)?,
+        axes,
         attrs: attrs.deep_copy(alloc)?,
-        content: Content::Cells(numbers_array(alloc, kind, numbers)?, false),
+        content: Content::Cells(ArrayValue::of(shape, cells, None), false),
     })
 }
 
-#[tactic(auto, using(crate::proofs::Picked::label_coordinate))]
-fn list_as_array(
-    alloc: Global,
-    plan: &mut Plan,
-    frame: &Frame<'_>,
-    axis: &Axis,
-    labels: &Labels,
-) -> Result<DataArray, CallFault>
-    requires frame { IsFrame frame.now.axes.now frame.now.coords.now }
-    requires there { IsThere frame.now.axes.now axis.now }
+// Texts and times have no cells.
+fn list_coord(alloc: Global, axis: &Axis, labels: &Labels) -> Result<Coord, CallFault>
     requires formed { IsDimension axis.now }
     requires index { IsIndex axis.now.size labels.now }
-    ensures answers { AnswersArray plan.new result (of.list_as_array frame.now.coords.now axis.now labels.now labels.now.list) }
-    ensures grows { Grows plan.old plan.new }
-    ensures room { IfOk result (λ b. AddsForAny plan.old plan.new (array_in plan.new b)) }
+    ensures { (axes : List Dimension) (coords : List Other) → IsThere axes axis.now → AnswersCoord axes coords result (of.list_as_array coords axis.now labels.now labels.now.list) }
 {
     match &labels.list {
         LabelList::Numbers(kind, numbers) => {
             let coord = label_coord(alloc, axis, &labels.attrs, *kind, numbers)?;
-            coord_as_array(alloc, plan, frame, coord)
+            Ok(coord)
         }
         _ => Err(CallFault::Refused(Fault::WrongKind)),
     }
 }
 
-fn index_as_array(
-    alloc: Global,
-    plan: &mut Plan,
-    frame: &Frame<'_>,
-    axis: &Axis,
-) -> Result<DataArray, CallFault>
-    requires frame { IsFrame frame.now.axes.now frame.now.coords.now }
-    requires there { IsThere frame.now.axes.now axis.now }
-    requires formed { IsDimension axis.now }
-    ensures answers { AnswersArray plan.new result (of.index_as_array frame.now.coords.now axis.now) }
-    ensures grows { Grows plan.old plan.new }
-    ensures room { IfOk result (λ b. AddsForAny plan.old plan.new (array_in plan.new b)) }
+fn index_coord(alloc: Global, axis: &Axis) -> Result<Coord, CallFault>
+    requires { IsDimension axis.now }
+    ensures { (axes : List Dimension) (coords : List Other) → IsThere axes axis.now → AnswersCoord axes coords result (of.index_as_array coords axis.now) }
 {
     match &axis.labels {
-        Some(labels) => list_as_array(alloc, plan, frame, axis, labels),
+        Some(labels) => list_coord(alloc, axis, labels),
         None => Err(CallFault::Refused(Fault::NoVariable(axis.name.deep_copy(alloc)?))),
     }
 }
@@ -279,45 +181,6 @@ fn find_index<'a>(axes: &'a [Axis], name: &TextBytes) -> Option<&'a Axis>
         .find(|axis| axis.name.is(name) && axis.labels.is_some())
 }
 
-// The index of a name, where there is one.
-fn index_of(
-    alloc: Global,
-    plan: &mut Plan,
-    frame: &Frame<'_>,
-    name: &TextBytes,
-) -> Result<Option<DataArray>, CallFault>
-    requires { IsFrame frame.now.axes.now frame.now.coords.now }
-    ensures answers { AnswersFound plan.new result (index_found frame.now.axes.now frame.now.coords.now name.now) }
-    ensures grows { Grows plan.old plan.new }
-    ensures room { IfOk result (λ found. IfSome found (λ b. AddsForAny plan.old plan.new (array_in plan.new b))) }
-{
-    match find_index(frame.axes, name) {
-        Some(axis) => Ok(Some(index_as_array(alloc, plan, frame, axis)?)),
-        None => Ok(None),
-    }
-}
-
-// The coordinate of a name or the index, where there is one.
-fn coordinate_of(
-    alloc: Global,
-    plan: &mut Plan,
-    frame: &Frame<'_>,
-    name: &TextBytes,
-) -> Result<Option<DataArray>, CallFault>
-    requires { IsFrame frame.now.axes.now frame.now.coords.now }
-    ensures answers { AnswersFound plan.new result (of.coordinate_of frame.now.axes.now frame.now.coords.now name.now) }
-    ensures grows { Grows plan.old plan.new }
-    ensures room { IfOk result (λ found. IfSome found (λ b. AddsForAny plan.old plan.new (array_in plan.new b))) }
-{
-    match find_coord(frame.coords, name) {
-        Some(coord) => {
-            let coord = copy_coord(alloc, coord)?;
-            Ok(Some(coord_as_array(alloc, plan, frame, coord)?))
-        }
-        None => index_of(alloc, plan, frame, name),
-    }
-}
-
 // What isn't loaded has a fault of its own.
 fn not_there(alloc: Global, skipped: &[Name], name: &TextBytes) -> Result<Fault, AllocError>
     ensures { IfOk result (λ f. f ≡ (if among skipped.now name.now then NotLoaded name.now else NoVariable name.now)) }
@@ -330,25 +193,65 @@ fn not_there(alloc: Global, skipped: &[Name], name: &TextBytes) -> Result<Fault,
     }
 }
 
-// What isn't a data variable.
-fn other_of_set(
+// The coordinate of a name, or the index as one.
+#[tactic(auto, using(crate::proofs::Picked::index_there))]
+fn part_called(
+    alloc: Global,
+    axes: &[Axis],
+    coords: &[Coord],
+    skipped: &[Name],
+    name: &TextBytes,
+) -> Result<Coord, CallFault>
+    requires { IsFrame axes.now coords.now }
+    ensures { AnswersCoord axes.now coords.now result (other_part axes.now coords.now skipped.now name.now) }
+{
+    if let Some(coord) = find_coord(coords, name) {
+        return Ok(copy_coord(alloc, coord)?);
+    }
+    match find_index(axes, name) {
+        Some(axis) => index_coord(alloc, axis),
+        None => Err(CallFault::Refused(not_there(alloc, skipped, name)?)),
+    }
+}
+
+// What isn't a data variable, over a node with its cells, with the coordinates beside it.
+fn pick_part(
     alloc: Global,
     plan: &mut Plan,
-    on: &Dataset,
+    axes: &[Axis],
+    coords: &[Coord],
+    skipped: &[Name],
     name: &TextBytes,
 ) -> Result<DataArray, CallFault>
-    requires { IsDatasetIn plan.old on.now }
-    ensures answers { AnswersArray plan.new result (other_part on.now name.now) }
+    requires { IsFrame axes.now coords.now }
+    ensures answers { AnswersArray plan.new result (other_part axes.now coords.now skipped.now name.now) }
     ensures grows { Grows plan.old plan.new }
     ensures room { IfOk result (λ b. AddsForAny plan.old plan.new (array_in plan.new b)) }
 {
-    let frame = Frame {
-        axes: on.axes.as_slice(),
-        coords: on.coords.as_slice(),
-    };
-    match coordinate_of(alloc, plan, &frame, name)? {
-        Some(array) => Ok(array),
-        None => Err(CallFault::Refused(not_there(alloc, on.skipped.as_slice(), name)?)),
+    let coord = part_called(alloc, axes, coords, skipped, name)?;
+    let Coord {
+        name,
+        axes,
+        attrs,
+        content,
+    } = coord;
+    match content {
+        Content::Cells(cells, masked) => {
+            let coords = coords_over(alloc, axes.as_slice(), coords)?;
+            let kind = cells.kind();
+            let node = plan.push(Node::Source { cells })?;
+            Ok(DataArray {
+                name: Some(name),
+                axes,
+                kind,
+                masked,
+                attrs,
+                coords,
+                node,
+            })
+        }
+        Content::Text(_text) => Err(CallFault::Refused(Fault::WrongKind)),
+        Content::Time(_coding, _seconds) => Err(CallFault::Refused(Fault::WrongKind)),
     }
 }
 
@@ -372,7 +275,14 @@ pub fn pick_of_set(
 {
     match on.vars.named(name) {
         Some(variable) => Ok(variable_as_array(alloc, on, variable)?),
-        None => other_of_set(alloc, plan, on, name),
+        None => pick_part(
+            alloc,
+            plan,
+            on.axes.as_slice(),
+            on.coords.as_slice(),
+            on.skipped.as_slice(),
+            name,
+        ),
     }
 }
 
@@ -393,12 +303,12 @@ pub fn pick_of_array(
     ensures grows { Grows plan.old plan.new }
     ensures room { IfOk result (λ b. AddsAtMost plan.old plan.new (room (of_array (array_in plan.old on.now) ∷ of_array (array_in plan.new b) ∷ []))) }
 {
-    let frame = Frame {
-        axes: on.axes.as_slice(),
-        coords: on.coords.as_slice(),
-    };
-    match coordinate_of(alloc, plan, &frame, name)? {
-        Some(array) => Ok(array),
-        None => Err(CallFault::Refused(Fault::NoVariable(name.deep_copy(alloc)?))),
-    }
+    pick_part(
+        alloc,
+        plan,
+        on.axes.as_slice(),
+        on.coords.as_slice(),
+        &[],
+        name,
+    )
 }

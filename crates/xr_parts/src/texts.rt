@@ -1,10 +1,7 @@
 //! The texts that values are.
-ghost use Rattle.std.specs.Prelude.{◌≡◌, List, map};
-ghost use Rattle.xr_arrays.specs.declared.node.Node.{Node};
-ghost use Rattle.xr_types.specs.Names.{among};
-ghost use Rattle.xr_types.specs.Results.{Answers};
+ghost use Rattle.std.specs.Prelude.{◌≡◌};
+ghost use Rattle.xr_parts.specs.Common.{Answers, List, Node, among, given, map, meaning};
 ghost use Rattle.xr_defs.specs.Parts as of;
-ghost use Rattle.xr_values.specs.Meaning.{meaning, given};
 
 use std::alloc::Global;
 use xr_arguments::{as_text, texts_in};

@@ -1,5 +1,5 @@
 -- Datasets without the variables of chars, and what is made of their reduction.
-use Rattle.std.proofs.Common.{◌≡◌, ◌≤◌, ◌||◌, ◌++◌, ℕ, suc, Bool, true, false, not, cond, List, [], ◌∷◌, map, filter, is_some, All, Result, Ok, Err, refl, sym, ap, subst, ◌∙◌, arith}
+use Rattle.std.proofs.Common.{◌*◌, ◌≡◌, ◌≤◌, ◌||◌, ◌++◌, ℕ, suc, Bool, true, false, not, cond, List, [], ◌∷◌, map, filter, is_some, All, Result, Ok, Err, refl, sym, ap, subst, ◌∙◌, arith}
 use Rattle.std.specs.List.{AllByRecursion, list_any}
 use Rattle.std.proofs.lemmas.List.{length-map}
 use Rattle.xr_types.specs.Names.{among, are_distinct, axis_names}
@@ -28,9 +28,10 @@ use Rattle.xr_reducing.specs.declared.chars.Frame.{Frame}
 use Rattle.xr_reducing.specs.declared.realized.SetMade.{SetMade}
 use Rattle.xr_reducing.specs.declared.realized.VarMade.{VarMade}
 use Rattle.xr_reducing.specs.Reduced.{charless, chars_out, check_each, check_each_size, check_over, framed_in, is_busy, is_made_busy, set_made, var_made, IsFrameIn}
-use Rattle.xr_reducing.specs.Sets.{set_made_in, var_made_in, IsSetMade, IsVarFit}
+use Rattle.xr_reducing.specs.Sets.{set_made_in, var_made_in, IsFitWithin, IsSetFew}
 use Rattle.xr_parts.proofs.Idle.{has_axis, has_dim, idle_formed, labelled_left, left, sizes_left, vars_have, IsLoose}
 use Rattle.xr_reducing.proofs.OneVariable.{var_makes, within_span, IsVarReduced}
+use Rattle.xr_reducing.proofs.Placing.{fits_within}
 use Rattle.xr_reducing.proofs.Reduced.{attrs_left, cells_passed, size_passed}
 use Rattle.xr_reducing.proofs.Staying.{fewer, frame_left}
 
@@ -273,7 +274,7 @@ module _ (nodes : List Node) (k : FoldKind) (names : List (List ℕ)) (s : Datas
   abbrev kept_axes : List Axis
   kept_axes = left after new_coords new_vars
 
-  one_fit : (v : Variable) → Makes v → AllByRecursion (λ n. list_any (has_dim n) new_vars ≡ true) (reduced_in v).dims → IsVariable kept_axes (reduced_in v) → IsVarFit nodes kept_axes (var_made k names v)
+  one_fit : (v : Variable) → Makes v → AllByRecursion (λ n. list_any (has_dim n) new_vars ≡ true) (reduced_in v).dims → IsVariable kept_axes (reduced_in v) → IsFitWithin nodes kept_axes (256 * span kept_axes) (var_made k names v)
   one_fit v m have var =
       let dims : (var_made k names v).dims ≡ (reduced_in v).dims = ap (λ (w : of.Variable). w.dims) m.is in
       let sizes : map (size_called kept_axes) (var_made k names v).dims ≡ map (size_called after) (var_made k names v).dims =
@@ -281,19 +282,19 @@ module _ (nodes : List Node) (k : FoldKind) (names : List (List ℕ)) (s : Datas
       let most = subst (λ ds. size (map (size_called kept_axes) ds) ≤ span kept_axes) (sym dims) (within_span kept_axes (reduced_in v).dims var.over var.distinct) in
       let count = ap size sizes in
       let cells = m.cells in
-      record { fits = m.fits; shape = m.shape ∙ sym sizes; kind = m.kind; room = omega (arith, most, count, cells) }
+      (record { fits = m.fits; shape = m.shape ∙ sym sizes; kind = m.kind }, omega (arith, most, count, cells))
 
   all_fit : (vs : List Variable) → AllByRecursion Makes vs → AllByRecursion (λ (v : of.Variable). AllByRecursion (λ n. list_any (has_dim n) new_vars ≡ true) v.dims) (map (variable_reduced k names f.axes) (map (variable_in nodes) vs))
-      → AllByRecursion (IsVariable kept_axes) (map (variable_reduced k names f.axes) (map (variable_in nodes) vs)) → AllByRecursion (IsVarFit nodes kept_axes) (map (var_made k names) vs)
+      → AllByRecursion (IsVariable kept_axes) (map (variable_reduced k names f.axes) (map (variable_in nodes) vs)) → AllByRecursion (IsFitWithin nodes kept_axes (256 * span kept_axes)) (map (var_made k names) vs)
   all_fit [] ms have vars = tt
   all_fit (v ∷ vs) ms have vars = (one_fit v ms.0 have.0 vars.0, all_fit vs ms.1 have.1 vars.1)
 
-  pub set_fits : IsSetMade nodes (set_made k names s f)
+  pub set_fits : IsSetFew nodes (set_made k names s f)
   unfolding set_over
-  set_fits = record {
-    vars = subst (λ xs. AllByRecursion (IsVarFit nodes xs) mades) (sym final_is) (all_fit f.vars made (vars_have new_vars) left_formed.vars);
-    formed = subst IsDataset (sym set_is) left_formed;
-  }
+  set_fits =
+      let fit = subst (λ xs. AllByRecursion (IsFitWithin nodes xs (256 * span xs)) mades) (sym final_is) (all_fit f.vars made (vars_have new_vars) left_formed.vars) in
+      let both = fits_within nodes final (256 * span final) mades fit in
+      (record { vars = both.0; formed = subst IsDataset (sym set_is) left_formed }, both.1)
 
 -- ---- the answer of the call
 
@@ -314,16 +315,16 @@ pub begun_in : (nodes : List Node) (s : Dataset) (f : Frame) → IsDatasetIn nod
 begun_in nodes s f is e = subst (IsFrameIn nodes s) (sym e) (charless_in nodes s is)
 
 told : (nodes : List Node) (k : FoldKind) (s : Dataset) (f : Frame) (g : Given) (names : List (List ℕ)) (m : SetMade) → is_positional k ≡ false → IsFrameIn nodes s f → dims_given (axis_names f.axes) g ≡ Ok names → check_each k names f.axes f.vars ≡ Ok tt → check_each_size names f.axes f.vars ≡ Ok tt
-    → m ≡ set_made k names s f → (reduced_of k (framed_in nodes s f) g ≡ Ok (set_made_in nodes m)) × IsSetMade nodes m
+    → m ≡ set_made k names s f → (reduced_of k (framed_in nodes s f) g ≡ Ok (set_made_in nodes m)) × IsSetFew nodes m
 unfolding reduced_of
 told nodes k s f g names m plain is dims full few em =
     let some = checks_in nodes k names f.axes f.vars ∙ full in
     let sizes = sizes_in nodes names f.axes f.vars ∙ few in
     let answer : reduced_of k (framed_in nodes s f) g ≡ Ok (set_over k names (framed_in nodes s f)) = rw (dims, some, sizes) refl in
-    (answer ∙ ap Ok (sym (ap (set_made_in nodes) em ∙ set_is nodes k names s f plain is full few)), subst (IsSetMade nodes) (sym em) (set_fits nodes k names s f plain is full few))
+    (answer ∙ ap Ok (sym (ap (set_made_in nodes) em ∙ set_is nodes k names s f plain is full few)), subst (IsSetFew nodes) (sym em) (set_fits nodes k names s f plain is full few))
 
 pub frame_answered : (nodes : List Node) (k : FoldKind) (s : Dataset) (f : Frame) (g : Given) (axes : List Axis) (vars : List Variable) (named names : List (List ℕ)) (m : SetMade) → IsFrameIn nodes s f → is_positional k ≡ false → axes ≡ f.axes → vars ≡ f.vars
-    → dims_given (axis_names axes) g ≡ Ok named → names ≡ named → check_each k names axes vars ≡ Ok tt → check_each_size names axes vars ≡ Ok tt → m ≡ set_made k names s f → (reduced_of k (framed_in nodes s f) g ≡ Ok (set_made_in nodes m)) × IsSetMade nodes m
+    → dims_given (axis_names axes) g ≡ Ok named → names ≡ named → check_each k names axes vars ≡ Ok tt → check_each_size names axes vars ≡ Ok tt → m ≡ set_made k names s f → (reduced_of k (framed_in nodes s f) g ≡ Ok (set_made_in nodes m)) × IsSetFew nodes m
 frame_answered nodes k s f g axes vars named names m is plain eaxes evars dims same full few em =
     told nodes k s f g names m plain is (subst (λ (xs : List Axis). dims_given (axis_names xs) g ≡ Ok names) eaxes (dims ∙ ap Ok (sym same)))
     (subst (λ vs. check_each k names f.axes vs ≡ Ok tt) evars (subst (λ xs. check_each k names xs vars ≡ Ok tt) eaxes full)) (subst (λ vs. check_each_size names f.axes vs ≡ Ok tt) evars (subst (λ xs. check_each_size names xs vars ≡ Ok tt) eaxes few)) em

@@ -34,7 +34,7 @@ use Rattle.xr_reducing.proofs.Staying.{distinct_names, fed_each, fewer, full_lef
 
 -- ---- a variable has no more points than the axes span
 
-called_below : (axes : List Axis) (n : List ℕ) → (axis_called axes n).size ≤ greatest axes n
+pub called_below : (axes : List Axis) (n : List ℕ) → (axis_called axes n).size ≤ greatest axes n
 called_below [] n = omega arith
 called_below (x ∷ xs) n = subst (λ (y : Axis). y.size ≤ greatest (x ∷ xs) n) (sym (called_cons x xs n)) (by (bytes_eq x.name n) (bytes_eq_swap n x.name) (called_below xs n))
   where
@@ -42,7 +42,7 @@ called_below (x ∷ xs) n = subst (λ (y : Axis). y.size ≤ greatest (x ∷ xs)
     by true e rest = rw (e) (omega arith)
     by false e rest = rw (e) rest
 
-named_in : (axes : List Axis) (dims : List (List ℕ)) (n : List ℕ) → AreAmong (axis_names axes) dims → among dims n ≡ true → among (axis_names axes) n ≡ true
+pub named_in : (axes : List Axis) (dims : List (List ℕ)) (n : List ℕ) → AreAmong (axis_names axes) dims → among dims n ≡ true → among (axis_names axes) n ≡ true
 named_in axes [] n all has = absurd cc
 named_in axes (d ∷ ds) n all has = by (bytes_eq n d) refl has (named_in axes ds n all.1)
   where

@@ -1,5 +1,5 @@
 -- Datasets that a call makes, in a plan.
-use Rattle.std.proofs.Common.{◌≡◌, ◌≤◌, ◌+◌, ◌*◌, ◌++◌, zero, suc, true, List, [], ◌∷◌, length, map, All, refl, sym, ap, subst, ◌∙◌, arith}
+use Rattle.std.proofs.Common.{ℕ, ◌≡◌, ◌≤◌, ◌+◌, ◌*◌, ◌++◌, zero, suc, true, List, [], ◌∷◌, length, map, All, refl, sym, ap, subst, ◌∙◌, arith}
 use Rattle.std.specs.List.{AllByRecursion}
 use Rattle.std.proofs.lemmas.List.{length-map}
 use Rattle.std.proofs.lemmas.Nat.{mul-le}
@@ -25,7 +25,7 @@ use Rattle.xr_values.proofs.Rooms.{in_room}
 use Rattle.xr_parts.proofs.Words.{split}
 use Rattle.xr_reducing.specs.declared.realized.SetMade.{SetMade}
 use Rattle.xr_reducing.specs.declared.realized.VarMade.{VarMade}
-use Rattle.xr_reducing.specs.Sets.{set_made_in, var_made_in, vars_cells, AddsForAnySet, AreVarsOf, IsSetMade, IsSetOf, IsVarFit, IsVarOf}
+use Rattle.xr_reducing.specs.Sets.{set_made_in, var_made_in, vars_cells, AddsForAnySet, AreVarsOf, IsFitWithin, IsSetFew, IsSetMade, IsSetOf, IsVarFit, IsVarOf}
 
 all_of : {X : Type 0} (P : X → Type 0) (xs : List X) → AllByRecursion P xs → All P xs
 all_of P [] all i x lt = absurd (omega arith)
@@ -56,20 +56,6 @@ module _ (old new : List Node) where
   nodes axes (m ∷ ms) [] fit are = absurd are
   nodes axes (m ∷ ms) (v ∷ vs) fit are = (one_node axes m v fit.0 are.0, nodes axes ms vs fit.1 are.1)
 
-  cells : (axes : List Axis) (ms : List VarMade) → AllByRecursion (IsVarFit old axes) ms → vars_cells old ms ≤ length ms * (256 * span axes)
-  cells axes [] fit = omega arith
-  cells axes (m ∷ ms) fit =
-      let rest = cells axes ms fit.1 in
-      let one = fit.0.room in
-      let next : suc (length ms) * (256 * span axes) ≡ 256 * span axes + length ms * (256 * span axes) = grind arith in
-      omega arith
-
-  counted : (ms : List VarMade) (vs : List Variable) → AreVarsOf old new ms vs → length ms ≡ length vs
-  counted [] [] are = refl
-  counted [] (v ∷ vs) are = absurd are
-  counted (m ∷ ms) [] are = absurd are
-  counted (m ∷ ms) (v ∷ vs) are = ap suc (counted ms vs are.1)
-
   module _ (m : SetMade) (vs out : List Variable) (is : IsSetMade old m) (are : AreVarsOf old new m.vars vs) (put : out ≡ with_variables [] vs) where
     abbrev pub placed : Dataset
     placed = record { axes = m.axes; coords = m.coords; vars = out; attrs = m.attrs; skipped = m.skipped }
@@ -98,14 +84,24 @@ module _ (old new : List Node) where
       };
     }
 
-    pub set_room : AddsAtMost old new (vars_cells old m.vars) → AddsForAnySet old new (dataset_in new placed)
-    set_room adds p =
-        let both = p.axes ++ m.axes in
-        let up : span m.axes ≤ span both = span_up m.axes both (back_among p.axes m.axes) (λ k. let g = greatest_both p.axes m.axes k in omega arith) in
-        let most = cells m.axes m.vars is.vars in
-        let n = length m.vars in
-        let count = counted m.vars vs are in
-        let same : length (map (variable_in new) out) ≡ n = ap length (ap (map (variable_in new)) out_is) ∙ length-map vs (variable_in new) ∙ sym count in
-        let above = mul-le (256 * n) (span m.axes) (256 * n) (span both) (omega arith) up in
-        let turned : n * (256 * span m.axes) ≡ 256 * n * span m.axes = grind arith in
-        in_room old new p (rooms.of_set (dataset_in new placed)) (256 * n) (omega arith) (adds_up old new (vars_cells old m.vars) (256 * n * span both) (omega arith) adds)
+-- ---- how many cells are added
+
+pub fits_within : (nodes : List Node) (axes : List Axis) (most : ℕ) (ms : List VarMade) → AllByRecursion (IsFitWithin nodes axes most) ms → AllByRecursion (IsVarFit nodes axes) ms × (vars_cells nodes ms ≤ length ms * most)
+fits_within nodes axes most [] fit = (tt, omega arith)
+fits_within nodes axes most (m ∷ ms) fit =
+    let rest = fits_within nodes axes most ms fit.1 in
+    let one = fit.0.1 in
+    let few = rest.1 in
+    let next : suc (length ms) * most ≡ most + length ms * most = grind arith in
+    ((fit.0.0, rest.0), omega arith)
+
+pub set_room : (old new : List Node) (m : SetMade) (d : of.Dataset) → d ≡ set_made_in old m → IsSetFew old m → AddsAtMost old new (vars_cells old m.vars) → AddsForAnySet old new d
+set_room old new m d is fit adds p =
+    let most = fit.1 in
+    let both = p.axes ++ m.axes in
+    let up : span m.axes ≤ span both = span_up m.axes both (back_among p.axes m.axes) (λ k. let g = greatest_both p.axes m.axes k in omega arith) in
+    let n = length m.vars in
+    let same : length (map (var_made_in old) m.vars) ≡ n = length-map m.vars (var_made_in old) in
+    let above = mul-le (256 * n) (span m.axes) (256 * n) (span both) (omega arith) up in
+    let turned : n * (256 * span m.axes) ≡ 256 * n * span m.axes = grind arith in
+    rw is (in_room old new p (rooms.of_set (set_made_in old m)) (256 * n) (omega arith) (adds_up old new (vars_cells old m.vars) (256 * n * span both) (omega arith) adds))

@@ -1,5 +1,5 @@
 -- What is made of arrays and datasets is their running sums.
-use Rattle.std.proofs.Common.{◌≡◌, ◌<◌, ◌≤◌, ◌+◌, ◌||◌, ◌&&◌, ◌++◌, ℕ, ℤ, suc, Bool, true, false, not, cond, List, [], ◌∷◌, length, map, is_some, Option, Result, Ok, Err, refl, sym, ap, subst, ◌∙◌, arith}
+use Rattle.std.proofs.Common.{◌*◌, ◌≡◌, ◌<◌, ◌≤◌, ◌+◌, ◌||◌, ◌&&◌, ◌++◌, ℕ, ℤ, suc, Bool, true, false, not, cond, List, [], ◌∷◌, length, map, is_some, Option, Result, Ok, Err, refl, sym, ap, subst, ◌∙◌, arith}
 use Rattle.std.specs.Prelude.{codes}
 use Rattle.std.specs.Str.{bytes_eq}
 use Rattle.std.specs.List.{AllByRecursion, list_all, list_any}
@@ -43,9 +43,10 @@ use Rattle.xr_reducing.specs.declared.chars.Frame.{Frame}
 use Rattle.xr_reducing.specs.declared.realized.SetMade.{SetMade}
 use Rattle.xr_reducing.specs.Reduced.{charless, framed_in, same_made, IsFrameIn}
 use Rattle.xr_reducing.specs.Running.{set_along, summed_made, var_along, var_summed}
-use Rattle.xr_reducing.specs.Sets.{set_made_in, var_made_in, IsSetMade, IsVarFit}
+use Rattle.xr_reducing.specs.Sets.{set_made_in, var_made_in, IsFitWithin, IsSetFew}
 use Rattle.xr_reducing.proofs.AllVariables.{charless_is}
 use Rattle.xr_reducing.proofs.OneVariable.{within_span, IsVarReduced}
+use Rattle.xr_reducing.proofs.Placing.{fits_within}
 use Rattle.xr_reducing.proofs.Reduced.{attrs_left}
 
 -- ---- cells
@@ -209,14 +210,14 @@ module _ (nodes : List Node) (d : List ℕ) (s : Dataset) (f : Frame) (is : IsFr
   over_all [] all = tt
   over_all (v ∷ vs) all = (all.0.formed, over_all vs all.1)
 
-  fit_all : (vs : List Variable) → AllByRecursion Makes vs → AllByRecursion (IsVarFit nodes f.axes) (map (var_along d) vs)
+  fit_all : (vs : List Variable) → AllByRecursion Makes vs → AllByRecursion (IsFitWithin nodes f.axes (256 * span f.axes)) (map (var_along d) vs)
   fit_all [] all = tt
   fit_all (v ∷ vs) all =
       let one = all.0 in
       let dims : (var_along d v).dims ≡ (along (variable_in nodes v)).dims = ap (λ (w : of.Variable). w.dims) one.is in
       let most = subst (λ ds. size (map (size_called f.axes) ds) ≤ span f.axes) (sym dims) (within_span f.axes (along (variable_in nodes v)).dims one.formed.over one.formed.distinct) in
       let cells = one.cells in
-      (record { fits = one.fits; shape = one.shape; kind = one.kind; room = omega (arith, most, cells) }, fit_all vs all.1)
+      ((record { fits = one.fits; shape = one.shape; kind = one.kind }, omega (arith, most, cells)), fit_all vs all.1)
 
   same_name : (v : of.Variable) → (along v).name ≡ v.name
   same_name v = by (among v.dims d)
@@ -268,17 +269,17 @@ module _ (nodes : List Node) (d : List ℕ) (s : Dataset) (f : Frame) (is : IsFr
       with_vars : List of.Variable → of.Dataset
       with_vars vs = record { axes = f.axes; coords = s.coords; vars = vs; attrs = without_fills s.attrs; skipped = s.skipped }
 
-  set_fits : IsSetMade nodes (set_along d s f)
-  set_fits = record { vars = fit_all f.vars made; formed = subst IsDataset (sym set_is) set_formed }
+  set_fits : IsSetFew nodes (set_along d s f)
+  set_fits = let both = fits_within nodes f.axes (256 * span f.axes) (map (var_along d) f.vars) (fit_all f.vars made) in (record { vars = both.0; formed = subst IsDataset (sym set_is) set_formed }, both.1)
 
-told_set : (nodes : List Node) (s : Dataset) (f : Frame) (g : Given) (d : List ℕ) (m : SetMade) → IsFrameIn nodes s f → dim_given (axis_names f.axes) g ≡ Ok d → m ≡ set_along d s f → (cumsum_of (framed_in nodes s f) g ≡ Ok (set_made_in nodes m)) × IsSetMade nodes m
+told_set : (nodes : List Node) (s : Dataset) (f : Frame) (g : Given) (d : List ℕ) (m : SetMade) → IsFrameIn nodes s f → dim_given (axis_names f.axes) g ≡ Ok d → m ≡ set_along d s f → (cumsum_of (framed_in nodes s f) g ≡ Ok (set_made_in nodes m)) × IsSetFew nodes m
 unfolding cumsum_of
 told_set nodes s f g d m is dim em =
     let answer : cumsum_of (framed_in nodes s f) g ≡ Ok (summed_set d (framed_in nodes s f)) = rw (dim) refl in
-    (answer ∙ ap Ok (sym (ap (set_made_in nodes) em ∙ set_is nodes d s f is)), subst (IsSetMade nodes) (sym em) (set_fits nodes d s f is))
+    (answer ∙ ap Ok (sym (ap (set_made_in nodes) em ∙ set_is nodes d s f is)), subst (IsSetFew nodes) (sym em) (set_fits nodes d s f is))
 
 pub frame_summed : (nodes : List Node) (s : Dataset) (f : Frame) (g : Given) (axes : List Axis) (d : List ℕ) (m : SetMade) → IsFrameIn nodes s f → axes ≡ f.axes → dim_given (axis_names axes) g ≡ Ok d → m ≡ set_along d s f
-    → (cumsum_of (framed_in nodes s f) g ≡ Ok (set_made_in nodes m)) × IsSetMade nodes m
+    → (cumsum_of (framed_in nodes s f) g ≡ Ok (set_made_in nodes m)) × IsSetFew nodes m
 frame_summed nodes s f g axes d m is eaxes dim em = told_set nodes s f g d m is (subst (λ (xs : List Axis). dim_given (axis_names xs) g ≡ Ok d) eaxes dim) em
 
 pub sums_begin : (nodes : List Node) (s : Dataset) (g : Given) (f : Frame) → IsDatasetIn nodes s → f ≡ charless s → cumsum_set (dataset_in nodes s) g ≡ cumsum_of (framed_in nodes s f) g

@@ -24,7 +24,7 @@ use Rattle.xr_values.specs.Stands.{variable_in, IsNodeOf}
 use Rattle.xr_reducing.specs.declared.chars.Frame.{Frame}
 use Rattle.xr_reducing.specs.declared.realized.SetMade.{SetMade}
 use Rattle.xr_reducing.specs.declared.realized.VarMade.{VarMade}
-use Rattle.xr_reducing.specs.Sets.{set_made_in, IsSetMade}
+use Rattle.xr_reducing.specs.Sets.{set_made_in, IsSetFew}
 
 -- ---- without the variables of chars, and without the bare axes that nothing has then
 
@@ -88,5 +88,5 @@ set_made k names s f =
 
 -- a call that makes a dataset of any plan, or has the first fault
 abbrev pub AnswersSetMade : List Node → Result SetMade CallFault → Result of.Dataset Fault → Type 0
-AnswersSetMade nodes (Ok m) means = (means ≡ Ok (set_made_in nodes m)) × IsSetMade nodes m
+AnswersSetMade nodes (Ok m) means = (means ≡ Ok (set_made_in nodes m)) × IsSetFew nodes m
 AnswersSetMade nodes (Err e) means = Fails e means

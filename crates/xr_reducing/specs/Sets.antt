@@ -49,16 +49,19 @@ pub record IsVarFit (nodes : List Node) (axes : List Axis) (m : VarMade) : Type 
   pub fits : ChainFits nodes m.cells
   pub shape : (chain_value nodes m.cells).shape ≡ map (size_called axes) m.dims
   pub kind : (chain_value nodes m.cells).kind ≡ m.kind
-  pub room : chain_cells nodes m.cells ≤ 256 * span axes
+
+-- and adds no more cells than so many
+abbrev pub IsFitWithin : List Node → List Axis → ℕ → VarMade → Type 0
+IsFitWithin nodes axes most m = IsVarFit nodes axes m × (chain_cells nodes m.cells ≤ most)
 
 -- a plan takes it, and it is a dataset as it has to be
 pub record IsSetMade (nodes : List Node) (m : SetMade) : Type 0 where
   pub vars : AllByRecursion (IsVarFit nodes m.axes) m.vars
   pub formed : IsDataset (set_made_in nodes m)
 
-pub record MakesSet (nodes : List Node) (means : of.Dataset) (m : SetMade) : Type 0 where
-  pub is : set_made_in nodes m ≡ means
-  pub made : IsSetMade nodes m
+-- and adds no more cells than its own axes leave room for
+abbrev pub IsSetFew : List Node → SetMade → Type 0
+IsSetFew nodes m = IsSetMade nodes m × (vars_cells nodes m.vars ≤ length m.vars * (256 * span m.axes))
 
 -- a dataset of the plan that is this one
 pub record IsSetOf (nodes : List Node) (means : of.Dataset) (s : Dataset) : Type 0 where

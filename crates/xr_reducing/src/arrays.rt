@@ -8,9 +8,9 @@ ghost use Rattle.xr_values.specs.Stands.{array_in, IsArrayIn};
 ghost use Rattle.xr_reducing.specs.Mades.{fold_formula, reduced_made};
 
 use crate::checks::{are_emptied, check_axes, check_cells, check_count};
-use crate::dims::dims_given;
+use crate::dims::{dims_given, names_of};
 use crate::folds::{folded_kind, masked_after};
-use crate::left::{axes_left, coords_left, feeds_over};
+use crate::left::{axes_left, coords_left, feeds_of};
 use std::alloc::{AllocError, Global};
 use xr_arrays::Feed;
 use xr_formulas::{Formula, Made, Step, is_chars, one_step};
@@ -73,10 +73,11 @@ pub fn reduced_array(
         return Err(CallFault::Refused(Fault::WrongKind));
     }
     let own = on.axes.as_slice();
+    let dims = names_of(alloc, own)?;
     let names = dims_given(alloc, own, args)?;
     let names = names.as_slice();
     check_cells(fold, are_emptied(names, own))?;
-    let feeds = feeds_over(alloc, names, own)?;
+    let feeds = feeds_of(alloc, names, dims.as_slice())?;
     check_count(fold, feeds.as_slice())?;
     let axes = axes_left(alloc, names, own)?;
     check_axes(axes.as_slice())?;

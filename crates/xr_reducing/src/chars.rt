@@ -6,10 +6,10 @@ ghost use Rattle.xr_defs.specs.declared.value.Coord.{Coord as Other};
 ghost use Rattle.xr_values.specs.declared.variable.Variable.{Variable as Var};
 ghost use Rattle.xr_reducing.specs.Reduced.{chars_out, charless, is_busy};
 
-use crate::dims::{has_axis, is_among};
 use std::alloc::{AllocError, Global};
 use xr_defs::Coord;
 use xr_formulas::is_chars;
+use xr_parts::{has_axis, is_among};
 use xr_types::{Axis, DeepCopy, Items, TextBytes};
 use xr_values::{Dataset, Variable};
 
@@ -24,19 +24,15 @@ pub struct Frame {
 pub(crate) fn have_axis(coords: &[Coord], name: &TextBytes) -> bool
     ensures { result ≡ list_any (λ (c : Other). among (axis_names c.axes) name.now) coords.now }
 {
-    match coords {
-        [] => false,
-        [coord, rest @ ..] => has_axis(coord.axes.as_slice(), name) || have_axis(rest, name),
-    }
+    coords
+        .iter()
+        .any(|coord| has_axis(coord.axes.as_slice(), name))
 }
 
 fn have_dim(vars: &[Variable], name: &TextBytes) -> bool
     ensures { result ≡ list_any (λ (v : Var). among v.dims name.now) vars.now }
 {
-    match vars {
-        [] => false,
-        [var, rest @ ..] => is_among(var.dims.as_slice(), name) || have_dim(rest, name),
-    }
+    vars.iter().any(|var| is_among(var.dims.as_slice(), name))
 }
 
 fn is_busy(coords: &[Coord], vars: &[Variable], axis: &Axis) -> bool

@@ -9,21 +9,17 @@ ghost use Rattle.xr_arrays.specs.Nodes as nodes;
 ghost use Rattle.xr_operations.specs.Reductions as calls;
 ghost use Rattle.xr_reducing.specs.Reduced.{check_over};
 
-use crate::dims::is_among;
 use crate::folds::{is_positional, needs_cells};
 use xr_arrays::Feed;
+use xr_parts::is_among;
 use xr_types::{Axis, CallFault, Fault, FoldKind, MOST_CELLS, Name, TextBytes};
 
 /// Whether an axis without positions is reduced.
 pub(crate) fn are_emptied(names: &[TextBytes], axes: &[Axis]) -> bool
     ensures { result ≡ list_any (λ (x : Dim). calls.is_emptied names.now x.name x.size) axes.now }
 {
-    match axes {
-        [] => false,
-        [axis, rest @ ..] => {
-            (is_among(names, &axis.name) && axis.size == 0) || are_emptied(names, rest)
-        }
-    }
+    axes.iter()
+        .any(|axis| is_among(names, &axis.name) && axis.size == 0)
 }
 
 // The size of the axis of a name.
@@ -47,13 +43,8 @@ fn size_called(axes: &[Axis], name: &TextBytes) -> u64
 fn are_emptied_dims(names: &[TextBytes], axes: &[Axis], dims: &[Name]) -> bool
     ensures { result ≡ list_any (λ d. calls.is_emptied names.now d (calls.size_called axes.now d)) dims.now }
 {
-    match dims {
-        [] => false,
-        [dim, rest @ ..] => {
-            (is_among(names, dim) && size_called(axes, dim) == 0)
-                || are_emptied_dims(names, axes, rest)
-        }
-    }
+    dims.iter()
+        .any(|dim| is_among(names, dim) && size_called(axes, dim) == 0)
 }
 
 #[tactic(auto, unfolding(xr_operations::specs::Reductions::check_cells, xr_types::specs::Results::unless))]

@@ -10,18 +10,9 @@ ghost use Rattle.xr_values.specs.Meaning.{meaning, given};
 
 use std::alloc::{AllocError, Global};
 use xr_arguments::{as_text, bound, only, option, texts_in};
+use xr_parts::{has_axis, is_among};
 use xr_types::{Axis, CallFault, DeepCopy, Fault, Items, TextBytes};
 use xr_values::{Args, Value};
-
-/// Whether a name is one of these.
-pub(crate) fn is_among(names: &[TextBytes], name: &TextBytes) -> bool
-    ensures { result ≡ among names.now name.now }
-{
-    match names {
-        [] => false,
-        [first, rest @ ..] => name.is(first) || is_among(rest, name),
-    }
-}
 
 fn are_distinct(names: &[TextBytes]) -> bool
     ensures { result ≡ are_distinct names.now }
@@ -32,16 +23,8 @@ fn are_distinct(names: &[TextBytes]) -> bool
     }
 }
 
-pub(crate) fn has_axis(axes: &[Axis], name: &TextBytes) -> bool
-    ensures { result ≡ among (axis_names axes.now) name.now }
-{
-    match axes {
-        [] => false,
-        [axis, rest @ ..] => name.is(&axis.name) || has_axis(rest, name),
-    }
-}
-
-fn all_names(alloc: Global, axes: &[Axis]) -> Result<Items<TextBytes>, AllocError>
+/// The names of axes.
+pub fn names_of(alloc: Global, axes: &[Axis]) -> Result<Items<TextBytes>, AllocError>
     ensures { IfOk result (λ names. names ≡ axis_names axes.now) }
 {
     let mut names = Items::new(alloc);
@@ -92,7 +75,7 @@ fn dims_named(
     ensures { (nodes : List Node) → Answers (λ ts. ts) result (calls.dims_named (axis_names axes.now) (option_map (λ v. meaning nodes v.now) value.entry)) }
 {
     match value {
-        None => Ok(all_names(alloc, axes)?),
+        None => Ok(names_of(alloc, axes)?),
         Some(value) => distinct_names(alloc, value),
     }
 }

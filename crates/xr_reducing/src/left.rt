@@ -4,10 +4,10 @@ ghost use Rattle.std.specs.List.{list_any};
 ghost use Rattle.xr_types.specs.Names.{among, axis_names};
 ghost use Rattle.xr_operations.specs.Reductions as calls;
 
-use crate::dims::is_among;
 use std::alloc::{AllocError, Global};
 use xr_arrays::Feed;
 use xr_defs::Coord;
+use xr_parts::is_among;
 use xr_types::{Axis, DeepCopy, Items, Name, TextBytes};
 use xr_values::copy_coord;
 
@@ -82,23 +82,8 @@ fn feed_of(names: &[TextBytes], dim: &TextBytes) -> Feed
     }
 }
 
-/// What a fold does with each axis of an array.
-pub fn feeds_over(
-    alloc: Global,
-    names: &[TextBytes],
-    axes: &[Axis],
-) -> Result<Items<Feed>, AllocError>
-    ensures { IfOk result (λ fs. fs ≡ calls.feeds names.now (axis_names axes.now)) }
-{
-    let mut out = Items::new(alloc);
-    for axis in axes {
-        out.push(feed_of(names, &axis.name))?;
-    }
-    Ok(out)
-}
-
-/// What a fold does with each dimension of a variable.
-pub fn feeds_of(
+/// What a fold does with each dimension.
+pub(crate) fn feeds_of(
     alloc: Global,
     names: &[TextBytes],
     dims: &[Name],

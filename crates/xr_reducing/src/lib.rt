@@ -13,8 +13,9 @@ mod sets;
 
 pub use arrays::reduced_array;
 pub use chars::{Frame, without_chars};
+pub use dims::names_of;
 pub use folds::reduction_named;
-pub use left::{axes_left, feeds_of, feeds_over, names_left};
-pub use realized::{SetMade, VarMade, by_name, realize_set, realize_vars};
-pub use running::{cumsum_array, cumsum_set, set_summed};
-pub use sets::{reduced_set, set_reduced};
+pub use left::{axes_left, names_left};
+pub use realized::{SetMade, VarMade, by_name, realize_set};
+pub use running::{cumsum_array, cumsum_set};
+pub use sets::reduced_set;

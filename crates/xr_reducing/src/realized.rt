@@ -5,7 +5,7 @@ ghost use Rattle.plan_core.specs.Plans.{Grows};
 ghost use Rattle.xr_formulas.specs.Chains.{chain_cells, ChainFits};
 ghost use Rattle.xr_values.specs.Stands.{dataset_in};
 ghost use Rattle.xr_values.specs.Variables.{with_variables};
-ghost use Rattle.xr_reducing.specs.Sets.{set_made_in, vars_cells, AddsForAnySet, AreFit, AreVarsOf, IsSetMade, IsSetOf, IsVarOf};
+ghost use Rattle.xr_reducing.specs.Sets.{set_made_in, vars_cells, AreFit, AreVarsOf, IsSetMade, IsSetOf, IsVarOf};
 
 use plan_core::Plan;
 use std::alloc::{AllocError, Global};
@@ -54,7 +54,7 @@ fn realize_var(alloc: Global, plan: &mut Plan, made: &VarMade) -> Result<Variabl
 }
 
 /// The variables of the plan that a call makes, in their order.
-pub fn realize_vars(
+pub(crate) fn realize_vars(
     alloc: Global,
     plan: &mut Plan,
     made: &[VarMade],
@@ -87,7 +87,7 @@ pub fn realize_set(alloc: Global, plan: &mut Plan, made: SetMade) -> Result<Data
     requires { IsSetMade plan.old made }
     ensures made { IfOk result (IsSetOf plan.new (set_made_in plan.old made)) }
     ensures grows { Grows plan.old plan.new }
-    ensures room { IfOk result (λ s. AddsForAnySet plan.old plan.new (dataset_in plan.new s)) }
+    ensures cells { IfOk result (λ s. AddsAtMost plan.old plan.new (vars_cells plan.old made.vars)) }
 {
     let vars = realize_vars(alloc, plan, made.vars.as_slice())?;
     let vars = by_name(alloc, vars.as_slice())?;

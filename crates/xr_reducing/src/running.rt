@@ -14,31 +14,16 @@ ghost use Rattle.xr_reducing.specs.Reduced.{framed_in, AnswersSetMade, IsFrameIn
 ghost use Rattle.xr_reducing.specs.Running.{scan_chain, set_along, summed_made, var_along, var_summed};
 
 use crate::chars::{Frame, without_chars};
-use crate::dims::{dim_given, is_among};
+use crate::dims::{dim_given, names_of};
 use crate::folds::total_kind;
 use crate::realized::{SetMade, VarMade, realize_set};
 use crate::sets::same_made;
 use plan_core::Plan;
 use std::alloc::{AllocError, Global};
 use xr_formulas::{Chain, Formula, Made, Step, is_chars, like, one_step};
+use xr_parts::is_among;
 use xr_types::{Axis, CallFault, DeepCopy, Fault, FoldKind, Items, Name, NodeId, TextBytes};
 use xr_values::{Args, DataArray, Dataset, Variable, copy_coords, without_fills};
-
-fn place_of_axis(axes: &[Axis], name: &TextBytes) -> usize
-    ensures place { result ≡ calls.place_in (axis_names axes.now) name.now }
-    ensures inside { result ≤ length axes.now }
-{
-    match axes {
-        [] => 0,
-        [axis, rest @ ..] => {
-            if name.is(&axis.name) {
-                0
-            } else {
-                place_of_axis(rest, name) + 1
-            }
-        }
-    }
-}
 
 fn place_in(dims: &[Name], name: &TextBytes) -> usize
     ensures place { result ≡ calls.place_in dims.now name.now }
@@ -92,7 +77,8 @@ pub fn cumsum_array(alloc: Global, on: &DataArray, args: &Args) -> Result<Made, 
     }
     let axes = on.axes.as_slice();
     let name = dim_given(alloc, axes, args)?;
-    let made = summed_made(alloc, on, place_of_axis(axes, name))?;
+    let dims = names_of(alloc, axes)?;
+    let made = summed_made(alloc, on, place_in(dims.as_slice(), name))?;
     Ok(made)
 }
 
@@ -167,8 +153,8 @@ fn frame_summed(
     Ok(made)
 }
 
-/// What running sums make of a dataset, before its cells stand in a plan.
-pub fn set_summed(alloc: Global, on: &Dataset, args: &Args) -> Result<SetMade, CallFault>
+// What running sums make of a dataset, before its cells stand in a plan.
+fn set_summed(alloc: Global, on: &Dataset, args: &Args) -> Result<SetMade, CallFault>
     ensures { (nodes others : List Node) → IsDatasetIn nodes on.now → AnswersSetMade nodes result (calls.cumsum_set (dataset_in nodes on.now) (given others args.now)) }
 {
     let frame = without_chars(alloc, on)?;

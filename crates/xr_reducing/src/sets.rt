@@ -17,7 +17,7 @@ ghost use Rattle.xr_reducing.specs.Reduced.{check_each, check_each_size, folded_
 
 use crate::chars::{Frame, have_axis, without_chars};
 use crate::checks::{check_dims, check_over};
-use crate::dims::{dims_given, is_among};
+use crate::dims::dims_given;
 use crate::folds::{folded_kind, is_positional, masked_after};
 use crate::left::{axes_left, coords_left, feeds_of, names_left};
 use crate::realized::{SetMade, VarMade, realize_set};
@@ -25,16 +25,14 @@ use plan_core::Plan;
 use std::alloc::{AllocError, Global};
 use xr_defs::Coord;
 use xr_formulas::{Step, cells_of, one_step};
+use xr_parts::is_among;
 use xr_types::{Axis, CallFault, DeepCopy, Fault, FoldKind, Items, Name, TextBytes};
 use xr_values::{Args, Dataset, Variable, without_fills};
 
 fn has_any(names: &[TextBytes], dims: &[Name]) -> bool
     ensures { result ≡ list_any (among names.now) dims.now }
 {
-    match dims {
-        [] => false,
-        [dim, rest @ ..] => is_among(names, dim) || has_any(names, rest),
-    }
+    dims.iter().any(|dim| is_among(names, dim))
 }
 
 pub(crate) fn same_made(alloc: Global, var: &Variable) -> Result<VarMade, AllocError>
@@ -104,10 +102,7 @@ fn vars_made(
 fn have_dim(vars: &[VarMade], name: &TextBytes) -> bool
     ensures { result ≡ list_any (λ (m : Var). among m.dims name.now) vars.now }
 {
-    match vars {
-        [] => false,
-        [var, rest @ ..] => is_among(var.dims.as_slice(), name) || have_dim(rest, name),
-    }
+    vars.iter().any(|var| is_among(var.dims.as_slice(), name))
 }
 
 fn is_busy(coords: &[Coord], vars: &[VarMade], axis: &Axis) -> bool
@@ -201,9 +196,9 @@ fn frame_reduced(
     Ok(made)
 }
 
-/// What a reduction makes of a dataset, before its cells stand in a plan.
+// What a reduction makes of a dataset, before its cells stand in a plan.
 #[tactic(auto, using(crate::proofs::AllVariables::set_begins, crate::proofs::AllVariables::begun_in), unfolding(xr_operations::specs::Reductions::reduced_set, xr_types::specs::Results::unless))]
-pub fn set_reduced(
+fn set_reduced(
     alloc: Global,
     fold: FoldKind,
     on: &Dataset,

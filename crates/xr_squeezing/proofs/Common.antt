@@ -1,6 +1,6 @@
 -- Names that several of the proofs use.
 pub use Rattle.plan_core.proofs.Added.{adds_up}
-pub use Rattle.std.proofs.Common.{append-nil, length-append, take, lit<, max}
+pub use Rattle.std.proofs.Common.{All, append-nil, if◌then◌else◌, length-append, take, lit<, max}
 pub use Rattle.std.proofs.lemmas.Bool.{eqb-true}
 pub use Rattle.std.proofs.lemmas.List.{map-append, map-id}
 pub use Rattle.std.proofs.lemmas.List.Elements.{All-from_recursion}
@@ -20,7 +20,11 @@ pub use Rattle.xr_parts.proofs.Common.{AllByRecursion, AreCells, AreLabels, Arra
 pub use Rattle.xr_parts.proofs.Idle.{has_axis, has_dim, kept_called, labelled_left, own_names}
 pub use Rattle.xr_parts.proofs.Words.{AreAbsent, AreAmong, AreSome, absent_among, absent_both, absent_left, both_hold, distinct_cons, distinct_left, each_left, each_map, each_weaker, join, neither, other_name, same_text, some_both, some_left, some_same, split}
 pub use Rattle.xr_reducing.proofs.Staying.{called_left, distinct_names, fewer, kept_left, named_left, over_left, sizes_left}
-pub use Rattle.xr_reducing.specs.Sets.{AreFit, AreVarsOf, IsSetMade, IsSetOf, IsVarFit, set_made_in, var_made_in, vars_cells}
+pub use Rattle.xr_changing.specs.Steps.{TakesFit}
+pub use Rattle.xr_reducing.proofs.Placing.{fits_within}
+pub use Rattle.xr_reducing.specs.Sets.{IsFitWithin, IsSetMade, IsSetOf, IsVarFit, set_made_in, var_made_in, vars_cells}
+pub use Rattle.xr_reducing.specs.declared.realized.SetMade.{SetMade}
 pub use Rattle.xr_reducing.specs.declared.realized.VarMade.{VarMade}
+pub use Rattle.xr_formulas.specs.declared.made.Made.{Made}
 pub use Rattle.xr_squeezing.specs.Alone.{AreAlone, IsAlone}
-pub use Rattle.xr_squeezing.specs.Made.{step_without, steps_without, var_made}
+pub use Rattle.xr_squeezing.specs.Made.{array_made, set_made, steps_without, var_made}

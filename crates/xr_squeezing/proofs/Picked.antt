@@ -1,9 +1,9 @@
 -- Where dimensions of one position go, the cells stay as they are.
-use Rattle.xr_squeezing.proofs.Common.{Array, Bool, IsBelow, List, None, Option, Some, Step, StepsFit, among, ap, append-nil, append_assoc, arith, at, cond, false, feeds, get_or, kept, length, length-append, lit<, most_node_cells, picked_from, refl, size, step_without, steps_cells, steps_value, steps_without, subst, suc, sym, true, with_axis, without, zero, ℕ, [], ⊤, ◌*◌, ◌++◌, ◌+◌, ◌<◌, ◌∙◌, ◌∷◌, ◌≡◌, ◌≤◌}
+use Rattle.xr_squeezing.proofs.Common.{Array, Bool, IsBelow, List, None, Some, Step, StepsFit, among, ap, append-nil, append_assoc, arith, at, cond, false, feeds, get_or, kept, length, length-append, lit<, most_node_cells, picked_from, refl, size, steps_cells, steps_value, steps_without, subst, suc, sym, true, with_axis, without, zero, ℕ, [], ⊤, ◌*◌, ◌++◌, ◌+◌, ◌<◌, ◌∙◌, ◌∷◌, ◌≡◌, ◌≤◌, TakesFit, All, if◌then◌else◌}
 use Rattle.plan_core.proofs.Tabs.{flat_same, tab_read}
 use Rattle.std.proofs.Math.Seq.{get_or-append_seam}
 use Rattle.std.proofs.lemmas.Nat.{mul-le}
-use Rattle.xr_formulas.proofs.Spread.{cells_both, fit_both, steps_both}
+use Rattle.xr_formulas.specs.declared.chain.Step.TheVariants.{Take}
 use Rattle.xr_types.specs.Points.{tab}
 use Rattle.xr_arrays.specs.declared.node.Feed.{Feed}
 use Rattle.xr_arrays.specs.declared.node.Feed.TheVariants as feed
@@ -49,69 +49,61 @@ size_seam (x ∷ xs) n ys one = ap (λ m. x * m) (size_seam xs n ys one)
 -- steps that leave the cells as they are, in another shape
 pub record AreLeaving (ss : List Step) (a : Array) (shape : List ℕ) (most : ℕ) : Type 0 where
   pub value : steps_value ss a ≡ record a { shape = shape }
-  pub same : size shape ≡ size a.shape
-  pub low : length shape ≤ length a.shape
+  pub takes : TakesFit ss a.shape a.kind
   pub fits : StepsFit ss a
   pub few : steps_cells ss a ≤ most
 
-module _ (gone : List (List ℕ)) where
-  one_leaving : (k : ℕ) (b : Bool) (s1 : List ℕ) (n : ℕ) (ns : List ℕ) (fs : List Feed) (a : Array) → (b ≡ true → n ≡ 1) → k ≡ length s1 → a.shape ≡ s1 ++ n ∷ kept fs ns → length a.cells ≡ size a.shape → size a.shape ≤ most_node_cells → length a.shape ≤ 16
-      → AreLeaving (step_without k b) a (s1 ++ kept (cond b feed.All feed.Keep ∷ fs) (n ∷ ns)) (size a.shape)
-  one_leaving k false s1 n ns fs a one at is whole small low = let rank = ap length is in record { value = ap (λ s. record a { shape = s }) is; same = ap size (sym is); low = omega (arith, rank); fits = tt; few = omega arith }
-  one_leaving k true s1 n ns fs a one at is whole small low =
-      let s2 = kept fs ns in
-      let single = one refl in
-      let long : length a.shape ≡ length s1 + suc (length s2) = ap length is ∙ length-append s1 (n ∷ s2) in
-      let inside : k < length a.shape = omega arith in
-      let here : get_or a.shape k 0 ≡ 1 = ap (λ s. get_or s k 0) is ∙ ap (λ j. get_or (s1 ++ n ∷ s2) j 0) at ∙ get_or-append_seam s1 n s2 0 ∙ single in
-      let to : without k a.shape ≡ s1 ++ s2 = ap (without k) is ∙ ap (λ j. without j (s1 ++ n ∷ s2)) at ∙ without_seam s1 n s2 in
-      let same : size (s1 ++ s2) ≡ size a.shape = sym (ap size is ∙ size_seam s1 n s2 single) in
-      let count = ap size to in
-      let left = length-append s1 s2 in
-      let rank = ap length to in
-      record {
-        value = picked_one a k inside here whole ∙ ap (λ s. record a { shape = s }) to;
-        same = same;
-        low = omega arith;
-        fits = (
-          record { fits = (lit< tt, inside, (λ i d lt. below k a here i d lt), tt, λ e. refl); small = omega arith; low_rank = omega arith },
-          tt,
-        );
-        few = omega arith;
-      }
-    where
-      below : (k : ℕ) (a : Array) → get_or a.shape k 0 ≡ 1 → (i : ℕ) (d : Option ℕ) → i < 1 → IsBelow (get_or a.shape k 0) (get_or (Some 0 ∷ []) i d)
-      below k a here zero d lt = omega arith
-      below k a here (suc i) d lt = absurd (omega arith)
+abbrev Leaves : (ℕ → List Step) → List ℕ → List ℕ → ℕ → Type 0
+Leaves ss ns ms count =
+    (front : List ℕ) (k : ℕ) (a : Array) → k ≡ length front → a.shape ≡ front ++ ns → length a.cells ≡ size a.shape → size a.shape ≤ 33554432 → length a.shape ≤ 16 → AreLeaving (ss k) a (front ++ ms) (count * size a.shape)
 
-  leaving : (dims : List (List ℕ)) (s1 shape : List ℕ) (k : ℕ) (a : Array) → AreOne gone dims shape → k ≡ length s1 → a.shape ≡ s1 ++ shape → length a.cells ≡ size a.shape → size a.shape ≤ most_node_cells → length a.shape ≤ 16
-      → AreLeaving (steps_without gone k dims) a (s1 ++ kept (feeds gone dims) shape) (length dims * size a.shape)
-  leaving [] s1 [] k a one at is whole small low = let rank = ap length is in record { value = ap (λ s. record a { shape = s }) is; same = ap size (sym is); low = omega (arith, rank); fits = tt; few = omega arith }
-  leaving [] s1 (n ∷ ns) k a one at is whole small low = absurd one
-  leaving (d ∷ ds) s1 [] k a one at is whole small low = absurd one
-  leaving (d ∷ ds) s1 (n ∷ ns) k a one at is whole small low =
-      let next : suc k ≡ length (s1 ++ n ∷ []) = let e = length-append s1 (n ∷ []) in omega arith in
-      let rest = leaving ds (s1 ++ n ∷ []) ns (suc k) a one.1 next (is ∙ sym (append_assoc s1 (n ∷ []) ns)) whole small low in
-      let s2 = kept (feeds gone ds) ns in
-      let ss = steps_without gone (suc k) ds in
-      let to : (s1 ++ n ∷ []) ++ s2 ≡ s1 ++ n ∷ s2 = append_assoc s1 (n ∷ []) s2 in
-      let b : Array = record a { shape = (s1 ++ n ∷ []) ++ s2 } in
-      let low_rest = rest.low in
-      let here = one_leaving k (among gone d) s1 n ns (feeds gone ds) b one.0 at to (whole ∙ sym rest.same) (let e = rest.same in omega arith) (omega (arith, low, low_rest)) in
-      let there : steps_value ss a ≡ b = rest.value in
-      let cells = cells_both ss (step_without k (among gone d)) a in
-      let last : steps_cells (step_without k (among gone d)) (steps_value ss a) ≡ steps_cells (step_without k (among gone d)) b = ap (steps_cells (step_without k (among gone d))) there in
-      let few = rest.few in
-      let one_few = here.few in
-      let low_here = here.low in
-      let next_times : suc (length ds) * size a.shape ≡ size a.shape + length ds * size a.shape = grind arith in
-      record {
-        value = steps_both ss (step_without k (among gone d)) a ∙ ap (steps_value (step_without k (among gone d))) there ∙ here.value;
-        same = here.same ∙ rest.same;
-        low = omega (arith, low_here, low_rest);
-        fits = fit_both ss (step_without k (among gone d)) a rest.fits (subst (StepsFit (step_without k (among gone d))) (sym there) here.fits);
-        few = omega arith;
-      }
+at_first : (n : ℕ) → n ≡ 1 → All (IsBelow n) (Some 0 ∷ [])
+at_first n one zero d lt = omega arith
+at_first n one (suc i) d lt = absurd (omega arith)
+
+more_times : (m n : ℕ) → suc n * m ≡ m + n * m
+more_times m n = grind arith
+
+one_leaving : (ss : ℕ → List Step) (n : ℕ) (ns ms : List ℕ) (count : ℕ) (b : Bool) (fs : List Feed) → (b ≡ true → n ≡ 1) → ms ≡ kept fs ns → Leaves ss ns ms count
+    → Leaves (λ k. if b then Take k (Some 0 ∷ []) None true ∷ ss k else ss (suc k)) (n ∷ ns) (kept (cond b feed.All feed.Keep ∷ fs) (n ∷ ns)) (suc count)
+one_leaving ss n ns ms count false fs one e rest front k a at is whole small low =
+    let next : suc k ≡ length (front ++ n ∷ []) = let l = length-append front (n ∷ []) in omega arith in
+    let r = rest (front ++ n ∷ []) (suc k) a next (is ∙ sym (append_assoc front (n ∷ []) ns)) whole small low in
+    let times = more_times (size a.shape) count in
+    let few = r.few in
+    record { value = r.value ∙ ap (λ s. record a { shape = s }) (append_assoc front (n ∷ []) ms ∙ ap (λ t. front ++ n ∷ t) e); takes = r.takes; fits = r.fits; few = omega (arith, times, few) }
+one_leaving ss n ns ms count true fs one e rest front k a at is whole small low =
+    let single = one refl in
+    let rank = ap length is in
+    let long = length-append front (n ∷ ns) in
+    let short = length-append front ns in
+    let inside : k < length a.shape = omega arith in
+    let here : get_or a.shape k 0 ≡ 1 = ap (λ s. get_or s k 0) is ∙ ap (λ j. get_or (front ++ n ∷ ns) j 0) at ∙ get_or-append_seam front n ns 0 ∙ single in
+    let to : without k a.shape ≡ front ++ ns = ap (without k) is ∙ ap (λ j. without j (front ++ n ∷ ns)) at ∙ without_seam front n ns in
+    let same : size (front ++ ns) ≡ size a.shape = sym (ap size is ∙ size_seam front n ns single) in
+    let b : Array = record a { shape = front ++ ns } in
+    let there : picked_from a k (Some 0) None ≡ b = picked_one a k inside here whole ∙ ap (λ s. record a { shape = s }) to in
+    let r = rest front k b at refl (whole ∙ sym same) (omega (arith, same, small)) (omega arith) in
+    let count_now = ap size to in
+    let rank_now = ap length to in
+    let below = at_first (get_or a.shape k 0) here in
+    let tiny : size (without k a.shape) ≤ most_node_cells = omega (arith, count_now, same, small) in
+    let times = more_times (size a.shape) count in
+    let few = subst (λ t. steps_cells (ss k) b ≤ count * t) same r.few in
+    let cells : steps_cells (ss k) (picked_from a k (Some 0) None) ≡ steps_cells (ss k) b = ap (steps_cells (ss k)) there in
+    record {
+      value = ap (steps_value (ss k)) there ∙ r.value ∙ ap (λ t. record a { shape = front ++ t }) e;
+      takes = (record { axis = inside; below = below; cell = tt; one = λ f. refl; small = tiny }, subst (λ s. TakesFit (ss k) s a.kind) (sym to) r.takes);
+      fits = (record { fits = (lit< tt, inside, below, tt, λ f. refl); small = tiny; low_rank = omega arith }, subst (StepsFit (ss k)) (sym there) r.fits);
+      few = omega (arith, times, few, cells, count_now, same);
+    }
+
+module _ (gone : List (List ℕ)) where
+  leaving : (dims : List (List ℕ)) (ns : List ℕ) → AreOne gone dims ns → Leaves (λ k. steps_without gone k dims) ns (kept (feeds gone dims) ns) (length dims)
+  leaving [] [] one = λ front k a at is whole small low. record { value = ap (λ s. record a { shape = s }) is; takes = tt; fits = tt; few = omega arith }
+  leaving [] (n ∷ ns) one = absurd one
+  leaving (d ∷ ds) [] one = absurd one
+  leaving (d ∷ ds) (n ∷ ns) one = one_leaving (λ k. steps_without gone k ds) n ns (kept (feeds gone ds) ns) (length ds) (among gone d) (feeds gone ds) one.0 refl (leaving ds ns one.1)
 
   one_long : (dims : List (List ℕ)) (shape : List ℕ) → AreOne gone dims shape → length dims ≡ length shape
   one_long [] [] one = refl
@@ -126,8 +118,8 @@ module _ (gone : List (List ℕ)) where
       let points = ap size is in
       let rank = ap length is in
       let long = one_long dims before one in
-      let there = subst (λ s. AreLeaving (steps_without gone 0 dims) a s (length dims * size a.shape)) to (leaving dims [] before 0 a one refl is (whole ∙ sym points) (omega arith) (omega arith)) in
-      let same = there.same in
+      let there = subst (λ s. AreLeaving (steps_without gone 0 dims) a s (length dims * size a.shape)) to (leaving dims before one [] 0 a refl is (whole ∙ sym points) (omega arith) (omega arith)) in
+      let same = ap size (sym to) ∙ size_alone gone dims before one in
       let up = mul-le (length dims) (size a.shape) 16 most (omega arith) (omega arith) in
       let added = there.few in
-      record { value = there.value; same = same; low = there.low; fits = there.fits; few = omega arith }
+      record { value = there.value; takes = there.takes; fits = there.fits; few = omega arith }

@@ -1,7 +1,8 @@
 -- Dimensions that can go.
-use Rattle.xr_squeezing.proofs.Common.{AllByRecursion, AreAlone, AreLabels, Axis, Content, Coord, IsAlone, IsContent, IsCoordinate, IsDimension, IsFrame, IsIndex, IsThere, Labels, List, MatchOption, All-from_recursion, get_or, length, subst, cases_Bool, inl, inr, no_axis, or_parts, None, Option, Some, among, ap, arith, axis_called, axis_names, bytes_eq, bytes_eq_swap, called_holds, called_on, distinct_cons, each_weaker, eqb-true, false, label_count, refl, shape_over, size, sym, true, ℕ, [], ⊤, ◌<◌, ◌==◌, ◌∙◌, ◌∷◌, ◌≡◌}
-use Rattle.xr_squeezing.proofs.Leaving.{size_left}
-use Rattle.xr_squeezing.specs.Labels.{HasFirst, KeepsCells}
+use Rattle.xr_squeezing.proofs.Common.{AllByRecursion, AreAlone, AreLabels, Axis, Content, Coord, IsAlone, IsContent, IsCoordinate, IsDimension, IsFrame, IsIndex, IsThere, Labels, List, MatchOption, All-from_recursion, get_or, length, subst, cases_Bool, inl, inr, no_axis, or_parts, None, Option, Some, among, ap, arith, axis_called, axis_names, bytes_eq, bytes_eq_swap, called_holds, called_on, distinct_cons, each_weaker, eqb-true, false, label_count, refl, shape_over, size, sym, true, ℕ, [], ⊤, ◌<◌, ◌==◌, ◌∙◌, ◌∷◌, ◌≡◌, axes_left, kept_left}
+use Rattle.xr_squeezing.proofs.Leaving.{one_over}
+use Rattle.xr_squeezing.proofs.Picked.{all_leaving}
+use Rattle.xr_squeezing.specs.Labels.{HasFirst, Leaves}
 use Rattle.xr_defs.specs.declared.value.Content.TheVariants as contents
 
 -- ---- what a check tells
@@ -27,15 +28,18 @@ one_more axes n ns one absent rest = record { each = (one, rest.each); distinct 
 -- ---- what coordinates and axes have then
 
 module _ (gone : List (List ℕ)) (axes : List Axis) (coords : List Coord) (is : IsFrame axes coords) (alone : AreAlone axes gone) where
-  content_kept : (xs : List Axis) (content : Content) → AllByRecursion (IsThere axes) xs → IsContent (shape_over xs) content → KeepsCells gone xs content
-  content_kept xs (contents.Cells a masked) all one = size_left gone axes alone xs all ∙ ap size (sym one.0)
-  content_kept xs (contents.Text text) all one = tt
-  content_kept xs (contents.Time coding t) all one = tt
+  content_leaves : (xs : List Axis) (content : Content) → AllByRecursion (IsThere axes) xs → IsContent (shape_over xs) content → Leaves gone xs content
+  content_leaves xs (contents.Cells a masked) all is =
+      let cells = is.1 in
+      let left = all_leaving gone (axis_names xs) (shape_over xs) (shape_over (axes_left gone xs)) a (size (shape_over (axes_left gone xs))) (one_over gone axes alone xs all) (kept_left gone (λ (x : Axis). x.name) (λ (x : Axis). x.size) xs) is.0 cells.whole cells.few cells.low_rank (omega arith) in
+      (left.takes, left.value)
+  content_leaves xs (contents.Text text) all is = tt
+  content_leaves xs (contents.Time coding t) all is = tt
 
-  pub coord_kept : (i : ℕ) (c : Coord) → i < length coords → c ≡ get_or coords i c → KeepsCells gone c.axes c.content
-  coord_kept i c lt at =
+  pub coord_leaves : (i : ℕ) (c : Coord) → i < length coords → c ≡ get_or coords i c → Leaves gone c.axes c.content
+  coord_leaves i c lt at =
       let one = subst (IsCoordinate axes) (sym at) (All-from_recursion (IsCoordinate axes) coords is.over i c lt) in
-      content_kept c.axes c.content one.over one.content
+      content_leaves c.axes c.content one.over one.content
 
   first_label : (x : Axis) → IsDimension x → x.size ≡ 1 → HasFirst x
   first_label x dim one = by x.labels dim.index

@@ -1,5 +1,5 @@
 -- A data variable without dimensions of one position.
-use Rattle.xr_squeezing.proofs.Common.{AreAlone, Array, Axis, IsAlone, IsNodeOf, IsVarFit, IsVariable, List, Node, VarMade, Variable, among, ap, arith, axes_left, chain_cells, distinct_names, feeds, fewer, kept, kept_left, length-map, map, map-id, names_left, not, over_left, size, size_called, sizes_left, span, squeezed_variable, subst, sym, value, var_made, var_made_in, variable_in, ℕ, [], ◌*◌, ◌∙◌, ◌∷◌, ◌≡◌, ◌≤◌}
+use Rattle.xr_squeezing.proofs.Common.{AreAlone, Array, Axis, IsAlone, IsNodeOf, IsFitWithin, IsVariable, List, Node, VarMade, Variable, among, ap, arith, axes_left, distinct_names, feeds, fewer, kept, kept_left, length-map, map, map-id, names_left, not, over_left, size, size_called, sizes_left, span, squeezed_variable, subst, sym, value, var_made, var_made_in, variable_in, ℕ, [], ◌*◌, ◌∙◌, ◌∷◌, ◌≡◌}
 use Rattle.xr_reducing.proofs.OneVariable.{within_span}
 use Rattle.xr_squeezing.proofs.Leaving.{of_name}
 use Rattle.xr_squeezing.proofs.Picked.{AreOne, all_leaving, size_alone}
@@ -14,8 +14,7 @@ sizes_one axes gone (d ∷ ds) alone = (λ has. (of_name (IsAlone axes) gone d a
 -- a variable of these axes, and a plan that gives it
 pub record IsVarSqueezed (nodes : List Node) (axes : List Axis) (means : of.Variable) (m : VarMade) : Type 0 where
   pub is : var_made_in nodes m ≡ means
-  pub fit : IsVarFit nodes axes m
-  pub few : chain_cells nodes m.cells ≤ 16 * span axes
+  pub fit : IsFitWithin nodes axes (16 * span axes) m
 
 -- ---- as it has to be
 
@@ -59,11 +58,5 @@ module _ (gone : List (List ℕ)) (axes : List Axis) (alone : AreAlone axes gone
         let few = picked.few in
         record {
           is = λ i. record { name = v.name; dims = left; kind = v.kind; masked = v.masked; attrs = v.attrs; cells = (picked.value i).cells };
-          fit = record {
-            fits = record { start = node.placed; steps = picked.fits };
-            shape = ap (λ (w : Array). w.shape) picked.value;
-            kind = ap (λ (w : Array). w.kind) picked.value ∙ node.has_kind;
-            room = omega arith;
-          };
-          few = omega arith;
+          fit = (record { fits = record { start = node.placed; steps = picked.fits }; shape = ap (λ (w : Array). w.shape) picked.value; kind = ap (λ (w : Array). w.kind) picked.value ∙ node.has_kind }, omega arith);
         }

@@ -1,37 +1,29 @@
 //! Coordinates without dimensions of one position.
 ghost use Rattle.std.specs.Prelude.{◌≡◌, IfOk};
-ghost use Rattle.xr_types.specs.Names.{shape_over};
 ghost use Rattle.xr_operations.specs.Indexing as of;
 ghost use Rattle.xr_parts.specs.Frames.{IsFrame};
 ghost use Rattle.xr_squeezing.specs.Alone.{AreAlone};
-ghost use Rattle.xr_squeezing.specs.Labels.{KeepsCells};
+ghost use Rattle.xr_squeezing.specs.Labels.{Leaves};
 
 use crate::labels::push_labels;
-use crate::shapes::reshaped;
-use std::alloc::{AllocError, Global};
+use crate::steps::steps_without;
+use std::alloc::Global;
+use xr_changing::taken;
 use xr_defs::{Content, Coord};
-use xr_reducing::axes_left;
-use xr_types::{Axis, DeepCopy, Items, Name};
+use xr_reducing::{axes_left, names_of};
+use xr_types::{Axis, DeepCopy, Items, Name, NoMemory};
 
-fn shape_of(alloc: Global, axes: &[Axis]) -> Result<Items<u64>, AllocError>
-    ensures { IfOk result (λ s. s ≡ shape_over axes.now) }
-{
-    let mut sizes = Items::new(alloc);
-    for axis in axes {
-        sizes.push(axis.size)?;
-    }
-    Ok(sizes)
-}
-
-fn squeezed_coord(alloc: Global, gone: &[Name], coord: &Coord) -> Result<Coord, AllocError>
-    requires { KeepsCells gone.now coord.now.axes coord.now.content }
+fn squeezed_coord(alloc: Global, gone: &[Name], coord: &Coord) -> Result<Coord, NoMemory>
+    requires { Leaves gone.now coord.now.axes coord.now.content }
     ensures { IfOk result (λ c. c ≡ of.squeezed_coord gone.now coord.now) }
 {
     let axes = axes_left(alloc, gone, coord.axes.as_slice())?;
+    let dims = names_of(alloc, coord.axes.as_slice())?;
     let content = match &coord.content {
         Content::Cells(cells, masked) => {
-            let shape = shape_of(alloc, axes.as_slice())?;
-            Content::Cells(reshaped(alloc, shape, cells)?, *masked)
+            let steps = steps_without(alloc, gone, dims.as_slice())?;
+            let left = taken(alloc, steps.as_slice(), cells.copy(alloc)?)?;
+            Content::Cells(left, *masked)
         }
         Content::Text(text) => Content::Text(text.deep_copy(alloc)?),
         Content::Time(coding, time) => Content::Time(coding.deep_copy(alloc)?, *time),
@@ -45,13 +37,13 @@ fn squeezed_coord(alloc: Global, gone: &[Name], coord: &Coord) -> Result<Coord, 
 }
 
 /// The coordinates without these dimensions, of one position each, and behind them the labels of the dimensions.
-#[tactic(auto, using(crate::proofs::Squeezable::coord_kept))]
+#[tactic(auto, using(crate::proofs::Squeezable::coord_leaves))]
 pub(crate) fn squeezed_coords(
     alloc: Global,
     gone: &[Name],
     axes: &[Axis],
     coords: &[Coord],
-) -> Result<Items<Coord>, AllocError>
+) -> Result<Items<Coord>, NoMemory>
     requires frame { IsFrame axes.now coords.now }
     requires alone { AreAlone axes.now gone.now }
     ensures { IfOk result (λ cs. cs ≡ of.squeezed_coords gone.now axes.now coords.now) }

@@ -6,7 +6,6 @@ mod arrays;
 mod coords;
 mod labels;
 mod sets;
-mod shapes;
 mod steps;
 
 pub use arrays::squeezed_array;

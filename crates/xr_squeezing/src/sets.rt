@@ -7,10 +7,11 @@ ghost use Rattle.xr_defs.specs.Room.{span};
 ghost use Rattle.xr_defs.specs.Selecting as limits;
 ghost use Rattle.plan_core.specs.Plans.{Grows};
 ghost use Rattle.xr_operations.specs.Indexing as of;
+ghost use Rattle.xr_parts.specs.Frames.{IsFrame};
 ghost use Rattle.xr_reducing.specs.Sets.{IsSetOf};
 ghost use Rattle.xr_values.specs.Stands.{dataset_in, IsDatasetIn};
 ghost use Rattle.xr_squeezing.specs.Alone.{AreAlone};
-ghost use Rattle.xr_squeezing.specs.Made.{var_made};
+ghost use Rattle.xr_squeezing.specs.Made.{set_made, var_made};
 
 use crate::alone::{are_alone, axis_called};
 use crate::coords::squeezed_coords;
@@ -18,7 +19,7 @@ use crate::steps::steps_without;
 use plan_core::Plan;
 use std::alloc::{AllocError, Global};
 use xr_formulas::{Chain, Start};
-use xr_reducing::{VarMade, axes_left, by_name, names_left, realize_vars};
+use xr_reducing::{SetMade, VarMade, axes_left, names_left, realize_set};
 use xr_types::{Axis, DeepCopy, Items, MOST_VARIABLES, Name, NoMemory};
 use xr_values::{Dataset, Variable};
 
@@ -35,7 +36,7 @@ fn var_made(alloc: Global, gone: &[Name], var: &Variable) -> Result<VarMade, All
         attrs: var.attrs.deep_copy(alloc)?,
         cells: Chain {
             start,
-            steps: steps_without(alloc, gone, 0, dims)?,
+            steps: steps_without(alloc, gone, dims)?,
         },
     })
 }
@@ -50,10 +51,29 @@ fn vars_made(alloc: Global, gone: &[Name], vars: &[Variable]) -> Result<Items<Va
     Ok(made)
 }
 
+// The dataset without these dimensions, before a plan. Other names than those of dimensions of one position, each once, want
+// memory.
+fn set_made(alloc: Global, gone: &[Name], on: &Dataset) -> Result<SetMade, NoMemory>
+    requires { IsFrame on.now.axes on.now.coords }
+    ensures is { IfOk result (λ m. m ≡ set_made gone.now on.now) }
+    ensures alone { IfOk result (λ m. AreAlone on.now.axes gone.now) }
+{
+    let own = on.axes.as_slice();
+    if !are_alone(own, gone) {
+        return Err(NoMemory);
+    }
+    Ok(SetMade {
+        axes: axes_left(alloc, gone, own)?,
+        coords: squeezed_coords(alloc, gone, own, on.coords.as_slice())?,
+        vars: vars_made(alloc, gone, on.vars.as_slice())?,
+        attrs: on.attrs.deep_copy(alloc)?,
+        skipped: on.skipped.deep_copy(alloc)?,
+    })
+}
+
 /// The dataset without these dimensions, of one position each, which leave their labels as coordinates. The cells of its
 /// variables are those of nodes that are added to the plan; a variable that has none of the dimensions keeps its node. A name
 /// that stands twice, or that is no dimension of one position, wants memory.
-#[tactic(auto, using(crate::proofs::SetsSqueezed::own_frame, crate::proofs::SetsSqueezed::set_fits, crate::proofs::SetsSqueezed::set_space))]
 pub fn squeezed_set(
     alloc: Global,
     plan: &mut Plan,
@@ -67,22 +87,9 @@ pub fn squeezed_set(
     ensures grows { Grows plan.old plan.new }
     ensures space { IfOk result (λ t. AddsAtMost plan.old plan.new (16 * length on.vars * span t.axes)) }
 {
-    let own = on.axes.as_slice();
-    if !are_alone(own, gone) {
-        return Err(NoMemory);
-    }
-    let axes = axes_left(alloc, gone, own)?;
-    let coords = squeezed_coords(alloc, gone, own, on.coords.as_slice())?;
-    let made = vars_made(alloc, gone, on.vars.as_slice())?;
-    let vars = realize_vars(alloc, plan, made.as_slice())?;
-    let vars = by_name(alloc, vars.as_slice())?;
-    Ok(Dataset {
-        axes,
-        coords,
-        vars,
-        attrs: on.attrs,
-        skipped: on.skipped,
-    })
+    let made = set_made(alloc, gone, &on)?;
+    let set = realize_set(alloc, plan, made)?;
+    Ok(set)
 }
 
 // ---- the limit

@@ -1,5 +1,5 @@
 -- Cells beside their mask, and lists of cells that are compared from the left.
-use Rattle.xr_values.proofs.Common.{Bool, Bor, List, MatchOption, None, Option, Some, [], add-one, and_right, ap, arith, cell, cond-false, drop, drop-cons, false, get_or, get_or_default, hidden, length, length-map, map, nat_eq, ne_eqb, option_map, pointwise, refl, same_cell, subst, suc, sym, true, zero, zip, ℕ, ℤ, ⊤, ◌&&◌, ◌+◌, ◌<◌, ◌∙◌, ◌∷◌, ◌≡◌}
+use Rattle.xr_values.proofs.Common.{Bool, Bor, List, MatchOption, None, Option, Some, [], and_right, ap, arith, cell, cond-false, drop, drop_more, false, get_or, get_or_default, hidden, length, length-map, map, nat_eq, ne_eqb, option_map, pointwise, refl, same_cell, subst, suc, sym, true, zero, zip, ℕ, ℤ, ⊤, ◌&&◌, ◌+◌, ◌<◌, ◌∙◌, ◌∷◌, ◌≡◌}
 use Rattle.std.proofs.Math.Seq.{drop-length}
 
 abbrev pub of_mask : Option (Bor (List ℕ)) → Option (List ℕ)
@@ -29,15 +29,11 @@ module _ {X : Type 0} (f : X → ℤ) where
   masked xs mask b i x some fits lt is =
       masked_at xs b.now i x lt (subst (Fits xs) some fits) is ∙ sym (ap (λ m. get_or (hidden (map f xs) (of_mask m)) i None) some)
 
-  hidden_at : (xs : List X) (bytes : List ℕ) (i : ℕ) → i < length xs → length bytes ≡ length xs → (get_or bytes i 0 ≡ 0 → ⊥) → None ≡ get_or (map cell (zip (map f xs) bytes)) i None
-  hidden_at [] bytes i lt long other = absurd (omega arith)
-  hidden_at (y ∷ ys) bytes i lt long other =
-      let x = get_or (y ∷ ys) i y in
-      sym (cond-false (nat_eq (get_or bytes i 0) 0) (Some (f x)) None (ne_eqb (get_or bytes i 0) 0 other)) ∙ masked_at (y ∷ ys) bytes i x lt long (get_or_default (y ∷ ys) i y x lt)
-
   pub masked_off : (xs : List X) (mask : Option (Bor (List ℕ))) (b : Bor (List ℕ)) (i : ℕ) → mask ≡ Some b → Fits xs mask → i < length xs → (get_or b.now i 0 ≡ 0 → ⊥) → None ≡ get_or (hidden (map f xs) (of_mask mask)) i None
-  masked_off xs mask b i some fits lt other =
-      hidden_at xs b.now i lt (subst (Fits xs) some fits) other ∙ sym (ap (λ m. get_or (hidden (map f xs) (of_mask m)) i None) some)
+  masked_off [] mask b i some fits lt other = absurd (omega arith)
+  masked_off (y ∷ ys) mask b i some fits lt other =
+      let x = get_or (y ∷ ys) i y in
+      sym (cond-false (nat_eq (get_or b.now i 0) 0) (Some (f x)) None (ne_eqb (get_or b.now i 0) 0 other)) ∙ masked (y ∷ ys) mask b i x some fits lt (get_or_default (y ∷ ys) i y x lt)
 
   zip_long : (xs : List X) (bytes : List ℕ) → length bytes ≡ length xs → length (map cell (zip (map f xs) bytes)) ≡ length xs
   zip_long [] bytes long = refl
@@ -59,18 +55,13 @@ other_length [] (y ∷ ys) other = refl
 other_length (x ∷ xs) [] other = refl
 other_length (x ∷ xs) (y ∷ ys) other = sym (and_right (same_cell x y) (same_cells xs ys) (sym (other_length xs ys (λ e. other (ap suc e)))))
 
-from_here : (xs ys : List (Option ℤ)) (i : ℕ) → i < length xs → i < length ys → same_cells (drop i xs) (drop i ys) ≡ (same_cell (get_or xs i None) (get_or ys i None) && same_cells (drop (i + 1) xs) (drop (i + 1) ys))
-from_here xs ys i below_xs below_ys =
-    ap (λ l. same_cells l (drop i ys)) (drop-cons xs i None below_xs)
-    ∙ ap (λ l. same_cells (get_or xs i None ∷ drop (suc i) xs) l) (drop-cons ys i None below_ys)
-    ∙ ap (λ n. same_cell (get_or xs i None) (get_or ys i None) && same_cells (drop n xs) (drop n ys)) (sym (add-one i))
-
 -- the first cells are equal, so the rest tells
 pub same_on : (xs ys : List (Option ℤ)) (i : ℕ) (x y : Option ℤ) (same : Bool) → i < length xs → i < length ys → x ≡ get_or xs i None → y ≡ get_or ys i None → same ≡ true → same ≡ same_cell x y → same_cells (drop i xs) (drop i ys) ≡ same_cells xs ys
     → same_cells (drop (i + 1) xs) (drop (i + 1) ys) ≡ same_cells xs ys
 same_on xs ys i x y same below_xs below_ys at_xs at_ys holds is before =
-    let here : true ≡ same_cell (get_or xs i None) (get_or ys i None) = sym holds ∙ is ∙ ap (λ z. same_cell z y) at_xs ∙ ap (same_cell (get_or xs i None)) at_ys in
-    ap (λ b. b && same_cells (drop (i + 1) xs) (drop (i + 1) ys)) here ∙ sym (from_here xs ys i below_xs below_ys) ∙ before
+    ap (λ b. b && same_cells (drop (i + 1) xs) (drop (i + 1) ys)) (sym holds ∙ is ∙ ap (λ z. same_cell z y) at_xs ∙ ap (same_cell (get_or xs i None)) at_ys)
+    ∙ sym (ap (λ l. same_cells l (drop i ys)) (drop_more xs i None below_xs) ∙ ap (same_cells (get_or xs i None ∷ drop (i + 1) xs)) (drop_more ys i None below_ys))
+    ∙ before
 
 past : (xs : List (Option ℤ)) (i : ℕ) → i ≡ length xs → drop i xs ≡ []
 past xs i at = ap (λ n. drop n xs) at ∙ drop-length xs

@@ -18,20 +18,13 @@ module _ {X : Type 0} (named same : X → X → Bool) where
   abbrev pub if_fresh : List X → X → List X
   if_fresh xs x = if is_fresh xs x then x ∷ [] else []
 
-  -- where none before has its name, those behind it decide
-  pub fresh_agrees : (before : List X) (x : X) → is_fresh before x ≡ true → agree before x ≡ true
-  fresh_agrees [] x is = refl
-  fresh_agrees (y ∷ before) x is =
-      let parts = and_parts (not (named x y)) (is_fresh before x) is in
-      and_from (not (named x y) || same x y) (agree before x) (or_left (not (named x y)) (same x y) parts.0) (fresh_agrees before x parts.1)
-
   module _ (swap : (x y : X) → named x y ≡ named y x) (own : (x : X) → named x x ≡ true) (alike : (x : X) → same x x ≡ true) where
-    pub agree_behind : (before : List X) (x : X) (behind : List X) → is_fresh before x ≡ true → agree (before ++ x ∷ behind) x ≡ agree behind x
-    agree_behind before x behind is =
-        list_all-append (λ y. not (named x y) || same x y) before (x ∷ behind)
-        ∙ ap (λ b. b && ((not (named x x) || same x x) && agree behind x)) (fresh_agrees before x is)
-        ∙ ap (λ b. (not b || same x x) && agree behind x) (own x)
-        ∙ ap (λ b. b && agree behind x) (alike x)
+    -- where none before has its name, those behind it decide
+    agree_behind : (before : List X) (x : X) (behind : List X) → is_fresh before x ≡ true → agree (before ++ x ∷ behind) x ≡ agree behind x
+    agree_behind [] x behind is = ap (λ b. (not b || same x x) && agree behind x) (own x) ∙ ap (λ b. b && agree behind x) (alike x)
+    agree_behind (y ∷ before) x behind is =
+        let parts = and_parts (not (named x y)) (is_fresh before x) is in
+        ap (λ b. b && agree (before ++ x ∷ behind) x) (or_left (not (named x y)) (same x y) parts.0) ∙ agree_behind before x behind parts.1
 
     filtered_fresh : (y x : X) (xs : List X) → filter (λ z. not (named y z)) (if_fresh xs x) ≡ if_fresh (y ∷ xs) x
     filtered_fresh y x xs = early (is_fresh xs x) ∙ by (is_fresh xs x) (not (named y x)) ∙ ap (λ t. if not t && is_fresh xs x then x ∷ [] else []) (swap y x)

@@ -25,19 +25,9 @@ means_keyed nodes es (kv ∷ kvs) = means_keyed nodes (tree.Entry es kv.0 (tree 
 
 means_layer : (nodes : List Node) (x : Value-F Value) → means nodes (tree_layer x) ≡ layer nodes x
 unfolding means all_values all_entries
-means_layer nodes held.Absent = refl
-means_layer nodes held.Missing = refl
-means_layer nodes (held.Truth b) = refl
-means_layer nodes (held.Number n) = refl
-means_layer nodes (held.Text t) = refl
 means_layer nodes (held.List vs) = ap of.Sequence (means_trees nodes tree.NoTree vs.items)
 means_layer nodes (held.Table es) = ap of.Table (means_keyed nodes tree.NoEntry es.items)
-means_layer nodes (held.Slice start stop step) = refl
-means_layer nodes (held.Array a) = refl
-means_layer nodes (held.Set s) = refl
-means_layer nodes (held.Times coding ts) = refl
-means_layer nodes (held.GroupedArray a g) = refl
-means_layer nodes (held.GroupedSet s g) = refl
+means_layer nodes x = refl
 
 pub meaning_out : (nodes : List Node) (v : Value) → meaning nodes v ≡ layer nodes (out-Value v)
 meaning_out nodes v = ap (means nodes) (tree_out v) ∙ means_layer nodes (out-Value v)
@@ -88,24 +78,11 @@ entries_iff nodes es (kv ∷ kvs) =
       (λ all. let r = rest.1 all in (r.0.0, All-cons (IsEntryIn nodes) kv kvs (record { held = r.0.1 }) r.1)),
     )
 
-itself : {P : Type 0} → P ↔ P
-itself = ((λ is. is), (λ is. is))
-
 layer_iff : (nodes : List Node) (x : Value-F Value) → IsLayerIn nodes x ↔ IsTreeIn nodes (tree_layer x)
 unfolding IsTreeIn
-layer_iff nodes held.Absent = itself
-layer_iff nodes held.Missing = itself
-layer_iff nodes (held.Truth b) = itself
-layer_iff nodes (held.Number n) = itself
-layer_iff nodes (held.Text t) = itself
 layer_iff nodes (held.List vs) = let both = trees_iff nodes tree.NoTree vs.items in ((λ is. both.0 (tt, is)), (λ is. (both.1 is).1))
 layer_iff nodes (held.Table es) = let both = entries_iff nodes tree.NoEntry es.items in ((λ is. both.0 (tt, is)), (λ is. (both.1 is).1))
-layer_iff nodes (held.Slice start stop step) = itself
-layer_iff nodes (held.Array a) = itself
-layer_iff nodes (held.Set s) = itself
-layer_iff nodes (held.Times coding ts) = itself
-layer_iff nodes (held.GroupedArray a g) = itself
-layer_iff nodes (held.GroupedSet s g) = itself
+layer_iff nodes x = ((λ is. is), (λ is. is))
 
 -- what a value of the plan holds is of the plan
 pub value_out : (nodes : List Node) (v : Value) → IsValueIn nodes v → IsLayerIn nodes (out-Value v)
@@ -124,19 +101,13 @@ mutual
   unfolding means IsTreeIn
 
   tree_kept : (old new : List Node) → Grows old new → (t : Tree) → IsTreeIn old t → (means new t ≡ means old t) × IsTreeIn new t
-  tree_kept old new g tree.Absent is = (refl, tt)
-  tree_kept old new g tree.Missing is = (refl, tt)
-  tree_kept old new g (tree.Truth b) is = (refl, tt)
-  tree_kept old new g (tree.Number n) is = (refl, tt)
-  tree_kept old new g (tree.Text t) is = (refl, tt)
   tree_kept old new g (tree.Sequence ts) is = let kept = items_kept old new g ts is in (ap of.Sequence kept.0, kept.1)
   tree_kept old new g (tree.Table es) is = let kept = entries_kept old new g es is in (ap of.Table kept.0, kept.1)
-  tree_kept old new g (tree.Slice start stop step) is = (refl, tt)
   tree_kept old new g (tree.Array a) is = (ap of.Array (array_kept old new a g is), stays_array old new a g is)
   tree_kept old new g (tree.Set s) is = (ap of.Set (dataset_kept old new s g is), stays_dataset old new s g is)
-  tree_kept old new g (tree.Times coding ts) is = (refl, is)
   tree_kept old new g (tree.GroupedArray a by) is = (ap (λ b. of.GroupedArray b by) (array_kept old new a g is), stays_array old new a g is)
   tree_kept old new g (tree.GroupedSet s by) is = (ap (λ t. of.GroupedSet t by) (dataset_kept old new s g is), stays_dataset old new s g is)
+  tree_kept old new g t is = (refl, is)
 
   items_kept : (old new : List Node) → Grows old new → (ts : Trees) → AreTreesIn old ts → (means_items new ts ≡ means_items old ts) × AreTreesIn new ts
   items_kept old new g tree.NoTree is = (refl, tt)

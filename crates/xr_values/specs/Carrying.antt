@@ -1,5 +1,5 @@
 -- What a result has of its operands, by the program's arrays, whose nodes say nothing of it, and one coordinate after the other.
-use Rattle.std.specs.Prelude.{ℕ, Bool, not, ◌&&◌, List, [], ◌∷◌, map, flat_map, filter, Option, if◌then◌else◌}
+use Rattle.std.specs.Prelude.{ℕ, not, ◌&&◌, List, [], ◌∷◌, map, flat_map, filter, Option, if◌then◌else◌}
 use Rattle.std.specs.List.{list_all}
 use Rattle.xr_types.specs.declared.attr.Attr.{Attr}
 use Rattle.xr_types.specs.declared.axis.Axis.{Axis}
@@ -24,9 +24,6 @@ joined_behind c behind = record c { attrs = joined_attrs (c.attrs ∷ map (λ (d
 abbrev pub kept_here : List Axis → List Coord → Coord → List Coord → List Coord
 kept_here axes before c behind = if is_new before c && (has_place axes c && is_agreed behind c) then joined_behind c behind ∷ [] else []
 
-abbrev pub is_new_attr : List Attr → Attr → Bool
-is_new_attr attrs a = list_all (λ b. not (called_as a b)) attrs
-
 -- an attribute that stands before and behind these, where all have it alike
 abbrev pub shared_here : List Attr → Attr → List Attr → List Attr
-shared_here before a behind = if is_new_attr before a && is_shared behind a then a ∷ [] else []
+shared_here before a behind = if list_all (λ b. not (called_as a b)) before && is_shared behind a then a ∷ [] else []

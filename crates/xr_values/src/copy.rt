@@ -1,4 +1,4 @@
-//! Equal values in new memory.
+//! Equal values and coordinates in new memory.
 ghost use Rattle.std.specs.Prelude.{◌≡◌, List, IfOk};
 ghost use Rattle.xr_arrays.specs.declared.node.Node.{Node};
 ghost use Rattle.xr_values.specs.Meaning.{meaning, IsValueIn};
@@ -6,8 +6,8 @@ ghost use Rattle.xr_values.specs.Trees.{tree};
 
 use crate::value::Value;
 use std::alloc::{AllocError, Global};
-use xr_defs::Part;
-use xr_types::{DeepCopy, TextBytes};
+use xr_defs::{Content, Coord, Part};
+use xr_types::{DeepCopy, Items, TextBytes};
 
 /// An end of a slice again.
 pub fn copy_part(alloc: Global, part: &Part) -> Result<Part, AllocError>
@@ -78,4 +78,38 @@ impl Value {
     {
         self.again(alloc)
     }
+}
+
+/// What a coordinate holds, again.
+pub fn copy_content(alloc: Global, content: &Content) -> Result<Content, AllocError>
+    ensures { IfOk result (λ c. c ≡ content.now) }
+{
+    Ok(match content {
+        Content::Cells(cells, masked) => Content::Cells(cells.copy(alloc)?, *masked),
+        Content::Text(text) => Content::Text(text.deep_copy(alloc)?),
+        Content::Time(coding, time) => Content::Time(coding.deep_copy(alloc)?, *time),
+    })
+}
+
+/// A coordinate again.
+pub fn copy_coord(alloc: Global, coord: &Coord) -> Result<Coord, AllocError>
+    ensures { IfOk result (λ c. c ≡ coord.now) }
+{
+    Ok(Coord {
+        name: coord.name.deep_copy(alloc)?,
+        axes: coord.axes.deep_copy(alloc)?,
+        attrs: coord.attrs.deep_copy(alloc)?,
+        content: copy_content(alloc, &coord.content)?,
+    })
+}
+
+/// Coordinates again.
+pub fn copy_coords(alloc: Global, coords: &[Coord]) -> Result<Items<Coord>, AllocError>
+    ensures { IfOk result (λ cs. cs ≡ coords.now) }
+{
+    let mut copies = Items::new(alloc);
+    for coord in coords {
+        copies.push(copy_coord(alloc, coord)?)?;
+    }
+    Ok(copies)
 }

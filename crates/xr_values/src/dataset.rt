@@ -1,5 +1,5 @@
 //! Datasets.
-use crate::copies::copy_coords;
+use crate::copy::copy_coords;
 use crate::variables::Variables;
 use std::alloc::{AllocError, Global};
 use xr_defs::Coord;

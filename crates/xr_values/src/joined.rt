@@ -79,26 +79,12 @@ fn shared_attrs(alloc: Global, all: &[&Attr]) -> Result<Items<Attr>, AllocError>
     Ok(shared)
 }
 
-fn push_attrs<'a>(all: &mut Vec<&'a Attr>, attrs: &'a [Attr]) -> Result<(), AllocError>
-    ensures { OnOk result (map (λ a. a.now) all.new.items ≡ map (λ a. a.now) all.old.items ++ attrs.now) }
+/// Puts each of these behind the others.
+pub(crate) fn push_each<'a, T>(all: &mut Vec<&'a T>, items: &'a [T]) -> Result<(), AllocError>
+    ensures { OnOk result (map (λ t. t.now) all.new.items ≡ map (λ t. t.now) all.old.items ++ items.now) }
 {
-    for attr in attrs {
-        all.push(attr)?;
-    }
-    Ok(())
-}
-
-fn push_named<'a>(
-    all: &mut Vec<&'a Attr>,
-    coord: &Coord,
-    others: &[&'a Coord],
-) -> Result<(), AllocError>
-    ensures { OnOk result (map (λ a. a.now) all.new.items ≡ map (λ a. a.now) all.old.items ++ flat_map (λ attrs. attrs) (map (λ (c : CoordOf). c.attrs) (filter (named_as coord.now) (map (λ c. c.now) others.now)))) }
-{
-    for other in others {
-        if other.name.is(&coord.name) {
-            push_attrs(all, other.attrs.as_slice())?;
-        }
+    for item in items {
+        all.push(item)?;
     }
     Ok(())
 }
@@ -112,25 +98,22 @@ pub(crate) fn coord_attrs<'a>(
     ensures { IfOk result (λ attrs. attrs ≡ joined_attrs (coord.now.attrs ∷ map (λ (c : CoordOf). c.attrs) (filter (named_as coord.now) (map (λ c. c.now) others.now)))) }
 {
     let mut all = Vec::new(alloc);
-    push_attrs(&mut all, coord.attrs.as_slice())?;
-    push_named(&mut all, coord, others)?;
-    shared_attrs(alloc, &all)
-}
-
-fn all_attrs<'a>(alloc: Global, operands: &'a [DataArray]) -> Result<Vec<&'a Attr>, AllocError>
-    ensures { IfOk result (λ all. map (λ a. a.now) all.items ≡ flat_map (λ attrs. attrs) (the_attrs operands.now)) }
-{
-    let mut all = Vec::new(alloc);
-    for operand in operands {
-        push_attrs(&mut all, operand.attrs.as_slice())?;
+    push_each(&mut all, coord.attrs.as_slice())?;
+    for other in others {
+        if other.name.is(&coord.name) {
+            push_each(&mut all, other.attrs.as_slice())?;
+        }
     }
-    Ok(all)
+    shared_attrs(alloc, &all)
 }
 
 fn joined_attrs(alloc: Global, operands: &[DataArray]) -> Result<Items<Attr>, AllocError>
     ensures { IfOk result (λ attrs. attrs ≡ joined_attrs (the_attrs operands.now)) }
 {
-    let all = all_attrs(alloc, operands)?;
+    let mut all = Vec::new(alloc);
+    for operand in operands {
+        push_each(&mut all, operand.attrs.as_slice())?;
+    }
     shared_attrs(alloc, &all)
 }
 

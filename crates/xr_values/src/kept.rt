@@ -1,34 +1,25 @@
 //! The coordinates that a result keeps.
-ghost use Rattle.std.specs.Prelude.{◌≡◌, ◌&&◌, ◌++◌, map, not, IfOk, OnOk};
+ghost use Rattle.std.specs.Prelude.{◌≡◌, ◌++◌, map, not, IfOk, OnOk};
 ghost use Rattle.std.specs.List.{list_all};
-ghost use Rattle.xr_types.specs.Names.{among};
-ghost use Rattle.xr_types.specs.Names.{axis_names};
-ghost use Rattle.xr_defs.specs.Carrying.{coords_among, has_place, is_agreed, is_new, named_as};
+ghost use Rattle.xr_types.specs.Names.{among, axis_names};
+ghost use Rattle.xr_types.specs.declared.axis.Axis.{Axis as AxisOf};
+ghost use Rattle.xr_defs.specs.Carrying.{coords_among, has_place, is_agreed, named_as};
 ghost use Rattle.xr_values.specs.Carrying.{joined_behind, kept_here, the_coords};
 
-use crate::copies::copy_content;
+use crate::copy::copy_content;
 use crate::data_array::DataArray;
-use crate::joined::coord_attrs;
+use crate::joined::{coord_attrs, push_each};
 use crate::same::same_coord;
 use std::alloc::{AllocError, Global};
 use xr_defs::Coord;
 use xr_types::{Axis, DeepCopy, Items, Name};
-
-fn push_coords<'a>(all: &mut Vec<&'a Coord>, coords: &'a [Coord]) -> Result<(), AllocError>
-    ensures { OnOk result (map (λ c. c.now) all.new.items ≡ map (λ c. c.now) all.old.items ++ coords.now) }
-{
-    for coord in coords {
-        all.push(coord)?;
-    }
-    Ok(())
-}
 
 fn all_coords<'a>(alloc: Global, operands: &'a [DataArray]) -> Result<Vec<&'a Coord>, AllocError>
     ensures { IfOk result (λ all. map (λ c. c.now) all.items ≡ the_coords operands.now) }
 {
     let mut all = Vec::new(alloc);
     for operand in operands {
-        push_coords(&mut all, operand.coords.as_slice())?;
+        push_each(&mut all, operand.coords.as_slice())?;
     }
     Ok(all)
 }
@@ -43,15 +34,12 @@ fn has_axis(axes: &[Axis], name: &Name) -> bool
 }
 
 fn have_axes(axes: &[Axis], some: &[Axis]) -> bool
-    ensures { result ≡ list_all (among (axis_names axes.now)) (axis_names some.now) }
+    ensures { result ≡ list_all (λ (x : AxisOf). among (axis_names axes.now) x.name) some.now }
 {
-    match some {
-        [] => true,
-        [axis, rest @ ..] => has_axis(axes, &axis.name) && have_axes(axes, rest),
-    }
+    some.iter().all(|axis| has_axis(axes, &axis.name))
 }
 
-#[tactic(auto, unfolding(xr_defs::specs::Carrying::has_place))]
+#[tactic(auto, using(crate::proofs::Firsts::through_map), unfolding(xr_defs::specs::Carrying::has_place))]
 fn has_place(axes: &[Axis], coord: &Coord) -> bool
     ensures { result ≡ has_place axes.now coord.now }
 {
@@ -77,22 +65,6 @@ fn is_agreed(alloc: Global, others: &[&Coord], coord: &Coord) -> Result<bool, Al
     Ok(true)
 }
 
-#[tactic(auto, using(crate::proofs::Firsts::through_map))]
-fn is_kept(
-    alloc: Global,
-    axes: &[Axis],
-    before: &[&Coord],
-    coord: &Coord,
-    behind: &[&Coord],
-) -> Result<bool, AllocError>
-    ensures { IfOk result (λ kept. kept ≡ (is_new (map (λ c. c.now) before.now) coord.now && (has_place axes.now coord.now && is_agreed (map (λ c. c.now) behind.now) coord.now))) }
-{
-    if !is_new(before, coord) || !has_place(axes, coord) {
-        return Ok(false);
-    }
-    is_agreed(alloc, behind, coord)
-}
-
 // The coordinate with the attributes that it and those of its name have in common.
 fn joined_coord<'a>(
     alloc: Global,
@@ -109,6 +81,8 @@ fn joined_coord<'a>(
     })
 }
 
+// Puts the coordinate between these behind the others, where it is kept.
+#[tactic(auto, using(crate::proofs::Firsts::through_map))]
 fn push_kept<'a>(
     alloc: Global,
     kept: &mut Items<Coord>,
@@ -119,7 +93,7 @@ fn push_kept<'a>(
 ) -> Result<(), AllocError>
     ensures { OnOk result (kept.new ≡ kept.old ++ kept_here axes.now (map (λ c. c.now) before.now) coord.now (map (λ c. c.now) behind.now)) }
 {
-    if is_kept(alloc, axes, before, coord, behind)? {
+    if is_new(before, coord) && has_place(axes, coord) && is_agreed(alloc, behind, coord)? {
         kept.push(joined_coord(alloc, coord, behind)?)?;
     }
     Ok(())

@@ -2,7 +2,6 @@
 #![tactic(auto)]
 
 mod args;
-mod copies;
 mod copy;
 mod cx;
 mod data_array;
@@ -17,7 +16,7 @@ mod variable;
 mod variables;
 
 pub use args::Args;
-pub use copies::{copy_content, copy_coord, copy_coords};
+pub use copy::{copy_content, copy_coord, copy_coords};
 pub use cx::Cx;
 pub use data_array::DataArray;
 pub use dataset::Dataset;

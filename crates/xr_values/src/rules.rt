@@ -5,8 +5,8 @@ ghost use Rattle.xr_arrays.specs.declared.node.Node.{Node};
 ghost use Rattle.xr_defs.specs.Carries.{AreParts, IsOperand};
 ghost use Rattle.xr_defs.specs.WellFormed.{AreDimensions};
 ghost use Rattle.xr_values.specs.Stands.{array_in};
-ghost use Rattle.xr_defs.specs.Carrying.{attrs_among, carried, coords_among, first_name, name_among, same_name, shared_name};
-ghost use Rattle.xr_values.specs.Carrying.{the_attrs, the_coords, the_names};
+ghost use Rattle.xr_defs.specs.Carrying.{carried, name_among, same_name, shared_name};
+ghost use Rattle.xr_values.specs.Carrying.{the_names};
 
 use crate::data_array::DataArray;
 use crate::joined::attrs_among;
@@ -14,15 +14,6 @@ use crate::kept::coords_among;
 use std::alloc::{AllocError, Global};
 use xr_defs::{Carry, Parts};
 use xr_types::{Axis, DeepCopy, Name, NoMemory};
-
-fn first_name(alloc: Global, operands: &[DataArray]) -> Result<Option<Name>, AllocError>
-    ensures { IfOk result (λ name. name ≡ first_name (the_names operands.now)) }
-{
-    match operands {
-        [] => Ok(None),
-        [first, ..] => first.name.deep_copy(alloc),
-    }
-}
 
 fn same_name(a: &Option<Name>, b: &Option<Name>) -> bool
     ensures { result ≡ same_name a.now b.now }
@@ -62,24 +53,12 @@ fn name_among(alloc: Global, how: Carry, operands: &[DataArray]) -> Result<Optio
     ensures { IfOk result (λ name. name ≡ name_among how (the_names operands.now)) }
 {
     match how {
-        Carry::Keep | Carry::Method | Carry::Where => first_name(alloc, operands),
+        Carry::Keep | Carry::Method | Carry::Where => match operands {
+            [] => Ok(None),
+            [first, ..] => first.name.deep_copy(alloc),
+        },
         Carry::Binary | Carry::First => shared_name(alloc, operands),
     }
-}
-
-fn all_parts(
-    alloc: Global,
-    operands: &[DataArray],
-    axes: &[Axis],
-    how: Carry,
-) -> Result<Parts, AllocError>
-    ensures { IfOk result (λ p. p ≡ record { name = name_among how (the_names operands.now); attrs = attrs_among how (the_attrs operands.now); coords = coords_among axes.now (the_coords operands.now) }) }
-{
-    Ok(Parts {
-        name: name_among(alloc, how, operands)?,
-        attrs: attrs_among(alloc, how, operands)?,
-        coords: coords_among(alloc, axes, operands)?,
-    })
 }
 
 /// The name, the attributes and the coordinates that are no index of a result over these axes, by the kind of operation that
@@ -100,5 +79,9 @@ pub fn carry(
     ensures carried { IfOk result (λ p. (nodes : List Node) → p ≡ carried how (map (array_in nodes) operands.now) axes.now) }
     ensures formed { IfOk result (λ p. (nodes : List Node) → AreDimensions axes.now → AllByRecursion (IsOperand axes.now) (map (array_in nodes) operands.now) → AreParts axes.now p) }
 {
-    Ok(all_parts(alloc, operands, axes, how)?)
+    Ok(Parts {
+        name: name_among(alloc, how, operands)?,
+        attrs: attrs_among(alloc, how, operands)?,
+        coords: coords_among(alloc, axes, operands)?,
+    })
 }

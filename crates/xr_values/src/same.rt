@@ -85,13 +85,16 @@ fn same_as_typed<T: Elem>(
     ensures { result ≡ pointwise same_cell (hidden (map T.number a.now) (option_map (λ m. m.now) a_mask.entry)) (hidden (wide b.now) (option_map (λ m. m.now) b_mask.entry)) }
 {
     match b {
-        Cells::Bool(v) => same_typed(a, a_mask, v.as_slice(), b_mask),
-        Cells::Char(v) => same_typed(a, a_mask, v.as_slice(), b_mask),
+        Cells::Bool(v) | Cells::Char(v) | Cells::UInt8(v) => same_typed(
+            a,
+            a_mask,
+            v.as_slice(),
+            b_mask,
+        ),
         Cells::Int8(v) => same_typed(a, a_mask, v.as_slice(), b_mask),
         Cells::Int16(v) => same_typed(a, a_mask, v.as_slice(), b_mask),
         Cells::Int32(v) => same_typed(a, a_mask, v.as_slice(), b_mask),
         Cells::Int64(v) => same_typed(a, a_mask, v.as_slice(), b_mask),
-        Cells::UInt8(v) => same_typed(a, a_mask, v.as_slice(), b_mask),
         Cells::UInt16(v) => same_typed(a, a_mask, v.as_slice(), b_mask),
         Cells::UInt32(v) => same_typed(a, a_mask, v.as_slice(), b_mask),
         Cells::UInt64(v) => same_typed(a, a_mask, v.as_slice(), b_mask),
@@ -104,13 +107,16 @@ fn same_cells(a: &Cells, a_mask: Option<&Items<u8>>, b: &Cells, b_mask: Option<&
     ensures { result ≡ pointwise same_cell (hidden (wide a.now) (option_map (λ m. m.now) a_mask.entry)) (hidden (wide b.now) (option_map (λ m. m.now) b_mask.entry)) }
 {
     match a {
-        Cells::Bool(v) => same_as_typed(v.as_slice(), a_mask, b, b_mask),
-        Cells::Char(v) => same_as_typed(v.as_slice(), a_mask, b, b_mask),
+        Cells::Bool(v) | Cells::Char(v) | Cells::UInt8(v) => same_as_typed(
+            v.as_slice(),
+            a_mask,
+            b,
+            b_mask,
+        ),
         Cells::Int8(v) => same_as_typed(v.as_slice(), a_mask, b, b_mask),
         Cells::Int16(v) => same_as_typed(v.as_slice(), a_mask, b, b_mask),
         Cells::Int32(v) => same_as_typed(v.as_slice(), a_mask, b, b_mask),
         Cells::Int64(v) => same_as_typed(v.as_slice(), a_mask, b, b_mask),
-        Cells::UInt8(v) => same_as_typed(v.as_slice(), a_mask, b, b_mask),
         Cells::UInt16(v) => same_as_typed(v.as_slice(), a_mask, b, b_mask),
         Cells::UInt32(v) => same_as_typed(v.as_slice(), a_mask, b, b_mask),
         Cells::UInt64(v) => same_as_typed(v.as_slice(), a_mask, b, b_mask),

@@ -1,6 +1,5 @@
-use Rattle.xr_building.proofs.Common.{All, ap, is_some, present, refl, size, subst, sym, true, wide, ◌∙◌, ◌≡◌}
-use Rattle.xr_arrays.specs.Arrays.{Array}
-use Rattle.xr_building.proofs.Fits.{seen_numbers}
+use Rattle.xr_building.proofs.Common.{All, ap, is_some, present, refl, size, subst, sym, true, wide, ◌∙◌, ◌≡◌, CellArray as Array}
+use Rattle.xr_building.proofs.Fitting.{seen_numbers}
 use Rattle.xr_building.proofs.labels.array_labels.Goals as goal
 
 pub returns : goal.returns

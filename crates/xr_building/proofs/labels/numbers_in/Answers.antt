@@ -1,6 +1,5 @@
 use Rattle.xr_building.proofs.Common.{ap, no_values, numbers_in, rules, sym, ◌∙◌}
 use Rattle.xr_building.proofs.Items.{number_on}
-use Rattle.xr_building.proofs.labels.numbers_in.Goals.{in-Some+in_ok-push-in-Some, in-None}
 use Rattle.xr_building.proofs.labels.numbers_in.Goals as goal
 
 pub loop-value-init : goal.loop-value-init
@@ -10,6 +9,6 @@ pub loop-value-preserved : goal.loop-value-preserved
 loop-value-preserved c = λ nodes.
     let on = number_on nodes c.args.list.now c.loop-value.value-index c.value-item.result c.number_in.result c.loop-value.numbers c.match-number_in.numbers c.loop-value-test.true c.value-item.is (c.number_in.ensures nodes) (c.loop-value.invariant nodes) in
     elim c.match-number_in.branch [
-      | in-Some+in_ok-push-in-Some w ↦ on (search rules)
-      | in-None w ↦ on (search rules)
+      | goal.in-Some+in_ok-push-in-Some w ↦ on (search rules)
+      | goal.in-None w ↦ on (search rules)
     ]

@@ -1,6 +1,5 @@
-use Rattle.xr_building.proofs.Common.{List, Node, drop, list_all, map, meaning, ◌≡◌}
-use Rattle.xr_defs.specs.Building as of
+use Rattle.xr_building.proofs.Common.{List, Node, drop, list_all, map, meaning, ◌≡◌, is_regular}
 use Rattle.xr_building.proofs.nesting.+is_regular.Given as goal
 
 abbrev pub invariant-loop-item : goal.invariant-loop-item
-invariant-loop-item l = (nodes : List Node) → list_all (of.is_regular l.rest) (map (meaning nodes) (drop l.item-index l.item-items)) ≡ list_all (of.is_regular l.rest) (map (meaning nodes) l.item-items)
+invariant-loop-item l = (nodes : List Node) → list_all (is_regular l.rest) (map (meaning nodes) (drop l.item-index l.item-items)) ≡ list_all (is_regular l.rest) (map (meaning nodes) l.item-items)

@@ -1,5 +1,5 @@
 use Rattle.xr_building.proofs.Common.{Answers, Axis, SizeConflict, ap, array_in, axis_called, get_or, subst, sym, unless, ℕ, ◌==◌, ◌∙◌}
-use Rattle.xr_building.proofs.Fits.{along_total}
+use Rattle.xr_building.proofs.Fitting.{along_total}
 use Rattle.xr_building.proofs.placing.check_along.Goals as goal
 
 pub returns : goal.returns

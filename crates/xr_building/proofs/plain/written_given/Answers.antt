@@ -1,5 +1,5 @@
 use Rattle.xr_building.proofs.Common.{Bor, Held as Value, bound, coords_held, map, meaning, option_map, plain_given, rules, unless}
-use Rattle.xr_building.proofs.Tables.{argument_inside, coords_same, met_coords}
+use Rattle.xr_building.proofs.Tables.{coords_same, met_coords}
 use Rattle.xr_building.proofs.plain.written_given.Goals as goal
 
 pub returns-in_err-content-clause-answers : goal.returns-in_err-content-clause-answers
@@ -34,9 +34,6 @@ unfolding plain_given bound unless
 returns-clause-answers c = λ nodes.
     let b = c.in_ok-values.ensures nodes in let a = c.argument.ensures nodes in let r = c.in_ok-content.ensures nodes in let d = c.argument-2.ensures nodes in let s = c.in_ok-dimensions.ensures nodes in
     let e = c.in_ok-elements.ensures.answers nodes in let v = c.in_ok-dims.ensures.answers nodes in let n = c.if-not-is_nested.ensures nodes in
-    let held = met_coords nodes (λ (x : Bor Value). x.now) c.coords_argument.result (coords_held c.args.args.now) c.coords_argument.ensures in
+    let held = met_coords nodes (λ (x : Bor Value). x.now) c.coords_argument-coords.result (coords_held c.args.args.now) c.coords_argument-coords.ensures in
     let given = coords_same nodes c.args.args.now (map (option_map (λ (x : Bor Value). meaning nodes x.now)) c.in_ok-values.values) b in
     let o = c.option.ensures nodes in let p = c.option-2.ensures nodes in let t = c.over_bare.ensures.answers nodes in search rules
-
-pub returns-clause-inside : goal.returns-clause-inside
-returns-clause-inside c = λ nodes inside. c.over_bare.ensures.inside nodes (argument_inside nodes c.args.args.now (λ (x : Bor Value). x.now) c.coords_argument.result c.coords_argument.ensures inside)

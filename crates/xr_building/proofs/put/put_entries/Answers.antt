@@ -1,10 +1,9 @@
-use Rattle.xr_building.proofs.Common.{DoesNotFit, Err, Follows, List, Ok, Put, [], after, all_of, ap, arith, check_numbers, drop, drop_all, entries_in, entry_in, err_from_is_err_and, fits_whole, from_place, length, list_all, map, meaning, names_of, over, put_fits, put_on, refl, subst, sym, unless, with_key, ◌+◌, ◌>>=◌, ◌∙◌, ◌≡◌, ◌≤◌}
+use Rattle.xr_building.proofs.Common.{Err, Follows, List, Ok, Put, [], after, all_of, ap, arith, check_numbers, check_put, drop, drop_all, entries_in, entry_in, err_from_is_err_and, fits_whole, from_place, length, map, meaning, names_of, over, put_on, refl, subst, sym, with_key, ◌+◌, ◌>>=◌, ◌∙◌, ◌≡◌, ◌≤◌}
 use Rattle.xr_building.proofs.After.{after_end}
 use Rattle.xr_building.proofs.Entering.{entry_from, none_more, numbers_on, one_more, rest_checked}
 use Rattle.xr_building.proofs.put.put_entries.Goals as goal
 
 pub loop-entry-init : goal.loop-entry-init
-unfolding unless
 loop-entry-init g c =
     let start = c.args.cx.now in
     record {
@@ -12,7 +11,7 @@ loop-entry-init g c =
       keeps = λ nodes n. refl;
       checked = c.requires.checked;
       so_far = λ coords. ap (λ (ps : List Put). entries_in (g.C.Compute.declines start.compute start.plan) start.plan (names_of c.args.variables.now) (after (over c.args.axes.now coords) ps) c.args.entries.now) c.new-puts.ensures;
-      fits = sym (ap (λ (ps : List Put). unless (list_all put_fits ps) DoesNotFit >>= λ u. all_of check_numbers (map (with_key start.plan) c.args.entries.now)) c.new-puts.ensures);
+      fits = sym (ap (λ (ps : List Put). all_of check_put ps >>= λ u. all_of check_numbers (map (with_key start.plan) c.args.entries.now)) c.new-puts.ensures);
     }
 
 pub returns-clause-told : goal.returns-clause-told

@@ -1,9 +1,4 @@
-use Rattle.std.proofs.Common.{◌≡◌, ap, subst, sym, ◌∙◌}
-use Rattle.xr_defs.specs.Values.{without_fills}
-use Rattle.xr_defs.specs.WellFormed.{AreAttributes}
-use Rattle.xr_values.specs.Stands.{array_in}
-use Rattle.xr_formulas.specs.Cellwise.{changed}
-use Rattle.xr_formulas.specs.Mades.{Makes}
+use Rattle.xr_formulas.proofs.Common.{AreAttributes, Makes, ap, array_in, changed, subst, sym, without_fills, ◌∙◌, ◌≡◌}
 use Rattle.xr_formulas.proofs.Answered.{attributes_left}
 use Rattle.xr_formulas.proofs.cellwise.of_method.Goals as goal
 

@@ -1,5 +1,4 @@
-use Rattle.xr_arrays.specs.Nodes.{values}
-use Rattle.plan_core.proofs.Fitting.{source_fits}
+use Rattle.xr_formulas.proofs.Common.{source_fits, values}
 use Rattle.xr_formulas.proofs.Chains.{source_adds, source_placed}
 use Rattle.xr_formulas.proofs.chain.push_source.Goals as goal
 

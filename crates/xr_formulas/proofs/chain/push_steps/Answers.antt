@@ -1,9 +1,5 @@
-use Rattle.std.proofs.Common.{◌+◌, drop, subst, sym}
-use Rattle.std.proofs.lemmas.List.{drop_all}
-use Rattle.xr_arrays.specs.declared.node.Node.{Node}
-use Rattle.xr_arrays.specs.Nodes.{value, values, IsNode, Pushes}
+use Rattle.xr_formulas.proofs.Common.{IsNode, Node, Pushes, StepsFit, drop, drop_all, subst, sym, value, values, ◌+◌}
 use Rattle.xr_values.proofs.Places.{from_place}
-use Rattle.xr_formulas.specs.Chains.{StepsFit}
 use Rattle.xr_formulas.proofs.Chains.{first_on, last_on, next_on, step_fits}
 use Rattle.xr_formulas.proofs.chain.push_steps.Goals as goal
 

@@ -1,4 +1,4 @@
-use Rattle.xr_formulas.proofs.Mades.{pair_cells, pair_grows, pair_placed, pair_pushed, still_fits}
+use Rattle.xr_formulas.proofs.Mades.{pair_cells, pair_placed, pair_pushed, still_fits}
 use Rattle.xr_formulas.proofs.made.push_pair.Goals as goal
 
 pub push_chain-requires-2 : goal.push_chain-requires-2
@@ -12,11 +12,6 @@ push-requires c =
 pub returns-clause-value : goal.returns-clause-value
 returns-clause-value c =
     pair_pushed c.args.plan.now c.push_chain.new.plan c.push_chain-2.new.plan c.args.op c.args.one.now c.args.other.now c.in_ok-a.a c.in_ok-b.b c.requires.one c.requires.other
-    c.in_ok-a.ensures.value c.push_chain.ensures.grows c.in_ok-b.ensures.value c.push_chain-2.ensures.grows c.push.new.self c.in_ok-node.node c.in_ok-node.ensures.ok
-
-pub returns-clause-grows : goal.returns-clause-grows
-returns-clause-grows c =
-    pair_grows c.args.plan.now c.push_chain.new.plan c.push_chain-2.new.plan c.args.op c.args.one.now c.args.other.now c.in_ok-a.a c.in_ok-b.b c.requires.one c.requires.other
     c.in_ok-a.ensures.value c.push_chain.ensures.grows c.in_ok-b.ensures.value c.push_chain-2.ensures.grows c.push.new.self c.in_ok-node.node c.in_ok-node.ensures.ok
 
 pub returns-clause-cells : goal.returns-clause-cells

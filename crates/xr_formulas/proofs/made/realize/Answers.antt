@@ -1,6 +1,4 @@
-use Rattle.std.proofs.Common.{refl}
-use Rattle.xr_arrays.specs.Nodes.{value}
-use Rattle.xr_formulas.specs.Mades.{formula_cells, made_with}
+use Rattle.xr_formulas.proofs.Common.{formula_cells, made_with, refl, value}
 use Rattle.xr_formulas.proofs.Mades.{in_its_room}
 use Rattle.xr_formulas.proofs.made.realize.Goals as goal
 

@@ -1,5 +1,4 @@
-use Rattle.std.proofs.Common.{List, ◌≤◌, length, subst, sym}
-use Rattle.xr_types.specs.declared.axis.Axis.{Axis}
+use Rattle.xr_formulas.proofs.Common.{Axis, List, length, subst, sym, ◌≤◌}
 use Rattle.xr_formulas.proofs.Compared.{kept_wide}
 use Rattle.xr_formulas.proofs.Pairs.{beside_makes, few_axes}
 use Rattle.xr_formulas.proofs.numbers.beside.Goals as goal

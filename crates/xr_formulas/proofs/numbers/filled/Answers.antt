@@ -1,12 +1,5 @@
-use Rattle.std.proofs.Common.{false, subst, sym}
-use Rattle.std.proofs.lemmas.Int.{to_z-of_z}
-use Rattle.std.specs.Int.{cast_signed, cast_unsigned, w128}
+use Rattle.xr_formulas.proofs.Common.{AreAttributes, IsOver, Makes, Right, array_in, cast_signed, cast_unsigned, false, placed_on, subst, sym, to_z-of_z, w128}
 use Rattle.xr_types.specs.declared.operation.OpKind.TheVariants.{FillNa}
-use Rattle.xr_operations.specs.declared.side.Side.TheVariants.{Right}
-use Rattle.xr_defs.specs.WellFormed.{AreAttributes}
-use Rattle.xr_values.specs.Stands.{array_in}
-use Rattle.xr_formulas.specs.Beside.{placed_on, IsOver}
-use Rattle.xr_formulas.specs.Mades.{Makes}
 use Rattle.xr_formulas.proofs.Operands.{plain_over}
 use Rattle.xr_formulas.proofs.numbers.filled.Goals as goal
 

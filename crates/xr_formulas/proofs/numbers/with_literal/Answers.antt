@@ -1,13 +1,5 @@
-use Rattle.std.proofs.Common.{◌≡◌, true, ap, subst, sym, ◌∙◌}
-use Rattle.xr_types.specs.Kinds.{InRange}
+use Rattle.xr_formulas.proofs.Common.{AreAttributes, InRange, IsOver, Makes, Placed, ap, array_in, array_of, placed_on, subst, sym, takes_two, true, unary_of, without_fills, ◌∙◌, ◌≡◌}
 use Rattle.xr_types.specs.declared.operation.OpKind.TheVariants as ops
-use Rattle.xr_arrays.specs.Elements.{takes_two, unary_of}
-use Rattle.xr_defs.specs.Values.{array_of, without_fills}
-use Rattle.xr_defs.specs.WellFormed.{AreAttributes}
-use Rattle.xr_values.specs.Stands.{array_in}
-use Rattle.xr_formulas.specs.Beside.{placed_on, IsOver}
-use Rattle.xr_formulas.specs.Mades.{Makes}
-use Rattle.xr_formulas.specs.declared.numbers.Placed.{Placed}
 use Rattle.xr_formulas.proofs.Answered.{attributes_left}
 use Rattle.xr_formulas.proofs.Compared.{pair_fills, within_says}
 use Rattle.xr_formulas.proofs.Operands.{literal_makes, operand_over}

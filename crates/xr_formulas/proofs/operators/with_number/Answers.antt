@@ -1,5 +1,4 @@
-use Rattle.std.proofs.Common.{ap, sym, ◌∙◌}
-use Rattle.xr_operations.specs.Arithmetic.{common_kind}
+use Rattle.xr_formulas.proofs.Common.{ap, common_kind, sym, ◌∙◌}
 use Rattle.xr_formulas.proofs.Sorts.{number_own, number_placed}
 use Rattle.xr_formulas.proofs.operators.with_number.Goals as goal
 

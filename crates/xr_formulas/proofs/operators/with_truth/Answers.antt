@@ -1,10 +1,5 @@
-use Rattle.std.proofs.Common.{subst, sym}
+use Rattle.xr_formulas.proofs.Common.{IsPlaced, Makes, array_in, of_truth, subst, sym, truth_number, with_literal}
 use Rattle.xr_types.specs.declared.kind.DType.TheVariants.{Bool}
-use Rattle.xr_operations.specs.Arithmetic.{of_truth, with_literal}
-use Rattle.xr_defs.specs.Building.{truth_number}
-use Rattle.xr_values.specs.Stands.{array_in}
-use Rattle.xr_formulas.specs.Beside.{IsPlaced}
-use Rattle.xr_formulas.specs.Mades.{Makes}
 use Rattle.xr_formulas.proofs.Answered.{answered}
 use Rattle.xr_formulas.proofs.Sorts.{truth_kept, truth_own, truth_placed, truth_told}
 use Rattle.xr_formulas.proofs.operators.with_truth.Goals as goal

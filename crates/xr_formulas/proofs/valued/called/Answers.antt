@@ -1,5 +1,4 @@
-use Rattle.std.proofs.Common.{refl}
-use Rattle.xr_formulas.specs.Mades.{made_in}
+use Rattle.xr_formulas.proofs.Common.{made_in, refl}
 use Rattle.xr_formulas.proofs.Rooms.{array_placed, array_room}
 use Rattle.xr_formulas.proofs.valued.called.Goals as goal
 

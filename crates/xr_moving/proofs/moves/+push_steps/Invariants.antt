@@ -2,4 +2,4 @@ use Rattle.std.proofs.Common.{length}
 use Rattle.xr_moving.proofs.moves.+push_steps.Given as goal
 
 abbrev pub decreases-push_steps : goal.decreases-push_steps
-decreases-push_steps l = length l.axes.now
+decreases-push_steps l = length l.dims.now

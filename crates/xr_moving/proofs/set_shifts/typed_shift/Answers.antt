@@ -2,11 +2,12 @@ use Rattle.std.proofs.Common.{◌≡◌, ◌∙◌, Some, Ok, true, length, map,
 use Rattle.std.proofs.lemmas.List.{length-map}
 use Rattle.std.specs.Prelude.{option_map}
 use Rattle.xr_types.specs.Results.{all_of}
+use Rattle.xr_defs.specs.Arguments.{check_dimension}
 use Rattle.xr_operations.specs.Moves as of
 use Rattle.xr_values.specs.Meaning.{given, meaning, with_key}
 use Rattle.xr_values.specs.Stands.{dataset_in, variable_in}
 use Rattle.xr_moving.specs.Sets.{AnswersSetMade}
-use Rattle.xr_moving.specs.Steps.{check_kinds_by, check_named, named}
+use Rattle.xr_moving.specs.Steps.{check_kinds_by, named}
 use Rattle.xr_moving.proofs.ShiftedSets.{kinds_literal, shift_told}
 use Rattle.xr_moving.proofs.set_shifts.typed_shift.Goals as goal
 
@@ -24,5 +25,6 @@ returns-in-Some c nodes others is =
     let k1 = subst (λ o. check_kinds_by c.as_slice-2.result.now o (map (variable_in nodes) c.as_slice-3.result.now) ≡ Ok tt) there k0 in
     let k2 = subst (λ bys. check_kinds_by bys (Some w) (map (variable_in nodes) c.as_slice-3.result.now) ≡ Ok tt) c.as_slice-2.ensures k1 in
     let k = subst (λ vs. check_kinds_by by (Some w) (map (variable_in nodes) vs) ≡ Ok tt) c.as_slice-3.ensures.variables k2 in
-    let e = subst (λ bys. all_of (check_named s.axes) bys ≡ Ok tt) c.as_slice-5.ensures (subst (λ axes. all_of (check_named axes) c.as_slice-5.result.now ≡ Ok tt) c.as_slice-4.ensures c.in_ok-check_dimensions.ensures) in
+    let e = subst (λ kvs. all_of (check_dimension s.axes) (named true (map (with_key others) kvs)) ≡ Ok tt) c.as_slice-5.ensures.value
+    (subst (λ axes. all_of (check_dimension axes) (named true (map (with_key others) c.as_slice-5.result.now)) ≡ Ok tt) c.as_slice-4.ensures (c.in_ok-check_dimensions.ensures others)) in
     subst (AnswersSetMade nodes c.shift_by.result) (sym (shift_told s (given others c.args.args.now) by w none d f k e)) (c.shift_by.ensures nodes others is (kinds_literal by w s.vars k))

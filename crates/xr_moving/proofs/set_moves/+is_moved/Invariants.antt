@@ -1,5 +1,0 @@
-use Rattle.std.proofs.Common.{length}
-use Rattle.xr_moving.proofs.set_moves.+is_moved.Given as goal
-
-abbrev pub decreases-is_moved : goal.decreases-is_moved
-decreases-is_moved l = length l.dims.now

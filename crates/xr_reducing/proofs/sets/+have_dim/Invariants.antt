@@ -1,5 +1,0 @@
-use Rattle.std.proofs.Common.{length}
-use Rattle.xr_reducing.proofs.sets.+have_dim.Given as goal
-
-abbrev pub decreases-have_dim : goal.decreases-have_dim
-decreases-have_dim l = length l.vars.now
