@@ -1,24 +1,5 @@
 -- Cells along axes that come to joined ones are those of the array over the joined axes.
-use Rattle.std.proofs.Common.{◌≡◌, ◌<◌, ◌+◌, ℕ, ℤ, zero, suc, Bool, true, false, ◌||◌, List, [], ◌∷◌, ◌++◌, length, map, set, get_or, Option, Some, None, is_some, option_map, refl, sym, ap, subst, ◌∙◌, arith, append_assoc, length-append}
-use Rattle.std.specs.Prelude.{is_none}
-use Rattle.std.specs.List.{list_any}
-use Rattle.std.proofs.lemmas.List.{set-get_or}
-use Rattle.std.proofs.lemmas.Bool.{or_parts}
-use Rattle.std.proofs.Math.Seq.{get_or-append_seam}
-use Rattle.plan_core.proofs.Tabs.{tab-length, tab_same}
-use Rattle.xr_types.specs.Names.{shape_over}
-use Rattle.xr_types.specs.Points.{IsPoint, size}
-use Rattle.xr_types.specs.declared.axis.Axis.{Axis}
-use Rattle.xr_arrays.specs.Arrays.{Array, at, made}
-use Rattle.xr_arrays.specs.Nodes.{along, from_source, taken_from}
-use Rattle.xr_operations.specs.Alignment.{all_sources, cell_or, each_position, fitted_cells, has_hole, joined_in, source_point, sources}
-use Rattle.align_join.specs.Joined.{stays}
-use Rattle.align_join.proofs.Told.{stays_each}
-use Rattle.xr_joining.specs.Fitted.{AreBelow}
-use Rattle.xr_joining.proofs.Cells.{made_by}
-use Rattle.xr_joining.proofs.MeetLaws.{each_at, each_long}
-use Rattle.xr_joining.proofs.Takes.{next_axis}
-use Rattle.xr_aligning.specs.Fits.{any_hole, cells_after, fill_in, fit_of, taken_along, taken_by, unless_stays, Arrive, Arrives}
+use Rattle.xr_aligning.proofs.Common.{AreBelow, Array, Arrive, Arrives, Axis, Bool, Fit, IsPoint, List, None, Option, Some, Step, StepsFit, TakesFit, [], all_sources, along, any_hole, ap, append_assoc, arith, at, cell_or, cells_after, each_at, each_long, each_position, false, fill_in, fit_of, fitted_cells, from_source, get_or, get_or-append_seam, has_hole, is_none, is_some, joined_in, length, length-append, length-set, list_any, lit<, made, made_by, map, next_axis, option_map, or_parts, refl, set, set-get_or, shape_over, size, source_point, sources, stays, stays_each, step_by, steps_from, steps_value, subst, suc, sym, tab-length, tab_same, taken_from, true, unless_stays, zero, ℕ, ℤ, ◌++◌, ◌+◌, ◌<◌, ◌||◌, ◌∙◌, ◌∷◌, ◌≡◌, ◌≤◌}
 use Rattle.xr_aligning.proofs.Takes.{next, taken_all, taken_each, taken_shape}
 
 -- ---- positions that stay
@@ -45,6 +26,29 @@ module _ (fill : Option ℤ) (a : Array) (k n : ℕ) (within : k < length a.shap
 
 seam_length : (s1 ns : List ℕ) (n : ℕ) → length s1 < length (s1 ++ n ∷ ns)
 seam_length s1 ns n = let long = length-append s1 (n ∷ ns) in omega arith
+
+-- ---- one step
+
+abbrev taken_by : Option (List (Option ℕ)) → ℕ → Option ℤ → Array → Array
+taken_by None k fill a = a
+taken_by (Some from) k fill a = taken_from a k from fill
+
+one_step : (fill : Option ℤ) (k : ℕ) (o : Option (List (Option ℕ))) (ss : List Step) (a : Array) → steps_value (step_by fill k o ++ ss) a ≡ steps_value ss (taken_by o k fill a)
+one_step fill k None ss a = refl
+one_step fill k (Some from) ss a = refl
+
+-- what a plan takes of the sizes and the kind of an array it takes of the array
+pub steps_fit : (fill : Option ℤ) (k : ℕ) (fs : List Fit) (a : Array) → length a.shape ≤ 16 → TakesFit (steps_from fill k fs) a.shape a.kind → StepsFit (steps_from fill k fs) a
+steps_fit fill k [] a low fit = tt
+steps_fit fill k (f ∷ fs) a low fit = by f.from (steps_fit fill (k + 1) fs) fit
+  where
+    by : (o : Option (List (Option ℕ))) → ((b : Array) → length b.shape ≤ 16 → TakesFit (steps_from fill (k + 1) fs) b.shape b.kind → StepsFit (steps_from fill (k + 1) fs) b) → TakesFit (step_by fill k o ++ steps_from fill (k + 1) fs) a.shape a.kind → StepsFit (step_by fill k o ++ steps_from fill (k + 1) fs) a
+    by None rest fit = rest a low fit
+    by (Some from) rest fit =
+        let rank : length (set a.shape k (length from)) ≡ length a.shape = length-set a.shape k (length from) in (
+          record { fits = (lit< tt, fit.0.axis, fit.0.below, fit.0.cell, λ e. absurd cc); small = fit.0.small; low_rank = omega arith },
+          rest (taken_from a k from fill) (omega arith) fit.1,
+        )
 
 -- ---- all axes, one after another
 
@@ -78,14 +82,15 @@ module _ (joined : List Axis) (fill : Option ℤ) where
     now_whole = tab-length now.shape (λ p. from_source a fill (λ i. along (length s1) i p) (get_or (sources x j) (get_or p (length s1) 0) None))
 
   along_value : (s1 : List ℕ) (k : ℕ) (xs : List Axis) (a : Array) → Arrive joined xs → k ≡ length s1 → a.shape ≡ s1 ++ shape_over xs → length a.cells ≡ size a.shape
-      → taken_along k fill (map (fit_of joined) xs) a ≡ taken_each fill k (all_sources joined xs) a
+      → steps_value (steps_from fill k (map (fit_of joined) xs)) a ≡ taken_each fill k (all_sources joined xs) a
   along_value s1 k [] a all e shape whole = refl
   along_value s1 k (x ∷ xs) a all e shape whole =
       let j = joined_in joined x in
       let more : k + 1 ≡ length (s1 ++ j.size ∷ []) = (let n = next_axis s1 j.size in omega arith) in
       let long : (now s1 (shape_over xs) x a all.0 shape whole).shape ≡ (s1 ++ j.size ∷ []) ++ shape_over xs = now_shape s1 (shape_over xs) x a all.0 shape whole ∙ sym (append_assoc s1 (j.size ∷ []) (shape_over xs)) in
-      ap (λ m. taken_along (k + 1) fill (map (fit_of joined) xs) (taken_by (fit_of joined x).from m fill a)) e
-      ∙ ap (taken_along (k + 1) fill (map (fit_of joined) xs)) (one_value s1 (shape_over xs) x a all.0 shape whole)
+      one_step fill k (fit_of joined x).from (steps_from fill (k + 1) (map (fit_of joined) xs)) a
+      ∙ ap (λ m. steps_value (steps_from fill (k + 1) (map (fit_of joined) xs)) (taken_by (fit_of joined x).from m fill a)) e
+      ∙ ap (steps_value (steps_from fill (k + 1) (map (fit_of joined) xs))) (one_value s1 (shape_over xs) x a all.0 shape whole)
       ∙ along_value (s1 ++ j.size ∷ []) (k + 1) xs (now s1 (shape_over xs) x a all.0 shape whole) all.1 more long (now_whole s1 (shape_over xs) x a all.0 shape whole)
       ∙ ap (λ m. taken_each fill (k + 1) (all_sources joined xs) (taken_from a m (sources x j) fill)) (sym e)
 
@@ -100,7 +105,7 @@ module _ (joined : List Axis) where
   all_long [] all = refl
   all_long (x ∷ xs) all = (λ i. all.0.long i ∷ all_long xs all.1 i)
 
-  taken_is : (fill : Option ℤ) (xs : List Axis) (a : Array) → Arrive joined xs → length a.cells ≡ size a.shape → a.shape ≡ shape_over xs → taken_along 0 fill (map (fit_of joined) xs) a ≡ fitted_cells joined xs fill a
+  taken_is : (fill : Option ℤ) (xs : List Axis) (a : Array) → Arrive joined xs → length a.cells ≡ size a.shape → a.shape ≡ shape_over xs → steps_value (steps_from fill 0 (map (fit_of joined) xs)) a ≡ fitted_cells joined xs fill a
   taken_is fill xs a all whole shape =
       along_value joined fill [] 0 xs a all refl shape whole
       ∙ taken_all fill (shape_over xs) (all_sources joined xs) a whole shape (all_below xs all) ∙ ap (λ s. made a.kind s (λ p. cell_or fill a (source_point (all_sources joined xs) p))) (all_long xs all)
@@ -142,8 +147,8 @@ module _ (joined : List Axis) (fill : Option ℤ) (xs : List Axis) (a : Array) (
 
   -- the cells along each axis are those at the positions of all, or the fill
   pub after_is : length a.cells ≡ size a.shape → a.shape ≡ shape_over xs → cells_after fill (map (fit_of joined) xs) a ≡ fitted_cells joined xs fill a
-  after_is whole shape = ap (λ b. taken_along 0 (fill_in b fill) (map (fit_of joined) xs) a) (same_hole joined xs) ∙ by (has_hole joined xs) refl
+  after_is whole shape = ap (λ b. steps_value (steps_from (fill_in b fill) 0 (map (fit_of joined) xs)) a) (same_hole joined xs) ∙ by (has_hole joined xs) refl
     where
-      by : (b : Bool) → has_hole joined xs ≡ b → taken_along 0 (fill_in b fill) (map (fit_of joined) xs) a ≡ fitted_cells joined xs fill a
+      by : (b : Bool) → has_hole joined xs ≡ b → steps_value (steps_from (fill_in b fill) 0 (map (fit_of joined) xs)) a ≡ fitted_cells joined xs fill a
       by true e = taken_is joined fill xs a all whole shape
       by false e = taken_is joined None xs a all whole shape ∙ unfilled e

@@ -1,28 +1,7 @@
 -- The steps of `align`, one after the other.
-use Rattle.std.proofs.Common.{◌≡◌, ◌&&◌, ◌==◌, ℕ, ℤ, Bool, true, false, List, [], ◌∷◌, ◌++◌, length, map, Option, Some, None, is_some, option_map, Result, Ok, Err, refl, sym, ap, subst, ◌∙◌}
-use Rattle.std.specs.Prelude.{nat_le, codes}
-use Rattle.std.specs.List.{list_all}
-use Rattle.xr_types.specs.Results.{◌>>=◌, all_of, unless, Answers}
-use Rattle.xr_types.specs.declared.axis.Axis.{Axis}
-use Rattle.xr_types.specs.declared.fault.CallFault.{CallFault}
-use Rattle.xr_types.specs.declared.fault.CallFault.TheVariants.{Refused, Declined, NoMemory}
-use Rattle.xr_types.specs.declared.fault.Fault.{Fault}
-use Rattle.xr_types.specs.declared.fault.Fault.TheVariants.{BadArgument}
-use Rattle.xr_types.specs.declared.operation.How.{How}
-use Rattle.xr_defs.specs.Building.{bound, given_value, is_keyword_of, keyword, option}
-use Rattle.xr_defs.specs.Meanings.{Given, Value}
-use Rattle.xr_operations.specs.Alignment.{aligned}
-use Rattle.xr_relations.specs.Aligning.{align_called, aligned_by, axes_of, check_fill, check_labelled, check_size, fill_cell, fill_given, fitted_value, how_given}
-use Rattle.xr_values.specs.Answers.{Fails}
-use Rattle.xr_arrays.specs.declared.node.Node.{Node}
-use Rattle.std.specs.List.{AllByRecursion}
+use Rattle.xr_aligning.proofs.Common.{AllByRecursion, Answers, AnswersValues, ArePlaced, Axis, BadArgument, Bool, CallFault, Coming, Declined, Err, Fails, Fault, Given, How, IsValueIn, Labelled, List, NoMemory, Node, None, Ok, Option, Refused, Result, Some, TakesLabels, Value, [], align_called, aligned, aligned_by, all_of, ap, are_options, axes_of, bound, check_fill, check_fill_by, check_labelled, check_size, codes, come, false, fill_cell, fill_given, fitted_value, given_value, how_given, is_keyword_of, is_option, is_some, keyword, labelled_in, length, list_all, map, meaning, nat_le, option, option_map, refl, stands_for, subst, sym, true, unless, ℕ, ℤ, ◌&&◌, ◌++◌, ◌==◌, ◌>>=◌, ◌∙◌, ◌∷◌, ◌≡◌}
 use Rattle.std.specs.Prelude.{All}
-use Rattle.xr_values.specs.Meaning.{meaning, IsValueIn}
 use Rattle.xr_values.specs.declared.value.Value.{Value as Held}
-use Rattle.xr_aligning.specs.Aligned.{are_options, is_option, AnswersValues, ArePlaced}
-use Rattle.xr_aligning.specs.Coming.{check_fill_by, come, labelled_in, stands_for, TakesLabels}
-use Rattle.xr_aligning.specs.declared.coming.Coming.{Coming}
-use Rattle.xr_aligning.specs.declared.labelled.Labelled.{Labelled}
 use Rattle.xr_aligning.proofs.Given.{come_are, fills_are, sizes_are}
 
 -- what fails at a step fails

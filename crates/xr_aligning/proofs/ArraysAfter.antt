@@ -1,25 +1,6 @@
 -- An array over joined axes, whose cells are those of a node.
-use Rattle.std.proofs.Common.{◌≡◌, ℕ, ℤ, Bool, true, List, [], ◌++◌, map, Option, refl, sym, ap, subst, ◌∙◌}
-use Rattle.xr_types.specs.Names.{are_distinct, shape_over}
-use Rattle.xr_types.specs.Points.{size}
-use Rattle.xr_arrays.specs.declared.node.Node.{Node}
-use Rattle.xr_arrays.specs.Arrays.{Array, IsCell}
-use Rattle.xr_arrays.specs.Nodes.{value}
-use Rattle.xr_defs.specs.Selecting.{is_within}
+use Rattle.xr_aligning.proofs.Common.{AreFitted, AreLoose, Array, Arrive, Attr, Axis, Bool, Coord, DataArray, Fit, IsArrayAfter, IsArrayIn, IsCell, IsDataArray, IsNodeOf, IsValueOf, List, Node, Option, [], any_hole, ap, are_distinct, array_in, array_of, cells_after, fill_in, fit_of, fitted, fitted_cells, has_hole, is_within, joined_in, map, masked_with, own_sizes, refl, shape_over, size, subst, sym, true, value, ℕ, ℤ, ◌++◌, ◌∙◌, ◌≡◌}
 use Rattle.xr_defs.specs.Values as of
-use Rattle.xr_defs.specs.Values.{array_of}
-use Rattle.xr_defs.specs.WellFormed.{IsDataArray}
-use Rattle.xr_operations.specs.Alignment.{fitted, fitted_cells, has_hole, joined_in, masked_with}
-use Rattle.xr_types.specs.declared.attr.Attr.{Attr}
-use Rattle.xr_types.specs.declared.axis.Axis.{Axis}
-use Rattle.xr_defs.specs.declared.value.Coord.{Coord}
-use Rattle.xr_values.specs.declared.data_array.DataArray.{DataArray}
-use Rattle.xr_values.specs.Stands.{array_in, IsArrayIn, IsNodeOf}
-use Rattle.xr_formulas.specs.Chains.{IsValueOf}
-use Rattle.xr_aligning.specs.declared.fits.Fit.{Fit}
-use Rattle.xr_aligning.specs.Fits.{any_hole, cells_after, fill_in, fit_of, own_sizes, Arrive}
-use Rattle.xr_aligning.specs.Fitted.{AreFitted, IsArrayAfter}
-use Rattle.xr_aligning.specs.Joined.{AreLoose}
 use Rattle.xr_aligning.proofs.Along.{after_is, same_hole}
 use Rattle.xr_aligning.proofs.Called.{own_over}
 use Rattle.xr_aligning.proofs.Formed.{cells_formed, each_dimension, same_coord_names, same_names, within_parts}

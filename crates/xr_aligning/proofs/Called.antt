@@ -1,16 +1,10 @@
 -- How the axes of these names come to joined ones.
-use Rattle.std.proofs.Common.{◌≡◌, ℕ, Bool, true, false, not, cond, List, [], ◌∷◌, ◌++◌, length, map, Option, Some, refl, sym, ap, ◌∙◌, append_assoc}
-use Rattle.std.specs.Str.{bytes_eq}
-use Rattle.std.specs.List.{AllByRecursion}
-use Rattle.std.proofs.lemmas.List.{length-map}
-use Rattle.xr_types.specs.Names.{shape_over}
-use Rattle.xr_types.specs.declared.axis.Axis.{Axis}
-use Rattle.xr_defs.specs.Selecting.{axis_called}
-use Rattle.xr_operations.specs.Alignment.{joined_in}
-use Rattle.xr_parts.specs.Frames.{IsThere}
-use Rattle.xr_parts.proofs.Axes.{called_cons}
-use Rattle.xr_aligning.specs.declared.fits.Fit.{Fit}
-use Rattle.xr_aligning.specs.Fits.{fit_called, fit_of, own_sizes, sizes}
+use Rattle.xr_aligning.proofs.Common.{AllByRecursion, Axis, Bool, Fit, IsThere, List, Option, Some, [], ap, append_assoc, axis_called, bytes_eq, called_cons, called_holds, cond, false, fit_called, fit_of, joined_in, length, length-map, map, not, own_sizes, refl, shape_over, sizes, subst, sym, true, ℕ, ◌++◌, ◌∙◌, ◌∷◌, ◌≡◌}
+
+-- what holds of axes holds of those that are there
+pub there_hold : (P : Axis → Type 0) (own xs : List Axis) → AllByRecursion P own → AllByRecursion (IsThere own) xs → AllByRecursion P xs
+there_hold P own [] all over = tt
+there_hold P own (x ∷ xs) all over = (subst P over.0.1 (called_holds P x.name own all over.0.0).0, there_hold P own xs all over.1)
 
 same_fit : (f g : Fit) (o : Option Fit) → o ≡ Some f → o ≡ Some g → f ≡ g
 same_fit f g o a b = cc

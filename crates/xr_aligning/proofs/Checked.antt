@@ -1,31 +1,9 @@
 -- The checks of a variable that is put into a dataset.
-use Rattle.std.proofs.Common.{◌≡◌, ◌||◌, ◌==◌, ℕ, true, false, not, List, [], ◌∷◌, length, map, None, Result, Ok, Err, refl, sym, ap, subst, ◌∙◌}
-use Rattle.std.specs.List.{list_any, AllByRecursion}
-use Rattle.xr_types.specs.Results.{◌>>=◌, unless, Answers}
-use Rattle.xr_types.specs.declared.axis.Axis.{Axis}
-use Rattle.xr_types.specs.declared.fault.CallFault.{CallFault}
-use Rattle.xr_types.specs.declared.fault.CallFault.TheVariants.{Refused, Declined, NoMemory}
-use Rattle.xr_types.specs.declared.fault.Fault.{Fault}
-use Rattle.xr_types.specs.declared.fault.Fault.TheVariants.{BadArgument, DuplicateName, TooLarge}
+use Rattle.xr_aligning.proofs.Common.{AllByRecursion, Answers, AnswersSet, AreLoose, Axis, BadArgument, CallFault, DataArray, Dataset, Declined, DuplicateName, Err, Fault, IsArrayIn, IsDatasetIn, IsDimension, IsPlaced, List, NoMemory, Node, None, Ok, Refused, Result, TooLarge, Variable, [], aligned, ap, array_in, check_names, check_set, dataset_in, each_left, fails, false, fitted, has_coord, has_index, is_busy, is_reserved, is_set_within, is_taken, joined_with, length, list_any, map, meets_variable, not, others, refl, rest_axes, subst, sym, true, unless, variable_assigned, variable_in, without_variable, ℕ, ◌==◌, ◌>>=◌, ◌||◌, ◌∙◌, ◌∷◌, ◌≡◌}
 use Rattle.xr_types.specs.declared.operation.How.TheVariants as how
-use Rattle.xr_arrays.specs.declared.node.Node.{Node}
-use Rattle.xr_defs.specs.Selecting.{check_set}
 use Rattle.xr_defs.specs.Values as of
-use Rattle.xr_defs.specs.WellFormed.{IsDimension}
-use Rattle.xr_operations.specs.Alignment.{aligned, fitted}
-use Rattle.xr_relations.specs.Aligning.{check_names, has_coord, has_index, is_reserved, meets_variable, variable_assigned, with_variable as with_put, without_variable}
-use Rattle.align_join.proofs.Told.{fails}
-use Rattle.xr_values.specs.declared.data_array.DataArray.{DataArray}
-use Rattle.xr_values.specs.declared.dataset.Dataset.{Dataset}
-use Rattle.xr_values.specs.declared.variable.Variable.{Variable}
-use Rattle.xr_values.specs.Stands.{array_in, dataset_in, variable_in, IsArrayIn, IsDatasetIn}
-use Rattle.xr_parts.proofs.Words.{each_left}
-use Rattle.xr_reducing.specs.Reduced.{is_busy}
-use Rattle.xr_aligning.specs.Assigned.{is_taken, joined_with, others, rest_axes, IsPlaced}
-use Rattle.xr_aligning.specs.Limits.{is_set_within}
+use Rattle.xr_relations.specs.Aligning.{with_variable as with_put}
 use Rattle.xr_aligning.proofs.Limited.{set_checked, set_few, set_refused}
-use Rattle.xr_values.specs.Answers.{AnswersSet}
-use Rattle.xr_aligning.specs.Joined.{AreLoose}
 use Rattle.xr_aligning.proofs.Assigning.{rest_is, rest_of}
 use Rattle.xr_aligning.proofs.Joining.{are_loose}
 

@@ -1,11 +1,5 @@
 -- Lists by their first item and the rest, as a function that calls itself takes them.
-use Rattle.std.proofs.Common.{◌≡◌, ◌≤◌, ◌-◌, List, [], ◌∷◌, ◌++◌, length, map, get_or, take, drop, Result, Ok, Err, refl, sym, ap, subst, ◌∙◌, arith, append_assoc}
-use Rattle.std.specs.Prelude.{OnOk}
-use Rattle.xr_types.specs.Results.{◌>>=◌, all_of, Answers}
-use Rattle.xr_types.specs.declared.fault.CallFault.{CallFault}
-use Rattle.xr_types.specs.declared.fault.Fault.{Fault}
-use Rattle.std.specs.List.{AllByRecursion}
-use Rattle.std.proofs.lemmas.List.{take_all}
+use Rattle.xr_aligning.proofs.Common.{AllByRecursion, Answers, CallFault, Err, Fault, List, Ok, OnOk, Result, [], all_of, ap, append_assoc, arith, drop, get_or, length, map, refl, subst, sym, take, take_all, ◌++◌, ◌-◌, ◌>>=◌, ◌∙◌, ◌∷◌, ◌≡◌, ◌≤◌}
 
 pub whole_list : {X : Type 0} (xs : List X) (x : X) → 1 ≤ length xs → x ≡ get_or xs 0 x → xs ≡ x ∷ take (length xs - 1) (drop 1 xs)
 whole_list [] x some is = absurd (omega arith)

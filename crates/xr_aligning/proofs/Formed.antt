@@ -1,31 +1,7 @@
 -- Arrays and coordinates over joined axes are as they have to be.
-use Rattle.std.proofs.Common.{◌≡◌, ◌≤◌, ◌||◌, ◌&&◌, ℕ, ℤ, Bool, true, false, cond, List, [], ◌∷◌, ◌++◌, length, map, Option, Some, None, is_some, refl, sym, ap, subst, ◌∙◌, arith, append_assoc}
-use Rattle.std.proofs.lemmas.List.{append-nil}
-use Rattle.std.specs.Prelude.{nat_le, IfSome}
-use Rattle.std.specs.Str.{bytes_eq}
-use Rattle.std.specs.List.{list_all, AllByRecursion}
-use Rattle.std.proofs.lemmas.Bool.{and_parts, or_parts}
-use Rattle.std.proofs.lemmas.Bool.Decides.{nat_tests}
-use Rattle.xr_types.specs.Names.{among, are_distinct, axis_names, shape_over}
-use Rattle.xr_types.specs.Points.{IsPoint, size}
-use Rattle.xr_types.specs.declared.axis.Axis.{Axis}
-use Rattle.xr_types.specs.declared.kind.DType.{DType}
-use Rattle.xr_arrays.specs.Arrays.{Array, at, IsCell}
-use Rattle.xr_defs.specs.Limits.{most_cells}
-use Rattle.xr_defs.specs.Selecting.{axis_called, is_within}
-use Rattle.xr_defs.specs.WellFormed.{names_of, AreCells, IsContent, IsCoordinate, IsDimension}
-use Rattle.xr_defs.specs.declared.value.Content.{Content}
+use Rattle.xr_aligning.proofs.Common.{AllByRecursion, AreCells, AreFitted, AreLoose, Array, Arrive, Arrives, Axis, Bool, Content, Coord, DType, IfSome, IsCell, IsContent, IsCoordinate, IsDimension, IsFitted, IsLoose, IsPoint, IsThere, List, None, Option, Some, TakesFill, [], all_sources, among, and_parts, ap, append-nil, append_assoc, are_distinct, arith, at, axis_called, axis_names, bytes_eq, bytes_eq_swap, called_cons, called_holds, cell_in, cell_or, cell_seen, cells_made, cond, content_after, false, fill_in, fit_of, fitted_cells, fitted_content, fitted_coord, has_hole, is_some, is_within, joined_in, length, list_all, map, masked_with, most_cells, names_of, nat_le, nat_tests, or_parts, refl, shape_over, size, source_inside, source_point, subst, sym, true, ℕ, ℤ, ◌&&◌, ◌++◌, ◌||◌, ◌∙◌, ◌∷◌, ◌≡◌, ◌≤◌}
 use Rattle.xr_defs.specs.declared.value.Content.TheVariants as contents
-use Rattle.xr_defs.specs.declared.value.Coord.{Coord}
-use Rattle.xr_operations.specs.Alignment.{all_sources, cell_or, fitted_cells, fitted_content, fitted_coord, has_hole, joined_in, masked_with, source_point}
-use Rattle.xr_values.proofs.Named.{bytes_eq_swap}
-use Rattle.xr_parts.specs.Frames.{IsThere}
-use Rattle.xr_parts.proofs.Axes.{called_cons, called_holds}
-use Rattle.xr_joining.proofs.Cells.{cell_in, cell_seen, cells_made}
-use Rattle.xr_joining.proofs.Takes.{source_inside}
-use Rattle.xr_aligning.specs.Fits.{content_after, fill_in, fit_of, Arrive, Arrives, TakesFill}
-use Rattle.xr_aligning.specs.Fitted.{AreFitted, IsFitted}
-use Rattle.xr_aligning.specs.Joined.{AreLoose, IsLoose}
+use Rattle.xr_aligning.proofs.Called.{there_hold}
 use Rattle.xr_aligning.proofs.Along.{after_is, all_below, all_long, same_hole, source_some}
 
 -- ---- limits
@@ -131,10 +107,6 @@ module _ (joined : List Axis) where
     -- ---- coordinates
 
     module _ (own : List Axis) (all : Arrive joined own) where
-      pub over_arrive : (xs : List Axis) → AllByRecursion (IsThere own) xs → Arrive joined xs
-      over_arrive [] over = tt
-      over_arrive (x ∷ xs) over = (subst (Arrives joined) over.0.1 (called_holds (Arrives joined) x.name own all over.0.0).0, over_arrive xs over.1)
-
       over_after : (xs : List Axis) → AllByRecursion (IsThere own) xs → AllByRecursion (IsThere (after own)) (after xs)
       over_after [] over = tt
       over_after (x ∷ xs) over =
@@ -162,7 +134,7 @@ module _ (joined : List Axis) where
       pub coord_fitted : (c d : Coord) → IsCoordinate own c → is_within (shape_over (after c.axes)) ≡ true → TakesFill fill (map (fit_of joined) c.axes) c.content
           → d ≡ record { name = c.name; axes = after c.axes; attrs = c.attrs; content = content_after fill (map (fit_of joined) c.axes) c.content } → IsFitted joined fill own c d
       coord_fitted c d is within takes made =
-          let there = over_arrive c.axes is.over in
+          let there = there_hold (Arrives joined) own c.axes all is.over in
           let fitted_is : d ≡ fitted_coord joined fill c = made ∙ ap (λ content. record { name = c.name; axes = after c.axes; attrs = c.attrs; content = content }) (content_is c.axes c.content there is.content) in
           record {
             is = fitted_is;
@@ -174,15 +146,6 @@ module _ (joined : List Axis) where
               content = content_formed c.axes c.content there is.content within takes;
             });
           }
-
-      pub none_fitted : (out new : List Coord) → new ≡ out → AreFitted joined fill own out [] new
-      none_fitted out new same = record { are = same ∙ sym (append-nil out); formed = tt }
-
-      pub more_fitted : (out : List Coord) (c d : Coord) (cs new : List Coord) → IsFitted joined fill own c d → AreFitted joined fill own (out ++ d ∷ []) cs new → AreFitted joined fill own out (c ∷ cs) new
-      more_fitted out c d cs new one rest = record {
-        are = rest.are ∙ append_assoc out (d ∷ []) (map (fitted_coord joined fill) cs) ∙ ap (λ e. out ++ e ∷ map (fitted_coord joined fill) cs) one.is;
-        formed = (subst (IsCoordinate (after own)) one.is one.formed, rest.formed);
-      }
 
     pub same_coord_names : (cs : List Coord) → names_of (map (fitted_coord joined fill) cs) ≡ names_of cs
     same_coord_names [] = refl

@@ -1,35 +1,8 @@
 -- Arrays and datasets that are given, and how they come to joined axes.
-use Rattle.std.proofs.Common.{◌≡◌, ℤ, Bool, true, List, [], ◌∷◌, map, Option, Result, Ok, Err, refl, sym, ap, subst, ◌∙◌}
-use Rattle.std.specs.List.{AllByRecursion}
-use Rattle.xr_types.specs.Names.{are_distinct, axis_names}
-use Rattle.xr_types.specs.Results.{◌>>=◌, all_of}
-use Rattle.xr_types.specs.declared.axis.Axis.{Axis}
-use Rattle.xr_types.specs.declared.fault.Fault.{Fault}
-use Rattle.xr_arrays.specs.declared.node.Node.{Node}
+use Rattle.xr_aligning.proofs.Common.{AllByRecursion, Answers, AreLoose, Arrive, Axis, Bool, CallFault, Change, Comes, Coming, DataArray, Dataset, Err, Fault, How, IfOk, IsArrayIn, IsChange, IsChangeOf, IsDatasetIn, IsDimension, IsFrame, IsLabelledIn, IsLoose, IsReady, KeepsIn, KeepsLabels, Labelled, List, Node, Ok, Option, Result, TakesLabels, Value, [], aligned, all_of, ap, are_distinct, array_in, axes_of, axis_names, check_coord_by, check_coords, check_fill, check_fill_by, check_hole, check_variables, come, dataset_in, distinct_left, each_left, fit_of, fitted, fitted_by, fitted_set, fitted_value, has_labels, labelled_in, map, own_axes, refl, stands_for, subst, sym, true, with_labels, ℤ, ◌>>=◌, ◌∙◌, ◌∷◌, ◌≡◌}
 use Rattle.xr_defs.specs.Meanings as of
-use Rattle.xr_defs.specs.Meanings.{Value}
-use Rattle.xr_defs.specs.WellFormed.{IsDimension}
-use Rattle.xr_relations.specs.Aligning.{axes_of, check_coords, check_fill, check_hole, check_variables, fitted_set, fitted_value, has_labels, with_labels}
-use Rattle.xr_values.specs.declared.data_array.DataArray.{DataArray}
-use Rattle.xr_values.specs.declared.dataset.Dataset.{Dataset}
-use Rattle.xr_values.specs.Stands.{array_in, dataset_in, IsArrayIn, IsDatasetIn}
-use Rattle.xr_operations.specs.Alignment.{aligned, fitted}
-use Rattle.xr_parts.specs.Frames.{IsFrame}
-use Rattle.xr_parts.proofs.Words.{distinct_left, each_left}
-use Rattle.xr_aligning.specs.Coming.{check_coord_by, check_fill_by, come, fitted_by, labelled_in, own_axes, stands_for, Comes, IsChangeOf, IsLabelledIn, IsReady, KeepsIn, TakesLabels}
-use Rattle.xr_aligning.specs.Fits.{fit_of, Arrive}
-use Rattle.xr_aligning.specs.Fitted.{IsChange}
-use Rattle.xr_aligning.specs.Joined.{AreLoose, IsLoose}
-use Rattle.xr_aligning.specs.Sets.{KeepsLabels}
 use Rattle.xr_aligning.proofs.Joining.{are_loose, names_are}
 use Rattle.xr_aligning.proofs.Kept.{all_seen, labels_kept, IsSeen}
-use Rattle.xr_types.specs.declared.fault.CallFault.{CallFault}
-use Rattle.xr_types.specs.declared.operation.How.{How}
-use Rattle.std.specs.Prelude.{IfOk}
-use Rattle.xr_types.specs.Results.{Answers}
-use Rattle.xr_aligning.specs.declared.coming.Coming.{Coming}
-use Rattle.xr_aligning.specs.declared.fits.Change.{Change}
-use Rattle.xr_aligning.specs.declared.labelled.Labelled.{Labelled}
 use Rattle.xr_aligning.specs.declared.labelled.Labelled.TheVariants as labelled
 
 -- ---- their axes

@@ -1,28 +1,8 @@
 -- The checks of a fill, by how axes come to joined ones.
-use Rattle.std.proofs.Common.{◌≡◌, Bor, List, [], ◌∷◌, map, Option, Result, Ok, Err, refl, sym, ap, subst, ◌∙◌}
-use Rattle.std.specs.List.{AllByRecursion}
-use Rattle.xr_types.specs.Results.{◌>>=◌, all_of, Answers}
-use Rattle.xr_types.specs.declared.fault.Fault.{Fault}
-use Rattle.xr_arrays.specs.declared.node.Node.{Node}
-use Rattle.align_join.proofs.Told.{fails}
+use Rattle.xr_aligning.proofs.Common.{AllByRecursion, Answers, Axis, Bor, CallFault, Coming, Coord, DType, Dataset, Err, Fault, Fit, IsFrame, IsThere, List, Node, Ok, Option, Result, Value, Variable, [], all_of, any_hole, ap, axes_called, check_coord_by, check_coords, check_fill_by, check_fill_where, check_hole, check_var_by, check_variables, dataset_in, fails, fit_of, labelled_in, map, refl, stands_for, subst, sym, variable_in, ◌>>=◌, ◌∙◌, ◌∷◌, ◌≡◌}
 use Rattle.xr_defs.specs.Meanings as of
-use Rattle.xr_defs.specs.Parts.{axes_called}
-use Rattle.xr_values.specs.declared.dataset.Dataset.{Dataset}
-use Rattle.xr_values.specs.declared.variable.Variable.{Variable}
-use Rattle.xr_values.specs.Stands.{dataset_in, variable_in}
-use Rattle.xr_types.specs.declared.axis.Axis.{Axis}
-use Rattle.xr_types.specs.declared.fault.CallFault.{CallFault}
-use Rattle.xr_types.specs.declared.kind.DType.{DType}
-use Rattle.xr_defs.specs.Meanings.{Value}
-use Rattle.xr_relations.specs.Aligning.{check_coords, check_hole, check_variables}
-use Rattle.xr_parts.specs.Frames.{IsFrame, IsThere}
 use Rattle.xr_parts.proofs.Axes.{own_axes}
-use Rattle.xr_defs.specs.declared.value.Coord.{Coord}
-use Rattle.xr_aligning.specs.Coming.{check_coord_by, check_fill_by, check_fill_where, check_var_by, labelled_in, stands_for}
-use Rattle.xr_aligning.specs.declared.coming.Coming.{Coming}
 use Rattle.xr_aligning.specs.declared.labelled.Labelled.TheVariants as labelled
-use Rattle.xr_aligning.specs.Fits.{any_hole, fit_of}
-use Rattle.xr_aligning.specs.declared.fits.Fit.{Fit}
 use Rattle.xr_aligning.proofs.Along.{same_hole}
 
 pub hole_told : (joined axes : List Axis) (fs : List Fit) (t : DType) (fill : Option Value) → fs ≡ map (fit_of joined) axes → check_fill_where (any_hole fs) t fill ≡ check_hole joined fill axes t

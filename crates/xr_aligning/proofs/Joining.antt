@@ -1,40 +1,8 @@
 -- Joined axes are as they have to be, but for their sizes: their labels are labels of the axes that are joined.
-use Rattle.std.proofs.Common.{◌≡◌, ◌||◌, ℕ, ℤ, Bool, true, false, not, cond, List, [], ◌∷◌, ◌++◌, fold, length, map, Option, Some, None, Result, Ok, Err, refl, sym, ap, subst, ◌∙◌}
-use Rattle.std.specs.Prelude.{⊤}
-use Rattle.std.specs.declared.cmp.Ordering.{Ordering}
-use Rattle.std.specs.declared.cmp.Ordering.TheVariants.{Less, Equal, Greater}
-use Rattle.std.specs.Ordering.{match_ordering}
-use Rattle.std.specs.List.{All, filter, list_all, list_any, AllByRecursion}
-use Rattle.std.specs.BTreeSet.{insert_key}
-use Rattle.std.specs.Str.{bytes_eq}
-use Rattle.std.proofs.lemmas.Bool.{and_parts}
-use Rattle.std.proofs.lemmas.List.Elements.{All-from_recursion, recursion_from_All}
-use Rattle.xr_types.specs.Kinds.{promoted, InRange}
-use Rattle.xr_types.specs.Names.{among, are_distinct, axis_names}
-use Rattle.xr_types.specs.Results.{◌>>=◌, unless}
-use Rattle.xr_types.specs.declared.axis.Axis.{Axis}
-use Rattle.xr_types.specs.declared.axis.Label.{Label}
-use Rattle.xr_types.specs.declared.axis.Label.TheVariants.{Int, Time, Text}
-use Rattle.xr_types.specs.declared.axis.Labels.{Labels}
-use Rattle.xr_types.specs.declared.axis.LabelList.{LabelList}
-use Rattle.xr_types.specs.declared.axis.LabelList.TheVariants.{Numbers, Times, Texts}
-use Rattle.xr_types.specs.declared.fault.Fault.{Fault}
-use Rattle.xr_types.specs.declared.fault.Fault.TheVariants.{LabelKind, NotAligned, NotUnique, SizeConflict, WouldPromote}
-use Rattle.xr_types.specs.declared.kind.DType.{DType}
-use Rattle.xr_types.specs.declared.operation.How.{How}
+use Rattle.xr_aligning.proofs.Common.{All-from_recursion, AllByRecursion, AreAttributes, AreLabels, AreLoose, Axis, Bool, Calendar, DType, Equal, Err, Fault, Greater, How, InRange, Int, IsDimension, IsIndex, IsLoose, IsTime, Label, LabelKind, LabelList, Labels, Less, List, None, NotAligned, NotUnique, Numbers, Ok, Option, Ordering, Result, SizeConflict, Some, Text, Texts, Time, Times, WouldPromote, [], aligned, all_names, all_of_lists, among, among_both, and_parts, ap, are_distinct, are_kin, ascending, axes_named, axis_names, axis_of, bind_ok, bytes_eq, common_kind, cond, counted, each_left, each_map, false, fold, has_all, has_size, holds_label, in_promoted, indexes, inner, insert_key, is_empty, is_exact, is_integer_kind, itself, join, joined_by, joined_each, joined_index, joined_labels, joined_or_own, labelled_axis, labels_of, last_of, length, list_all, list_any, listed, map, match_ordering, names_once, not, number_kind, number_of, of_called, of_holds, once_among, once_distinct, order, outer_of, promoted, recursion_from_All, refl, relisted, repeats, same_calendar, same_labels, subst, sym, true, unless, unless_ok, ℕ, ℤ, ⊤, ◌++◌, ◌>>=◌, ◌||◌, ◌∙◌, ◌∷◌, ◌≡◌}
+use Rattle.std.specs.List.{All, filter}
 use Rattle.xr_types.specs.declared.operation.How.TheVariants as how
-use Rattle.xr_arrays.specs.Labels.{labels_of, order, repeats}
-use Rattle.xr_types.specs.declared.axis.Calendar.{Calendar}
 use Rattle.xr_types.specs.declared.axis.Calendar.TheVariants as calendars
-use Rattle.xr_times.specs.Times.{IsTime, same_calendar}
-use Rattle.xr_defs.specs.Building.{is_integer_kind, same_labels}
-use Rattle.xr_defs.specs.WellFormed.{AreAttributes, AreLabels, IsDimension, IsIndex}
-use Rattle.xr_operations.specs.Alignment.{aligned, all_names, all_of_lists, are_kin, ascending, axes_named, axis_of, common_kind, has_all, has_size, holds_label, indexes, is_empty, is_exact, join, joined_by, joined_each, joined_index, joined_labels, joined_or_own, labelled_axis, last_of, listed, names_once, number_kind, number_of, outer_of, relisted}
-use Rattle.xr_parts.proofs.Words.{each_left, each_map, itself}
-use Rattle.xr_joining.proofs.JoinedAxes.{among_both, of_called, of_holds, once_among, once_distinct}
-use Rattle.xr_joining.proofs.MeetLaws.{bind_ok, counted, inner, unless_ok}
-use Rattle.xr_joining.proofs.Promoted.{in_promoted}
-use Rattle.xr_aligning.specs.Joined.{AreLoose, IsLoose}
 use Rattle.xr_aligning.proofs.Swapped.{swapped}
 
 -- ---- the joined labels are labels of the lists

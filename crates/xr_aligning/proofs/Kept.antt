@@ -1,25 +1,6 @@
 -- An axis of a value has labels after the join where it has some, and stays bare where it has none.
-use Rattle.std.proofs.Common.{◌≡◌, ◌||◌, ◌&&◌, ℕ, Bool, true, false, cond, List, [], ◌∷◌, length, Option, Some, None, is_some, Ok, refl, sym, ap, subst, ◌∙◌}
-use Rattle.std.specs.List.{list_all, list_any, AllByRecursion}
-use Rattle.std.specs.Str.{bytes_eq}
-use Rattle.xr_types.specs.Names.{among, are_distinct, axis_names}
-use Rattle.xr_types.specs.Results.{◌>>=◌, unless}
-use Rattle.xr_types.specs.declared.axis.Axis.{Axis}
-use Rattle.xr_types.specs.declared.axis.Labels.{Labels}
-use Rattle.xr_types.specs.declared.fault.Fault.TheVariants.{SizeConflict, WouldPromote}
-use Rattle.xr_types.specs.declared.operation.How.{How}
-use Rattle.xr_arrays.specs.Labels.{labels_of}
-use Rattle.xr_defs.specs.Selecting.{axis_called}
-use Rattle.xr_operations.specs.Alignment.{aligned, all_names, axes_named, axis_of, has_all, has_size, indexes, join, joined_each, joined_index, joined_or_own, labelled_axis, names_once}
-use Rattle.xr_relations.specs.Aligning.{has_labels, with_labels}
-use Rattle.xr_values.proofs.Named.{bytes_eq_swap}
-use Rattle.std.proofs.lemmas.Bool.{or_parts}
-use Rattle.xr_joining.proofs.JoinedAxes.{among_both, of_called, once_among}
-use Rattle.xr_joining.proofs.MeetLaws.{bind_ok, inner}
-use Rattle.xr_parts.specs.Frames.{IsThere}
-use Rattle.xr_parts.proofs.Axes.{called_cons, called_holds, own_axes}
-use Rattle.xr_parts.proofs.Words.{distinct_parts, each_left, each_weaker, same_text}
-use Rattle.xr_aligning.specs.Sets.{KeepsLabels}
+use Rattle.xr_aligning.proofs.Common.{AllByRecursion, Axis, Bool, How, IsThere, KeepsLabels, Labels, List, None, Ok, Option, SizeConflict, Some, WouldPromote, [], aligned, all_names, among, among_both, ap, are_distinct, axes_named, axis_called, axis_names, axis_of, bind_ok, bytes_eq, bytes_eq_swap, called_cons, called_holds, cond, distinct_parts, each_left, each_weaker, false, has_all, has_labels, has_size, indexes, inner, is_some, join, joined_each, joined_index, joined_or_own, labelled_axis, labels_of, length, list_all, list_any, names_once, of_called, once_among, or_left, or_parts, or_right, refl, same_text, subst, sym, true, unless, with_labels, ℕ, ◌&&◌, ◌>>=◌, ◌||◌, ◌∙◌, ◌∷◌, ◌≡◌}
+use Rattle.xr_parts.proofs.Axes.{own_axes}
 
 -- ---- the joined axis of a name
 
@@ -115,24 +96,16 @@ later_seen xs lists n some = by (axis_of n xs)
     by None = some
     by (Some y) = more_labels y (axes_named n lists) some
 
-or_first : (a b : Bool) → a ≡ true → (a || b) ≡ true
-or_first true b e = refl
-or_first false b e = absurd cc
-
-or_second : (a b : Bool) → b ≡ true → (a || b) ≡ true
-or_second true b e = refl
-or_second false b e = e
-
 pub all_seen : (lists : List (List Axis)) → AllByRecursion (IsSeen lists) lists
 all_seen [] = tt
 all_seen (xs ∷ lists) = (
   record {
-    names = λ n e. among_both (axis_names xs) (all_names lists) n ∙ or_first (among (axis_names xs) n) (among (all_names lists) n) e;
+    names = λ n e. among_both (axis_names xs) (all_names lists) n ∙ or_left (among (axis_names xs) n) (among (all_names lists) n) e;
     labels = here_seen xs lists;
   },
   each_weaker (IsSeen lists) (IsSeen (xs ∷ lists)) lists
       (λ ys seen. record {
-        names = λ n e. among_both (axis_names xs) (all_names lists) n ∙ or_second (among (axis_names xs) n) (among (all_names lists) n) (seen.names n e);
+        names = λ n e. among_both (axis_names xs) (all_names lists) n ∙ or_right (among (axis_names xs) n) (among (all_names lists) n) (seen.names n e);
         labels = λ n x is some. later_seen xs lists n (seen.labels n x is some);
       }) (all_seen lists),
 )

@@ -1,3 +1,4 @@
+mod Common
 mod Swapped
 mod Joining
 mod Reaching
@@ -5,13 +6,13 @@ mod Takes
 mod Along
 mod Called
 mod Formed
+mod Behind
 mod ArraysAfter
 mod Limited
 mod Assigning
 mod Checked
 mod Firsts
 pub mod Loops
-mod Behind
 mod SetsAfter
 mod Kept
 mod Given

@@ -1,21 +1,6 @@
 -- The limits of a dataset of the program are those of the dataset that it stands for.
-use Rattle.std.proofs.Common.{◌≡◌, ◌≤◌, ◌+◌, ◌&&◌, ℕ, true, false, List, [], ◌∷◌, length, map, Ok, Err, refl, ap, ◌∙◌, arith}
-use Rattle.std.specs.Prelude.{nat_le}
-use Rattle.std.specs.List.{list_all}
-use Rattle.std.proofs.lemmas.Bool.{and_parts}
-use Rattle.std.proofs.lemmas.Bool.Decides.{nat_tests}
-use Rattle.std.proofs.lemmas.List.{length-map}
-use Rattle.xr_types.specs.Results.{unless}
-use Rattle.xr_types.specs.declared.axis.Axis.{Axis}
-use Rattle.xr_types.specs.declared.fault.Fault.TheVariants.{TooLarge}
-use Rattle.xr_arrays.specs.declared.node.Node.{Node}
-use Rattle.xr_defs.specs.Limits.{most_cells, most_variables}
-use Rattle.xr_defs.specs.Selecting.{are_within, check_set, is_within, variable_array}
+use Rattle.xr_aligning.proofs.Common.{Axis, Dataset, Err, List, Node, Ok, TooLarge, Variable, [], and_parts, ap, are_variables_within, are_within, arith, check_set, dataset_in, false, is_set_within, is_within, length, length-map, list_all, map, most_cells, most_variables, nat_le, nat_tests, refl, sizes_called, true, unless, variable_array, variable_in, ℕ, ◌&&◌, ◌+◌, ◌∙◌, ◌∷◌, ◌≡◌, ◌≤◌}
 use Rattle.xr_defs.specs.Values as of
-use Rattle.xr_values.specs.declared.dataset.Dataset.{Dataset}
-use Rattle.xr_values.specs.declared.variable.Variable.{Variable}
-use Rattle.xr_values.specs.Stands.{dataset_in, variable_in}
-use Rattle.xr_aligning.specs.Limits.{are_variables_within, is_set_within, sizes_called}
 
 pub sizes_rank : (axes : List Axis) (dims : List (List ℕ)) → length (sizes_called axes dims) ≡ length dims
 sizes_rank axes dims = length-map dims (λ d. (Rattle.xr_defs.specs.Selecting.axis_called axes d).size)

@@ -1,12 +1,5 @@
 -- A list at one of its places, as a loop over a slice takes it.
-use Rattle.std.proofs.Common.{◌≡◌, ◌∙◌, ℕ, zero, suc, ◌<◌, ◌+◌, List, [], ◌∷◌, ◌++◌, length, get_or, drop, map, Result, Ok, Err, arith, sym, ap, subst, append_assoc}
-use Rattle.std.specs.List.{AllByRecursion}
-use Rattle.std.proofs.lemmas.List.{map-append}
-use Rattle.xr_types.specs.Results.{◌>>=◌, Answers}
-use Rattle.xr_types.specs.declared.fault.CallFault.{CallFault}
-use Rattle.xr_types.specs.declared.fault.CallFault.TheVariants.{Refused, Declined, NoMemory}
-use Rattle.xr_types.specs.declared.fault.Fault.{Fault}
-use Rattle.xr_values.proofs.Places.{from_place}
+use Rattle.xr_aligning.proofs.Common.{AllByRecursion, Answers, CallFault, Declined, Err, Fault, List, NoMemory, Ok, Refused, Result, [], ap, append_assoc, arith, drop, from_place, get_or, length, map, map-append, subst, suc, sym, zero, ℕ, ◌++◌, ◌+◌, ◌<◌, ◌>>=◌, ◌∙◌, ◌∷◌, ◌≡◌}
 
 each_at : {X : Type 0} (P : X → Type 0) (xs : List X) (i : ℕ) (d : X) → i < length xs → AllByRecursion P xs → P (get_or xs i d)
 each_at P [] i d inside all = absurd (omega arith)

@@ -1,20 +1,7 @@
 -- Values over joined axes, added to a plan one after the other.
-use Rattle.std.proofs.Common.{◌≡◌, ℤ, List, [], ◌∷◌, ◌++◌, map, All, Option, refl, sym, ap, subst, ◌∙◌, append_assoc}
-use Rattle.std.specs.List.{AllByRecursion}
-use Rattle.std.proofs.lemmas.List.{append-nil, map-append}
-use Rattle.std.proofs.lemmas.List.Elements.{All-nil, All-cons, All-head, All-tail, All-append}
-use Rattle.plan_core.specs.Plans.{Grows}
-use Rattle.plan_core.proofs.Plans.{grows_by_none, grows_on}
-use Rattle.xr_arrays.specs.declared.node.Node.{Node}
+use Rattle.xr_aligning.proofs.Common.{All, All-append, All-cons, All-head, All-nil, All-tail, AllByRecursion, ArePlaced, Coming, Grows, IsLabelledIn, IsReady, IsValueIn, Labelled, List, Node, Option, [], ap, append-nil, append_assoc, array_kept, come, dataset_kept, fitted_by, grows_by_none, grows_on, labelled_in, map, map-append, meaning, meaning_kept, refl, stays_array, stays_dataset, stays_value, subst, sym, ℤ, ◌++◌, ◌∙◌, ◌∷◌, ◌≡◌}
 use Rattle.xr_defs.specs.Meanings as of
 use Rattle.xr_values.specs.declared.value.Value.{Value}
-use Rattle.xr_values.specs.Meaning.{meaning, IsValueIn}
-use Rattle.xr_values.proofs.Grown.{array_kept, dataset_kept, stays_array, stays_dataset}
-use Rattle.xr_values.proofs.Meaning.{meaning_kept, stays_value}
-use Rattle.xr_aligning.specs.Aligned.{ArePlaced}
-use Rattle.xr_aligning.specs.Coming.{come, fitted_by, labelled_in, IsLabelledIn, IsReady}
-use Rattle.xr_aligning.specs.declared.coming.Coming.{Coming}
-use Rattle.xr_aligning.specs.declared.labelled.Labelled.{Labelled}
 use Rattle.xr_aligning.specs.declared.labelled.Labelled.TheVariants as labelled
 
 module _ (old new : List Node) (grows : Grows old new) where

@@ -1,18 +1,6 @@
 -- Axes that come to joined ones.
-use Rattle.std.proofs.Common.{◌≡◌, ℕ, Bool, true, false, cond, List, [], ◌∷◌, length, map, Some, None, refl, sym, ap, subst, ◌∙◌}
-use Rattle.std.specs.Prelude.{is_none}
-use Rattle.std.specs.List.{All, list_any, range_with_len}
-use Rattle.xr_types.specs.Names.{among, axis_names}
-use Rattle.xr_types.specs.declared.axis.Axis.{Axis}
-use Rattle.xr_arrays.specs.Nodes.{IsBelow}
-use Rattle.xr_defs.specs.Selecting.{axis_called}
-use Rattle.xr_operations.specs.Alignment.{each_position, joined_in, sources}
-use Rattle.align_join.specs.Joined.{stays}
-use Rattle.align_join.proofs.Told.{stays_each}
-use Rattle.xr_parts.proofs.Axes.{called_name}
-use Rattle.xr_joining.proofs.MeetLaws.{comes_stay}
-use Rattle.xr_aligning.specs.declared.fits.Fit.{Fit}
-use Rattle.xr_aligning.specs.Fits.{fit_of, fit_to, unless_stays, Arrives, Reaches}
+use Rattle.xr_aligning.proofs.Common.{Arrives, Axis, Bool, Fit, IsBelow, List, None, Reaches, Some, [], among, ap, axis_called, axis_names, called_name, comes_stay, cond, each_position, false, fit_of, fit_to, is_none, joined_in, length, list_any, map, range_with_len, refl, sources, stays, stays_each, subst, sym, true, unless_stays, ℕ, ◌∙◌, ◌∷◌, ◌≡◌}
+use Rattle.std.specs.List.{All}
 
 pub joined_name : (joined : List Axis) (x : Axis) → (joined_in joined x).name ≡ x.name
 joined_name joined x = by (among (axis_names joined) x.name) refl

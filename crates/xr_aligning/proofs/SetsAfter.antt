@@ -1,46 +1,12 @@
 -- Datasets over joined axes are as they have to be.
-use Rattle.std.proofs.Common.{◌≡◌, ◌≤◌, ◌<◌, ◌+◌, ◌-◌, ◌||◌, ◌&&◌, ℕ, ℤ, Bool, true, false, cond, List, [], ◌∷◌, ◌++◌, length, map, get_or, take, drop, Option, is_some, Result, Ok, Err, arith, refl, sym, ap, subst, ◌∙◌}
-use Rattle.std.specs.Prelude.{nat_le, OnOk}
-use Rattle.std.specs.List.{list_all, list_any, AllByRecursion}
-use Rattle.std.proofs.lemmas.List.{length-map}
-use Rattle.std.proofs.lemmas.List.Elements.{All-from_recursion, recursion_from_All}
-use Rattle.plan_core.specs.Plans.{Grows}
-use Rattle.xr_types.specs.Names.{among, are_distinct, axis_names, shape_over}
-use Rattle.xr_types.specs.declared.attr.Attr.{Attr}
-use Rattle.xr_types.specs.declared.axis.Axis.{Axis}
-use Rattle.xr_arrays.specs.declared.node.Node.{Node}
-use Rattle.xr_arrays.specs.Arrays.{Array, IsCell}
-use Rattle.xr_arrays.specs.Nodes.{value}
-use Rattle.xr_defs.specs.Decoding.{is_kept}
-use Rattle.xr_defs.specs.Limits.{most_cells, most_variables}
-use Rattle.xr_defs.specs.Parts.{axes_called}
-use Rattle.xr_defs.specs.Selecting.{axis_called, is_within, variable_array}
+use Rattle.xr_aligning.proofs.Common.{All-from_recursion, AllByRecursion, AreCells, AreFitted, AreLoose, ArePut, AreVarsAfter, Array, Arrive, Arrives, Attr, Axis, Bool, CanPut, Change, Coord, Dataset, Err, Fit, Grows, IsCell, IsCoordinate, IsDataset, IsDatasetIn, IsNodeOf, IsSetAfter, IsValueOf, IsVarAfter, IsVarHere, IsVariable, KeepsLabels, List, Node, Ok, OnOk, Option, Result, Variable, [], among, any_hole, ap, are_distinct, arith, axes_called, axis_called, axis_names, called_holds, cells_after, cond, dataset_in, drop, false, fill_in, fit_of, fitted_cells, fitted_coord, fitted_set, fitted_variable, get_or, has_hole, is_kept, is_some, is_within, joined_in, labelled, length, length-map, list_all, list_any, map, masked_with, most_cells, most_variables, names_of, nat_le, own_sizes, put_behind, recursion_from_All, refl, shape_over, sizes, sizes_after, sizes_called, split, subst, sym, take, true, value, variable_array, variable_in, variable_names, with_variable, with_variables, ℕ, ℤ, ◌&&◌, ◌++◌, ◌+◌, ◌-◌, ◌<◌, ◌||◌, ◌∙◌, ◌∷◌, ◌≡◌, ◌≤◌}
 use Rattle.xr_defs.specs.Values as of
-use Rattle.xr_defs.specs.WellFormed.{labelled, names_of, variable_names, AreCells, IsCoordinate, IsDataset, IsVariable}
-use Rattle.xr_defs.specs.declared.value.Coord.{Coord}
-use Rattle.xr_operations.specs.Alignment.{fitted_cells, fitted_coord, has_hole, joined_in, masked_with}
-use Rattle.xr_relations.specs.Aligning.{fitted_set, fitted_variable}
-use Rattle.xr_values.specs.declared.dataset.Dataset.{Dataset}
-use Rattle.xr_values.specs.declared.variable.Variable.{Variable}
-use Rattle.xr_values.specs.Stands.{dataset_in, variable_in, IsDatasetIn, IsNodeOf}
-use Rattle.xr_values.specs.Variables.{with_variable, with_variables}
 use Rattle.xr_values.specs.Variables as named
-use Rattle.xr_values.proofs.Named.{put_behind}
-use Rattle.xr_parts.proofs.Axes.{called_holds}
-use Rattle.xr_parts.proofs.Words.{split}
-use Rattle.xr_formulas.specs.Chains.{IsValueOf}
-use Rattle.xr_aligning.specs.declared.fits.Fit.{Fit}
-use Rattle.xr_aligning.specs.Fits.{any_hole, cells_after, fill_in, fit_of, own_sizes, sizes, Arrive, Arrives}
-use Rattle.xr_aligning.specs.Fitted.{AreFitted}
-use Rattle.xr_aligning.specs.Joined.{AreLoose}
-use Rattle.xr_aligning.specs.Limits.{sizes_called}
-use Rattle.xr_aligning.specs.declared.fits.Change.{Change}
-use Rattle.xr_aligning.specs.Sets.{sizes_after, ArePut, CanPut, AreVarsAfter, IsSetAfter, IsVarAfter, IsVarHere, KeepsLabels}
 use Rattle.xr_aligning.proofs.Along.{after_is, same_hole}
-use Rattle.xr_aligning.proofs.Assigning.{same_variable, still, var_names}
-use Rattle.xr_aligning.proofs.Called.{own_over, sizes_over}
+use Rattle.xr_aligning.proofs.Assigning.{all_formed, all_placed, same_variable, still, var_names}
+use Rattle.xr_aligning.proofs.Called.{own_over, sizes_over, there_hold}
 use Rattle.xr_aligning.proofs.Firsts.{each_rest, whole_list}
-use Rattle.xr_aligning.proofs.Formed.{called_after, cells_formed, each_dimension, over_arrive, same_coord_names, same_names}
+use Rattle.xr_aligning.proofs.Formed.{called_after, cells_formed, each_dimension, same_coord_names, same_names}
 
 -- ---- the axes that a variable names
 
@@ -207,14 +173,6 @@ module _ (old new : List Node) (joined own : List Axis) (fill : Option ℤ) wher
   same_dims [] n = refl
   same_dims (v ∷ vs) n = ap (λ b. among v.dims n || b) (same_dims vs n)
 
-all_formed : (nodes : List Node) (axes : List Axis) (ws : List Variable) → AllByRecursion (IsVarHere nodes axes) ws → AllByRecursion (IsVariable axes) (map (variable_in nodes) ws)
-all_formed nodes axes [] all = tt
-all_formed nodes axes (w ∷ ws) all = (all.0.formed, all_formed nodes axes ws all.1)
-
-all_placed : (nodes : List Node) (axes : List Axis) (ws : List Variable) → AllByRecursion (IsVarHere nodes axes) ws → AllByRecursion (λ (v : Variable). IsNodeOf nodes v.node (sizes_called axes v.dims) v.kind) ws
-all_placed nodes axes [] all = tt
-all_placed nodes axes (w ∷ ws) all = (all.0.node, all_placed nodes axes ws all.1)
-
 -- the variables of a dataset of the plan
 pub vars_of : (nodes : List Node) (s : Dataset) → IsDatasetIn nodes s → AllByRecursion (IsVarHere nodes s.axes) s.vars
 vars_of nodes s is = both s.vars (recursion_from_All (λ (v : Variable). IsNodeOf nodes v.node (sizes_called s.axes v.dims) v.kind) s.vars is.nodes_of) is.formed.vars
@@ -256,7 +214,7 @@ module _ (joined : List Axis) where
 
 coords_arrive : (joined own : List Axis) → Arrive joined own → (fill : Option ℤ) (coords : List Coord) → AllByRecursion (IsCoordinate own) coords → AllByRecursion (λ (c : Coord). Arrive joined c.axes) coords
 coords_arrive joined own all fill [] is = tt
-coords_arrive joined own all fill (c ∷ coords) is = (over_arrive joined fill own all c.axes is.0.over, coords_arrive joined own all fill coords is.1)
+coords_arrive joined own all fill (c ∷ coords) is = (there_hold (Arrives joined) own c.axes all is.0.over, coords_arrive joined own all fill coords is.1)
 
 short_sizes : (joined xs : List Axis) → list_all (λ n. nat_le n most_cells) (sizes (map (fit_of joined) xs)) ≡ list_all (λ n. nat_le n most_cells) (shape_over (map (joined_in joined) xs))
 short_sizes joined xs = ap (list_all (λ n. nat_le n most_cells)) (sizes_over joined xs)

@@ -1,29 +1,8 @@
 -- The limits of values over joined axes, by their sizes.
-use Rattle.std.proofs.Common.{◌≡◌, ◌≤◌, ◌+◌, ◌&&◌, ℕ, ℤ, Bool, true, false, Bor, List, [], ◌∷◌, length, map, Option, Result, Ok, Err, refl, sym, ap, subst, ◌∙◌, arith}
-use Rattle.std.specs.Prelude.{nat_le, IfOk}
-use Rattle.std.specs.List.{list_all, AllByRecursion}
-use Rattle.std.proofs.lemmas.Bool.Decides.{nat_tests}
-use Rattle.std.proofs.lemmas.List.{length-map}
-use Rattle.xr_types.specs.Names.{shape_over}
-use Rattle.xr_types.specs.Results.{unless}
-use Rattle.xr_types.specs.declared.axis.Axis.{Axis}
-use Rattle.xr_types.specs.declared.fault.Fault.TheVariants.{TooLarge}
-use Rattle.xr_arrays.specs.declared.node.Node.{Node}
-use Rattle.xr_defs.specs.Limits.{most_cells, most_variables}
+use Rattle.xr_aligning.proofs.Common.{AllByRecursion, Arrive, Axis, Bool, Bor, Comes, Coming, DataArray, Dataset, Err, IfOk, IsDatasetIn, IsLabelledIn, IsVarHere, List, Node, Ok, Option, Result, TooLarge, Variable, [], ap, are_few, are_vars_within, are_within, arith, array_in, check_size, come, dataset_in, false, fitted, fitted_by, fitted_coord, fitted_set, fitted_variable, is_within, joined_in, labelled_in, length, length-map, list_all, map, most_cells, most_variables, nat_le, nat_tests, own_axes, refl, shape_over, subst, sym, true, unless, variable_array, variable_in, ℕ, ℤ, ◌&&◌, ◌+◌, ◌∙◌, ◌∷◌, ◌≡◌, ◌≤◌}
 use Rattle.xr_defs.specs.Meanings as of
-use Rattle.xr_defs.specs.Selecting.{are_few, are_within, is_within, variable_array}
 use Rattle.xr_defs.specs.Values as sets
-use Rattle.xr_operations.specs.Alignment.{fitted, fitted_coord, joined_in}
-use Rattle.xr_relations.specs.Aligning.{check_size, fitted_set, fitted_variable}
-use Rattle.xr_values.specs.declared.data_array.DataArray.{DataArray}
-use Rattle.xr_values.specs.declared.dataset.Dataset.{Dataset}
-use Rattle.xr_values.specs.declared.variable.Variable.{Variable}
-use Rattle.xr_values.specs.Stands.{array_in, dataset_in, variable_in, IsDatasetIn}
-use Rattle.xr_aligning.specs.Coming.{come, fitted_by, labelled_in, own_axes, Comes, IsLabelledIn}
-use Rattle.xr_aligning.specs.Fits.{Arrive}
-use Rattle.xr_aligning.specs.declared.coming.Coming.{Coming}
 use Rattle.xr_aligning.specs.declared.labelled.Labelled.TheVariants as labelled
-use Rattle.xr_aligning.specs.Sets.{are_vars_within, IsVarHere}
 use Rattle.xr_aligning.proofs.SetsAfter.{sizes_new, vars_of}
 
 pub array_size : (nodes : List Node) (joined : List Axis) (fill : Option ℤ) (a : DataArray)

@@ -1,91 +1,26 @@
 -- Two kinds of whole numbers are promoted to the same kind in both orders.
-use Rattle.std.proofs.Common.{◌≡◌, true, refl}
-use Rattle.xr_types.specs.Kinds.{promoted}
-use Rattle.xr_types.specs.declared.kind.DType.{DType}
-use Rattle.xr_types.specs.declared.kind.DType.TheVariants.{Int8, Int16, Int32, Int64, UInt8, UInt16, UInt32, UInt64}
-use Rattle.xr_types.specs.declared.kind.DType.TheVariants as kinds
-use Rattle.xr_defs.specs.Building.{is_integer_kind}
+use Rattle.xr_aligning.proofs.Common.{DType, Int16, Int32, Int64, Int8, UInt16, UInt32, UInt64, UInt8, is_integer_kind, promoted, refl, true, ◌≡◌}
+
+-- what holds of each kind of whole numbers
+each : (P : DType → Type 0) → P Int8 → P Int16 → P Int32 → P Int64 → P UInt8 → P UInt16 → P UInt32 → P UInt64 → (t : DType) → is_integer_kind t ≡ true → P t
+each P a b c d e f g h Int8 is = a
+each P a b c d e f g h Int16 is = b
+each P a b c d e f g h Int32 is = c
+each P a b c d e f g h Int64 is = d
+each P a b c d e f g h UInt8 is = e
+each P a b c d e f g h UInt16 is = f
+each P a b c d e f g h UInt32 is = g
+each P a b c d e f g h UInt64 is = h
+each P a b c d e f g h t is = absurd cc
 
 pub swapped : (t u : DType) → is_integer_kind t ≡ true → is_integer_kind u ≡ true → promoted t u ≡ promoted u t
-swapped kinds.Bool u i j = absurd cc
-swapped kinds.Char u i j = absurd cc
-swapped Int8 kinds.Bool i j = absurd cc
-swapped Int8 kinds.Char i j = absurd cc
-swapped Int8 Int8 i j = refl
-swapped Int8 Int16 i j = refl
-swapped Int8 Int32 i j = refl
-swapped Int8 Int64 i j = refl
-swapped Int8 UInt8 i j = refl
-swapped Int8 UInt16 i j = refl
-swapped Int8 UInt32 i j = refl
-swapped Int8 UInt64 i j = refl
-swapped Int16 kinds.Bool i j = absurd cc
-swapped Int16 kinds.Char i j = absurd cc
-swapped Int16 Int8 i j = refl
-swapped Int16 Int16 i j = refl
-swapped Int16 Int32 i j = refl
-swapped Int16 Int64 i j = refl
-swapped Int16 UInt8 i j = refl
-swapped Int16 UInt16 i j = refl
-swapped Int16 UInt32 i j = refl
-swapped Int16 UInt64 i j = refl
-swapped Int32 kinds.Bool i j = absurd cc
-swapped Int32 kinds.Char i j = absurd cc
-swapped Int32 Int8 i j = refl
-swapped Int32 Int16 i j = refl
-swapped Int32 Int32 i j = refl
-swapped Int32 Int64 i j = refl
-swapped Int32 UInt8 i j = refl
-swapped Int32 UInt16 i j = refl
-swapped Int32 UInt32 i j = refl
-swapped Int32 UInt64 i j = refl
-swapped Int64 kinds.Bool i j = absurd cc
-swapped Int64 kinds.Char i j = absurd cc
-swapped Int64 Int8 i j = refl
-swapped Int64 Int16 i j = refl
-swapped Int64 Int32 i j = refl
-swapped Int64 Int64 i j = refl
-swapped Int64 UInt8 i j = refl
-swapped Int64 UInt16 i j = refl
-swapped Int64 UInt32 i j = refl
-swapped Int64 UInt64 i j = refl
-swapped UInt8 kinds.Bool i j = absurd cc
-swapped UInt8 kinds.Char i j = absurd cc
-swapped UInt8 Int8 i j = refl
-swapped UInt8 Int16 i j = refl
-swapped UInt8 Int32 i j = refl
-swapped UInt8 Int64 i j = refl
-swapped UInt8 UInt8 i j = refl
-swapped UInt8 UInt16 i j = refl
-swapped UInt8 UInt32 i j = refl
-swapped UInt8 UInt64 i j = refl
-swapped UInt16 kinds.Bool i j = absurd cc
-swapped UInt16 kinds.Char i j = absurd cc
-swapped UInt16 Int8 i j = refl
-swapped UInt16 Int16 i j = refl
-swapped UInt16 Int32 i j = refl
-swapped UInt16 Int64 i j = refl
-swapped UInt16 UInt8 i j = refl
-swapped UInt16 UInt16 i j = refl
-swapped UInt16 UInt32 i j = refl
-swapped UInt16 UInt64 i j = refl
-swapped UInt32 kinds.Bool i j = absurd cc
-swapped UInt32 kinds.Char i j = absurd cc
-swapped UInt32 Int8 i j = refl
-swapped UInt32 Int16 i j = refl
-swapped UInt32 Int32 i j = refl
-swapped UInt32 Int64 i j = refl
-swapped UInt32 UInt8 i j = refl
-swapped UInt32 UInt16 i j = refl
-swapped UInt32 UInt32 i j = refl
-swapped UInt32 UInt64 i j = refl
-swapped UInt64 kinds.Bool i j = absurd cc
-swapped UInt64 kinds.Char i j = absurd cc
-swapped UInt64 Int8 i j = refl
-swapped UInt64 Int16 i j = refl
-swapped UInt64 Int32 i j = refl
-swapped UInt64 Int64 i j = refl
-swapped UInt64 UInt8 i j = refl
-swapped UInt64 UInt16 i j = refl
-swapped UInt64 UInt32 i j = refl
-swapped UInt64 UInt64 i j = refl
+swapped t u i j =
+    each (λ t. promoted t u ≡ promoted u t)
+    (each (λ u. promoted Int8 u ≡ promoted u Int8) refl refl refl refl refl refl refl refl u j)
+    (each (λ u. promoted Int16 u ≡ promoted u Int16) refl refl refl refl refl refl refl refl u j)
+    (each (λ u. promoted Int32 u ≡ promoted u Int32) refl refl refl refl refl refl refl refl u j)
+    (each (λ u. promoted Int64 u ≡ promoted u Int64) refl refl refl refl refl refl refl refl u j)
+    (each (λ u. promoted UInt8 u ≡ promoted u UInt8) refl refl refl refl refl refl refl refl u j)
+    (each (λ u. promoted UInt16 u ≡ promoted u UInt16) refl refl refl refl refl refl refl refl u j)
+    (each (λ u. promoted UInt32 u ≡ promoted u UInt32) refl refl refl refl refl refl refl refl u j)
+    (each (λ u. promoted UInt64 u ≡ promoted u UInt64) refl refl refl refl refl refl refl refl u j) t i

@@ -1,15 +1,5 @@
 -- Positions taken along each axis, one after another, show the cells at the positions of all, or the fill.
-use Rattle.std.proofs.Common.{◌≡◌, ◌<◌, ◌+◌, ℕ, ℤ, List, [], ◌∷◌, ◌++◌, length, map, set, get_or, Option, Some, None, option_map, refl, sym, ap, subst, ◌∙◌, append_assoc, length-append}
-use Rattle.std.specs.Prelude.{IfSome}
-use Rattle.std.proofs.Math.Seq.{get_or-append_seam, set-append_seam}
-use Rattle.xr_types.specs.Points.{IsPoint, size}
-use Rattle.xr_arrays.specs.Arrays.{Array, at, made}
-use Rattle.xr_arrays.specs.Nodes.{along, from_source, taken_from}
-use Rattle.xr_operations.specs.Alignment.{cell_or, source_point}
-use Rattle.plan_core.proofs.Tabs.{tab-length}
-use Rattle.xr_joining.specs.Fitted.{AreBelow}
-use Rattle.xr_joining.proofs.Cells.{both_points, made_at, made_by, point_length}
-use Rattle.xr_joining.proofs.Takes.{source_inside}
+use Rattle.xr_aligning.proofs.Common.{AreBelow, Array, IfSome, IsPoint, List, None, Option, Some, [], along, ap, append_assoc, at, both_points, cell_or, from_source, get_or, get_or-append_seam, length, length-append, made, made_at, made_by, map, option_map, point_length, refl, set, set-append_seam, size, source_inside, source_point, subst, sym, tab-length, taken_from, ℕ, ℤ, ◌++◌, ◌+◌, ◌<◌, ◌∙◌, ◌∷◌, ◌≡◌}
 
 module _ (fill : Option ℤ) where
   -- positions of each axis from this one on

@@ -1,13 +1,7 @@
 -- What `align` answers.
 use Rattle.std.specs.Prelude.{◌≡◌, ◌∷◌, ◌++◌, ℕ, ℤ, Bool, List, [], map, Option, Result, Ok, Err, All, codes}
-use Rattle.std.specs.List.{list_all}
-use Rattle.xr_types.specs.Names.{among}
-use Rattle.xr_types.specs.declared.fault.CallFault.{CallFault}
-use Rattle.xr_types.specs.declared.fault.Fault.{Fault}
-use Rattle.xr_arrays.specs.declared.node.Node.{Node}
+use Rattle.xr_aligning.specs.Common.{CallFault, Fails, Fault, IsValueIn, Node, among, list_all, meaning}
 use Rattle.xr_defs.specs.Meanings as of
-use Rattle.xr_values.specs.Answers.{Fails}
-use Rattle.xr_values.specs.Meaning.{meaning, IsValueIn}
 use Rattle.xr_values.specs.declared.value.Value.{Value}
 use Rattle.xr_aligning.specs.Coming.{come}
 use Rattle.xr_aligning.specs.declared.coming.Coming.{Coming}

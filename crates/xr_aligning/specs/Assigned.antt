@@ -1,25 +1,10 @@
 -- A variable that is put into a dataset, as it is made.
 use Rattle.std.specs.Prelude.{◌≡◌, ◌≤◌, ◌+◌, ◌||◌, ◌++◌, ℕ, Bool, true, false, not, List, [], ◌∷◌, length, map, filter, None, Result, Ok}
-use Rattle.std.specs.Str.{bytes_eq}
-use Rattle.std.specs.List.{list_any, AllByRecursion}
-use Rattle.xr_types.specs.Names.{among, axis_names}
+use Rattle.xr_aligning.specs.Common.{AllByRecursion, Axis, Coord, DataArray, Dataset, Fault, IsDatasetIn, Node, Variable, aligned, among, array_in, axis_names, bytes_eq, check_names, dataset_in, fitted, has_coord, has_index, is_busy, is_reserved, joined_in, list_any, most_variables, with_variable, without_variable}
 use Rattle.xr_types.specs.Results.{◌>>=◌}
-use Rattle.xr_types.specs.declared.axis.Axis.{Axis}
-use Rattle.xr_types.specs.declared.fault.Fault.{Fault}
 use Rattle.xr_types.specs.declared.operation.How.TheVariants as how
-use Rattle.xr_arrays.specs.declared.node.Node.{Node}
-use Rattle.xr_defs.specs.Limits.{most_variables}
 use Rattle.xr_defs.specs.Values as of
-use Rattle.xr_defs.specs.Selecting.{axis_called}
-use Rattle.xr_defs.specs.declared.value.Coord.{Coord}
-use Rattle.xr_operations.specs.Alignment.{aligned, fitted, joined_in}
-use Rattle.xr_relations.specs.Aligning.{check_names, has_coord, has_index, is_reserved, with_variable as with_put, without_variable}
-use Rattle.xr_values.specs.declared.data_array.DataArray.{DataArray}
-use Rattle.xr_values.specs.declared.dataset.Dataset.{Dataset}
-use Rattle.xr_values.specs.declared.variable.Variable.{Variable}
-use Rattle.xr_values.specs.Variables.{with_variable}
-use Rattle.xr_values.specs.Stands.{array_in, dataset_in, IsDatasetIn}
-use Rattle.xr_reducing.specs.Reduced.{is_busy}
+use Rattle.xr_relations.specs.Aligning.{with_variable as with_put}
 
 -- ---- the dataset without the variable
 
@@ -63,18 +48,9 @@ set_with axes s name a =
 abbrev pub Stays : List Axis → Axis → Type 0
 Stays axes x = (among (axis_names axes) x.name ≡ true) × ((joined_in axes x).size ≡ x.size)
 
--- a dimension so
-abbrev pub StaysNamed : List Axis → List Axis → List ℕ → Type 0
-StaysNamed axes own d = (among (axis_names axes) d ≡ true) × ((axis_called axes d).size ≡ (axis_called own d).size)
-
 -- no coordinate and no index has the name of a variable
 abbrev pub IsApart : List Axis → List Coord → Variable → Type 0
 IsApart axes coords v = (has_index axes v.name ≡ false) × (has_coord coords v.name ≡ false)
-
-pub record Stay (axes : List Axis) (s : Dataset) (name : List ℕ) (a : DataArray) : Type 0 where
-  pub coords : AllByRecursion (λ (c : Coord). AllByRecursion (Stays axes) c.axes) s.coords
-  pub vars : AllByRecursion (λ (v : Variable). AllByRecursion (StaysNamed axes s.axes) v.dims) (others name s.vars)
-  pub named : AllByRecursion (λ (x : Axis). among (axis_names axes) x.name ≡ true) a.axes
 
 -- ---- the call in two steps
 

@@ -1,20 +1,8 @@
 -- The arrays and datasets that `align` is given, and how each comes to joined axes.
 use Rattle.std.specs.Prelude.{◌≡◌, ℤ, Bool, List, map, Option, Result, Ok, if◌then◌else◌}
-use Rattle.std.specs.List.{AllByRecursion}
-use Rattle.xr_types.specs.Results.{◌>>=◌, all_of}
-use Rattle.xr_types.specs.declared.axis.Axis.{Axis}
-use Rattle.xr_types.specs.declared.fault.Fault.{Fault}
-use Rattle.xr_types.specs.declared.kind.DType.{DType}
-use Rattle.xr_arrays.specs.declared.node.Node.{Node}
+use Rattle.xr_aligning.specs.Common.{AllByRecursion, Axis, Coord, DType, Fault, IsArrayIn, IsDatasetIn, Node, Value, Variable, all_of, array_in, axes_called, check_content, check_coords, check_fill_for, check_fits, check_hole, check_variables, dataset_in, fitted, fitted_set, literal_for, with_labels}
+use Rattle.xr_types.specs.Results.{◌>>=◌}
 use Rattle.xr_defs.specs.Meanings as of
-use Rattle.xr_defs.specs.Parts.{axes_called}
-use Rattle.xr_defs.specs.declared.value.Coord.{Coord}
-use Rattle.xr_values.specs.declared.variable.Variable.{Variable}
-use Rattle.xr_defs.specs.Meanings.{Value}
-use Rattle.xr_operations.specs.Alignment.{fitted}
-use Rattle.xr_operations.specs.CellMethods.{check_fits, literal_for}
-use Rattle.xr_relations.specs.Aligning.{check_content, check_coords, check_fill_for, check_hole, check_variables, fitted_set, with_labels}
-use Rattle.xr_values.specs.Stands.{array_in, dataset_in, IsArrayIn, IsDatasetIn}
 use Rattle.xr_aligning.specs.Fits.{fit_of, Arrive}
 use Rattle.xr_aligning.specs.Joined.{AreLoose}
 use Rattle.xr_aligning.specs.Sets.{KeepsLabels}

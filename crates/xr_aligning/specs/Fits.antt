@@ -1,14 +1,7 @@
 -- How the axes of a value come to joined ones, and cells along them, one axis after another.
-use Rattle.std.specs.Prelude.{◌≡◌, ◌+◌, ℕ, ℤ, Bool, true, false, List, [], ◌∷◌, length, map, Option, Some, None, is_none, All, ⊤, if◌then◌else◌}
-use Rattle.std.specs.Str.{bytes_eq}
-use Rattle.std.specs.List.{list_any, AllByRecursion}
-use Rattle.xr_types.specs.declared.axis.Axis.{Axis}
-use Rattle.xr_arrays.specs.Arrays.{Array, IsCell}
-use Rattle.xr_arrays.specs.Nodes.{taken_from, IsBelow}
-use Rattle.xr_defs.specs.declared.value.Content.{Content}
+use Rattle.std.specs.Prelude.{◌≡◌, ◌+◌, ℕ, ℤ, Bool, true, false, List, [], ◌∷◌, ◌++◌, length, map, Option, Some, None, is_none, All, ⊤, if◌then◌else◌}
+use Rattle.xr_aligning.specs.Common.{AllByRecursion, Array, Axis, Content, IsBelow, IsCell, Step, Take, bytes_eq, joined_in, list_any, masked_with, sources, stays, steps_value}
 use Rattle.xr_defs.specs.declared.value.Content.TheVariants as contents
-use Rattle.xr_operations.specs.Alignment.{joined_in, masked_with, sources}
-use Rattle.align_join.specs.Joined.{stays}
 use Rattle.xr_aligning.specs.declared.fits.Fit.{Fit}
 
 -- ---- one axis
@@ -60,16 +53,17 @@ abbrev pub fill_in : Bool → Option ℤ → Option ℤ
 fill_in true fill = fill
 fill_in false fill = None
 
-abbrev pub taken_by : Option (List (Option ℕ)) → ℕ → Option ℤ → Array → Array
-taken_by None k fill a = a
-taken_by (Some from) k fill a = taken_from a k from fill
+-- the steps along axes that stand from number k on
+abbrev pub step_by : Option ℤ → ℕ → Option (List (Option ℕ)) → List Step
+step_by fill k None = []
+step_by fill k (Some from) = Take k from fill false ∷ []
 
-abbrev pub taken_along : ℕ → Option ℤ → List Fit → Array → Array
-taken_along k fill [] a = a
-taken_along k fill (f ∷ fs) a = taken_along (k + 1) fill fs (taken_by f.from k fill a)
+abbrev pub steps_from : Option ℤ → ℕ → List Fit → List Step
+steps_from fill k [] = []
+steps_from fill k (f ∷ fs) = step_by fill k f.from ++ steps_from fill (k + 1) fs
 
 abbrev pub cells_after : Option ℤ → List Fit → Array → Array
-cells_after fill fs a = taken_along 0 (fill_in (any_hole fs) fill) fs a
+cells_after fill fs a = steps_value (steps_from (fill_in (any_hole fs) fill) 0 fs) a
 
 abbrev pub content_after : Option ℤ → List Fit → Content → Content
 content_after fill fs (contents.Cells a masked) = contents.Cells (cells_after fill fs a) (masked_with masked fill (any_hole fs))

@@ -1,17 +1,6 @@
 -- Coordinates, arrays and variables over joined axes.
 use Rattle.std.specs.Prelude.{◌≡◌, ◌++◌, ℤ, true, List, map, Option}
-use Rattle.std.specs.List.{AllByRecursion}
-use Rattle.xr_types.specs.declared.axis.Axis.{Axis}
-use Rattle.xr_arrays.specs.declared.node.Node.{Node}
-use Rattle.xr_defs.specs.WellFormed.{IsCoordinate}
-use Rattle.xr_defs.specs.declared.value.Content.{Content}
-use Rattle.xr_defs.specs.declared.value.Coord.{Coord}
-use Rattle.xr_defs.specs.Selecting.{is_within}
-use Rattle.xr_types.specs.Names.{shape_over}
-use Rattle.xr_parts.specs.Frames.{IsThere}
-use Rattle.xr_operations.specs.Alignment.{fitted, fitted_coord, joined_in}
-use Rattle.xr_values.specs.declared.data_array.DataArray.{DataArray}
-use Rattle.xr_values.specs.Stands.{array_in, IsArrayIn}
+use Rattle.xr_aligning.specs.Common.{AllByRecursion, Axis, Content, Coord, DataArray, IsArrayIn, IsCoordinate, IsThere, Node, array_in, fitted, fitted_coord, is_within, joined_in, shape_over}
 use Rattle.xr_aligning.specs.declared.fits.Change.{Change}
 use Rattle.xr_aligning.specs.Fits.{content_after, fit_of, Arrive, TakesFill}
 

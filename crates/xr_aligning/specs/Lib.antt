@@ -1,5 +1,5 @@
+pub mod Common
 pub mod Fits
-pub mod Along
 pub mod Fitted
 pub mod Joined
 pub mod Limits

@@ -1,11 +1,6 @@
 -- The limits of a dataset of the program.
 use Rattle.std.specs.Prelude.{◌+◌, ◌&&◌, ℕ, Bool, List, length, map, nat_le}
-use Rattle.std.specs.List.{list_all}
-use Rattle.xr_types.specs.declared.axis.Axis.{Axis}
-use Rattle.xr_defs.specs.Limits.{most_cells, most_variables}
-use Rattle.xr_defs.specs.Selecting.{are_within, axis_called, is_within}
-use Rattle.xr_values.specs.declared.dataset.Dataset.{Dataset}
-use Rattle.xr_values.specs.declared.variable.Variable.{Variable}
+use Rattle.xr_aligning.specs.Common.{Axis, Dataset, Variable, are_within, axis_called, is_within, list_all, most_cells, most_variables}
 
 abbrev pub sizes_called : List Axis → List (List ℕ) → List ℕ
 sizes_called axes dims = map (λ d. (axis_called axes d).size) dims

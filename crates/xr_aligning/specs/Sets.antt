@@ -1,18 +1,6 @@
 -- Datasets over joined axes, in a plan that has grown.
 use Rattle.std.specs.Prelude.{◌≡◌, ℕ, ℤ, Bool, List, [], ◌∷◌, map, Option, is_some}
-use Rattle.std.specs.List.{list_all, AllByRecursion}
-use Rattle.xr_types.specs.Names.{shape_over}
-use Rattle.xr_types.specs.declared.axis.Axis.{Axis}
-use Rattle.xr_arrays.specs.declared.node.Node.{Node}
-use Rattle.xr_defs.specs.Parts.{axes_called}
-use Rattle.xr_defs.specs.Selecting.{is_within}
-use Rattle.xr_defs.specs.WellFormed.{IsVariable}
-use Rattle.xr_operations.specs.Alignment.{joined_in}
-use Rattle.xr_relations.specs.Aligning.{fitted_set, fitted_variable}
-use Rattle.xr_values.specs.declared.dataset.Dataset.{Dataset}
-use Rattle.xr_values.specs.declared.variable.Variable.{Variable}
-use Rattle.xr_values.specs.Stands.{dataset_in, variable_in, IsDatasetIn, IsNodeOf}
-use Rattle.xr_values.specs.Variables.{with_variables}
+use Rattle.xr_aligning.specs.Common.{AllByRecursion, Axis, Dataset, IsDatasetIn, IsNodeOf, IsVariable, Node, Variable, axes_called, dataset_in, fitted_set, fitted_variable, is_within, joined_in, list_all, shape_over, variable_in, with_variables}
 use Rattle.xr_aligning.specs.Fitted.{IsChange}
 use Rattle.xr_aligning.specs.Limits.{sizes_called}
 use Rattle.xr_aligning.specs.declared.fits.Change.{Change}

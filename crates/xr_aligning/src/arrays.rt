@@ -1,7 +1,6 @@
 //! Arrays over joined axes.
 ghost use Rattle.std.specs.Prelude.{◌≡◌, IfOk};
-ghost use Rattle.plan_core.specs.Plans.{Grows};
-ghost use Rattle.xr_values.specs.Stands.{IsArrayIn};
+ghost use Rattle.xr_aligning.specs.Common.{Grows, IsArrayIn};
 ghost use Rattle.xr_aligning.specs.Fitted.{IsArrayAfter, IsChange};
 ghost use Rattle.xr_aligning.specs.Joined.{AreLoose};
 

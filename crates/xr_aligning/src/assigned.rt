@@ -1,86 +1,52 @@
 //! A variable that is put into a dataset: `name["v"] = array`.
 ghost use Rattle.std.specs.Prelude.{◌≡◌, ◌||◌, ◌∷◌, ◌++◌, List, [], false, true, map, filter, IfOk, OnOk};
-ghost use Rattle.std.specs.Str.{bytes_eq};
-ghost use Rattle.std.specs.List.{list_any, AllByRecursion};
-ghost use Rattle.xr_types.specs.Names.{among, axis_names};
-ghost use Rattle.xr_types.specs.Results.{Answers};
+ghost use Rattle.xr_aligning.specs.Common.{AllByRecursion, Answers, AnswersSet, Grows, IsArrayIn, IsDatasetIn, Node, among, array_in, axis_names, bytes_eq, dataset_in, is_busy, is_name, list_any, with_variable};
 ghost use Rattle.xr_types.specs.declared.axis.Axis.{Axis as AnAxis};
 ghost use Rattle.xr_types.specs.declared.operation.How.TheVariants as hows;
-ghost use Rattle.xr_arrays.specs.declared.node.Node.{Node};
 ghost use Rattle.xr_defs.specs.declared.value.Coord.{Coord as Other};
-ghost use Rattle.plan_core.specs.Plans.{Grows};
 ghost use Rattle.xr_operations.specs.Alignment as alignment;
 ghost use Rattle.xr_relations.specs.Aligning as calls;
-ghost use Rattle.xr_values.specs.Answers.{AnswersSet};
-ghost use Rattle.xr_values.specs.Stands.{array_in, dataset_in, IsArrayIn, IsDatasetIn};
 ghost use Rattle.xr_values.specs.declared.variable.Variable.{Variable as Var};
-ghost use Rattle.xr_reducing.specs.Reduced.{is_busy};
 ghost use Rattle.xr_aligning.specs.Assigned as made;
-ghost use Rattle.xr_values.specs.Variables.{with_variable};
-ghost use Rattle.xr_files.specs.Classic.{is_name};
-ghost use Rattle.xr_aligning.specs.Assigned.{IsApart, IsPlaced, Stay, Stays, StaysNamed};
+ghost use Rattle.xr_aligning.specs.Assigned.{IsApart, IsPlaced, Stays};
 ghost use Rattle.xr_aligning.specs.Joined.{AreLoose};
 
 use crate::arrays::array_after;
 use crate::coords::axes_after;
 use crate::fits::joined_in;
-use crate::limits::{are_short, is_set_within, size_called};
+use crate::limits::{are_short, is_set_within};
 use align_join::aligned;
 use plan_core::Plan;
 use std::alloc::{AllocError, Global};
 use xr_defs::Coord;
 use xr_joining::have_few;
+use xr_parts::{axes_kept, has_axis, is_among};
+use xr_reducing::names_of;
 use xr_types::{Axis, CallFault, DeepCopy, Fault, How, Items, Name, NoMemory, TextBytes};
 use xr_values::{DataArray, Dataset, Variable, Variables, copy_content, copy_coord};
 
 // ---- names
 
-fn has_axis(axes: &[Axis], name: &TextBytes) -> bool
-    ensures { result ≡ among (axis_names axes.now) name.now }
-{
-    match axes {
-        [] => false,
-        [axis, rest @ ..] => name.is(&axis.name) || has_axis(rest, name),
-    }
-}
-
-fn has_name(names: &[Name], name: &TextBytes) -> bool
-    ensures { result ≡ among names.now name.now }
-{
-    match names {
-        [] => false,
-        [other, rest @ ..] => name.is(other) || has_name(rest, name),
-    }
-}
-
 fn has_coord(coords: &[Coord], name: &TextBytes) -> bool
     ensures { result ≡ calls.has_coord coords.now name.now }
 {
-    match coords {
-        [] => false,
-        [coord, rest @ ..] => coord.name.is(name) || has_coord(rest, name),
-    }
+    coords.iter().any(|coord| coord.name.is(name))
 }
 
 /// Whether the axis of a name has labels.
 pub fn has_index(axes: &[Axis], name: &TextBytes) -> bool
     ensures { result ≡ calls.has_index axes.now name.now }
 {
-    match axes {
-        [] => false,
-        [axis, rest @ ..] => {
-            (axis.name.is(name) && axis.labels.is_some()) || has_index(rest, name)
-        }
-    }
+    axes.iter()
+        .any(|axis| axis.name.is(name) && axis.labels.is_some())
 }
 
 fn coords_have(coords: &[Coord], name: &TextBytes) -> bool
     ensures { result ≡ list_any (λ (c : Other). among (axis_names c.axes) name.now) coords.now }
 {
-    match coords {
-        [] => false,
-        [coord, rest @ ..] => has_axis(coord.axes.as_slice(), name) || coords_have(rest, name),
-    }
+    coords
+        .iter()
+        .any(|coord| has_axis(coord.axes.as_slice(), name))
 }
 
 // ---- the dataset without the variable
@@ -94,7 +60,7 @@ fn others_have(vars: &[Variable], but: &TextBytes, name: &TextBytes) -> bool
             if var.name.is(but) {
                 others_have(rest, but, name)
             } else {
-                has_name(var.dims.as_slice(), name) || others_have(rest, but, name)
+                is_among(var.dims.as_slice(), name) || others_have(rest, but, name)
             }
         }
     }
@@ -108,32 +74,17 @@ fn is_kept(set: &Dataset, but: &TextBytes, axis: &Axis) -> bool
         || others_have(set.vars.as_slice(), but, &axis.name)
 }
 
-fn push_kept(
-    alloc: Global,
-    out: &mut Items<Axis>,
-    set: &Dataset,
-    but: &TextBytes,
-    axes: &[Axis],
-) -> Result<(), AllocError>
-    ensures { OnOk result (out.new ≡ out.old ++ filter (is_busy set.now.coords (made.others but.now set.now.vars)) axes.now) }
-{
-    match axes {
-        [] => Ok(()),
-        [axis, rest @ ..] => {
-            if is_kept(set, but, axis) {
-                out.push(axis.deep_copy(alloc)?)?;
-            }
-            push_kept(alloc, out, set, but, rest)
-        }
-    }
-}
-
 // The axes that are left without a variable.
 fn rest_axes(alloc: Global, set: &Dataset, name: &TextBytes) -> Result<Items<Axis>, AllocError>
     ensures { IfOk result (λ xs. xs ≡ made.rest_axes name.now set.now) }
 {
+    let axes = set.axes.as_slice();
     let mut out = Items::new(alloc);
-    push_kept(alloc, &mut out, set, name, set.axes.as_slice())?;
+    for axis in axes {
+        if is_kept(set, name, axis) {
+            out.push(axis.deep_copy(alloc)?)?;
+        }
+    }
     Ok(out)
 }
 
@@ -194,43 +145,6 @@ fn axes_stay(axes: &[Axis], own: &[Axis]) -> bool
     }
 }
 
-fn coords_stay(axes: &[Axis], coords: &[Coord]) -> bool
-    ensures { result ≡ true → AllByRecursion (λ (c : Other). AllByRecursion (Stays axes.now) c.axes) coords.now }
-{
-    match coords {
-        [] => true,
-        [coord, rest @ ..] => axes_stay(axes, coord.axes.as_slice()) && coords_stay(axes, rest),
-    }
-}
-
-fn dims_stay(axes: &[Axis], own: &[Axis], dims: &[Name]) -> bool
-    ensures { result ≡ true → AllByRecursion (StaysNamed axes.now own.now) dims.now }
-{
-    match dims {
-        [] => true,
-        [dim, rest @ ..] => {
-            has_axis(axes, dim)
-                && size_called(axes, dim) == size_called(own, dim)
-                && dims_stay(axes, own, rest)
-        }
-    }
-}
-
-fn vars_stay(axes: &[Axis], own: &[Axis], but: &TextBytes, vars: &[Variable]) -> bool
-    ensures { result ≡ true → AllByRecursion (λ (v : Var). AllByRecursion (StaysNamed axes.now own.now) v.dims) (made.others but.now vars.now) }
-{
-    match vars {
-        [] => true,
-        [var, rest @ ..] => {
-            if var.name.is(but) {
-                vars_stay(axes, own, but, rest)
-            } else {
-                dims_stay(axes, own, var.dims.as_slice()) && vars_stay(axes, own, but, rest)
-            }
-        }
-    }
-}
-
 fn are_named(axes: &[Axis], theirs: &[Axis]) -> bool
     ensures { result ≡ true → AllByRecursion (λ (x : AnAxis). among (axis_names axes.now) x.name ≡ true) theirs.now }
 {
@@ -238,14 +152,6 @@ fn are_named(axes: &[Axis], theirs: &[Axis]) -> bool
         [] => true,
         [axis, rest @ ..] => has_axis(axes, &axis.name) && are_named(axes, rest),
     }
-}
-
-fn all_stay(axes: &[Axis], set: &Dataset, name: &TextBytes, array: &DataArray) -> bool
-    ensures { result ≡ true → Stay axes.now set.now name.now array.now }
-{
-    coords_stay(axes, set.coords.as_slice())
-        && vars_stay(axes, set.axes.as_slice(), name, set.vars.as_slice())
-        && are_named(axes, array.axes.as_slice())
 }
 
 /// Whether no coordinate and no index has the name of a variable.
@@ -264,50 +170,6 @@ pub fn are_apart(axes: &[Axis], coords: &[Coord], vars: &[Variable]) -> bool
 
 // ---- what is made
 
-fn push_own(
-    alloc: Global,
-    out: &mut Items<Coord>,
-    axes: &[Axis],
-    coords: &[Coord],
-) -> Result<(), AllocError>
-    ensures { OnOk result (out.new ≡ out.old ++ filter (made.is_free axes.now) (map (made.relabelled axes.now) coords.now)) }
-{
-    match coords {
-        [] => Ok(()),
-        [coord, rest @ ..] => {
-            if !has_axis(axes, &coord.name) {
-                out.push(Coord {
-                    name: coord.name.deep_copy(alloc)?,
-                    axes: axes_after(alloc, axes, coord.axes.as_slice())?,
-                    attrs: coord.attrs.deep_copy(alloc)?,
-                    content: copy_content(alloc, &coord.content)?,
-                })?;
-            }
-            push_own(alloc, out, axes, rest)
-        }
-    }
-}
-
-fn push_new(
-    alloc: Global,
-    out: &mut Items<Coord>,
-    axes: &[Axis],
-    own: &[Coord],
-    coords: &[Coord],
-) -> Result<(), AllocError>
-    ensures { OnOk result (out.new ≡ out.old ++ filter (made.is_free axes.now) (filter (made.is_fresh own.now) coords.now)) }
-{
-    match coords {
-        [] => Ok(()),
-        [coord, rest @ ..] => {
-            if !has_coord(own, &coord.name) && !has_axis(axes, &coord.name) {
-                out.push(copy_coord(alloc, coord)?)?;
-            }
-            push_new(alloc, out, axes, own, rest)
-        }
-    }
-}
-
 fn coords_with(
     alloc: Global,
     axes: &[Axis],
@@ -317,31 +179,30 @@ fn coords_with(
     ensures { IfOk result (λ cs. cs ≡ made.coords_with axes.now own.now new.now) }
 {
     let mut out = Items::new(alloc);
-    push_own(alloc, &mut out, axes, own)?;
-    push_new(alloc, &mut out, axes, own, new)?;
-    Ok(out)
-}
-
-fn push_names(alloc: Global, names: &mut Items<Name>, axes: &[Axis]) -> Result<(), AllocError>
-    ensures { OnOk result (names.new ≡ names.old ++ axis_names axes.now) }
-{
-    match axes {
-        [] => Ok(()),
-        [axis, rest @ ..] => {
-            names.push(axis.name.deep_copy(alloc)?)?;
-            push_names(alloc, names, rest)
+    for coord in own {
+        if !has_axis(axes, &coord.name) {
+            out.push(Coord {
+                name: coord.name.deep_copy(alloc)?,
+                axes: axes_after(alloc, axes, coord.axes.as_slice())?,
+                attrs: coord.attrs.deep_copy(alloc)?,
+                content: copy_content(alloc, &coord.content)?,
+            })?;
         }
     }
+    for other in new {
+        if !has_coord(own, &other.name) && !has_axis(axes, &other.name) {
+            out.push(copy_coord(alloc, other)?)?;
+        }
+    }
+    Ok(out)
 }
 
 fn variable_of(alloc: Global, name: &TextBytes, array: &DataArray) -> Result<Variable, AllocError>
     ensures { IfOk result (λ v. v ≡ made.variable_of name.now array.now) }
 {
-    let mut dims = Items::new(alloc);
-    push_names(alloc, &mut dims, array.axes.as_slice())?;
     Ok(Variable {
         name: name.deep_copy(alloc)?,
-        dims,
+        dims: names_of(alloc, array.axes.as_slice())?,
         kind: array.kind,
         masked: array.masked,
         attrs: array.attrs.deep_copy(alloc)?,
@@ -372,46 +233,11 @@ pub fn is_held(coords: &[Coord], vars: &[Variable], axis: &Axis) -> bool
 fn vars_have(vars: &[Variable], name: &TextBytes) -> bool
     ensures { result ≡ list_any (λ (v : Var). among v.dims name.now) vars.now }
 {
-    match vars {
-        [] => false,
-        [var, rest @ ..] => has_name(var.dims.as_slice(), name) || vars_have(rest, name),
-    }
-}
-
-fn push_held(
-    alloc: Global,
-    out: &mut Items<Axis>,
-    coords: &[Coord],
-    vars: &[Variable],
-    axes: &[Axis],
-) -> Result<(), AllocError>
-    ensures { OnOk result (out.new ≡ out.old ++ filter (is_busy coords.now vars.now) axes.now) }
-{
-    match axes {
-        [] => Ok(()),
-        [axis, rest @ ..] => {
-            if is_held(coords, vars, axis) {
-                out.push(axis.deep_copy(alloc)?)?;
-            }
-            push_held(alloc, out, coords, vars, rest)
-        }
-    }
-}
-
-fn held_axes(
-    alloc: Global,
-    coords: &[Coord],
-    vars: &[Variable],
-    axes: &[Axis],
-) -> Result<Items<Axis>, AllocError>
-    ensures { IfOk result (λ xs. xs ≡ filter (is_busy coords.now vars.now) axes.now) }
-{
-    let mut out = Items::new(alloc);
-    push_held(alloc, &mut out, coords, vars, axes)?;
-    Ok(out)
+    vars.iter().any(|var| is_among(var.dims.as_slice(), name))
 }
 
 // Names that meet, which those that are checked don't, want memory.
+#[tactic(auto, unfolding(xr_parts::specs::Kept::is_held))]
 fn set_with(
     alloc: Global,
     axes: &[Axis],
@@ -427,7 +253,7 @@ fn set_with(
     if !are_apart(axes, coords.as_slice(), vars.as_slice()) {
         return Err(NoMemory);
     }
-    let axes = held_axes(alloc, coords.as_slice(), vars.as_slice(), axes)?;
+    let axes = axes_kept(alloc, coords.as_slice(), vars.as_slice(), axes)?;
     Ok(Dataset {
         axes,
         coords,
@@ -442,16 +268,18 @@ fn placed(
     alloc: Global,
     plan: &mut Plan,
     axes: &[Axis],
+    rest: &[Axis],
     set: &Dataset,
     name: &TextBytes,
     array: &DataArray,
 ) -> Result<Dataset, NoMemory>
+    requires rest { rest.now ≡ made.rest_axes name.now set.now }
     requires set { IsDatasetIn plan.old set.now }
     requires array { IsArrayIn plan.old array.now }
     ensures placed { AreLoose axes.now → is_name name.now ≡ true → IfOk result (IsPlaced plan.old plan.new axes.now set.now name.now array.now) }
     ensures grows { Grows plan.old plan.new }
 {
-    if !are_short(axes) || !all_stay(axes, set, name, array) {
+    if !are_short(axes) || !axes_stay(axes, rest) || !are_named(axes, array.axes.as_slice()) {
         return Err(NoMemory);
     }
     let value = array_after(alloc, plan, axes, None, array)?;
@@ -462,15 +290,15 @@ fn placed(
 // The joined axes, once nothing speaks against the names.
 fn joined_with(
     alloc: Global,
+    rest: &[Axis],
     set: &Dataset,
     name: &TextBytes,
     array: &DataArray,
 ) -> Result<Items<Axis>, CallFault>
+    requires { rest.now ≡ made.rest_axes name.now set.now }
     ensures axes { (nodes : List Node) → Answers (λ (xs : List AnAxis). xs) result (made.joined_with (dataset_in nodes set.now) name.now (array_in nodes array.now)) }
     ensures loose { (nodes : List Node) → IsDatasetIn nodes set.now → IsArrayIn nodes array.now → IfOk result AreLoose }
 {
-    let rest = rest_axes(alloc, set, name)?;
-    let rest = rest.as_slice();
     let axes = aligned_left(alloc, rest, array.axes.as_slice())?;
     if is_taken(rest, set, name, array) {
         return Err(CallFault::Refused(Fault::DuplicateName));
@@ -501,8 +329,10 @@ pub fn variable_assigned(
     if name.as_str().len() == 0 {
         return Err(CallFault::Refused(Fault::BadArgument));
     }
-    let axes = joined_with(alloc, set, name, array)?;
-    let made = placed(alloc, plan, axes.as_slice(), set, name, array)?;
+    let rest = rest_axes(alloc, set, name)?;
+    let rest = rest.as_slice();
+    let axes = joined_with(alloc, rest, set, name, array)?;
+    let made = placed(alloc, plan, axes.as_slice(), rest, set, name, array)?;
     if !is_set_within(&made) {
         return Err(CallFault::Refused(Fault::TooLarge));
     }

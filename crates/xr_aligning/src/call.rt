@@ -1,9 +1,7 @@
 //! `align(a, b, .., join="inner", fill_value=..)`: arrays and datasets brought over joined axes.
 ghost use Rattle.std.specs.Prelude.{◌≡◌, ◌==◌, ◌&&◌, length, map, nat_le, option_map, IfOk, OnOk};
-ghost use Rattle.std.specs.List.{AllByRecursion};
-ghost use Rattle.plan_core.specs.Plans.{Grows};
+ghost use Rattle.xr_aligning.specs.Common.{AllByRecursion, AreArgsIn, Grows, IsValueIn, given, meaning};
 ghost use Rattle.xr_relations.specs.Aligning as calls;
-ghost use Rattle.xr_values.specs.Meaning.{given, meaning, AreArgsIn, IsValueIn};
 ghost use Rattle.xr_aligning.specs.Aligned.{AnswersValues, ArePlaced};
 ghost use Rattle.xr_aligning.specs.Coming.{come, labelled_in, IsLabelledIn, IsReady};
 

@@ -1,8 +1,6 @@
 //! How each of the values comes to the joined axes.
-ghost use Rattle.std.specs.Prelude.{◌≡◌, ◌++◌, List, filter, map, IfOk, OnOk};
-ghost use Rattle.std.specs.List.{AllByRecursion};
-ghost use Rattle.xr_types.specs.declared.axis.Axis.{Axis as AnAxis};
-ghost use Rattle.xr_arrays.specs.declared.node.Node.{Node};
+ghost use Rattle.std.specs.Prelude.{◌≡◌, ◌++◌, List, map, IfOk, OnOk};
+ghost use Rattle.xr_aligning.specs.Common.{AllByRecursion, Node};
 ghost use Rattle.xr_relations.specs.Aligning as calls;
 ghost use Rattle.xr_aligning.specs.declared.coming.Coming.{Coming as OneComing};
 ghost use Rattle.xr_aligning.specs.Coming.{Comes, IsChangeOf, IsLabelledIn, TakesLabels};
@@ -21,31 +19,16 @@ pub struct Coming<'a> {
     pub fits: Items<Fit>,
 }
 
-fn push_with_labels(
-    alloc: Global,
-    out: &mut Items<Axis>,
-    own: &[Axis],
-    joined: &[Axis],
-) -> Result<(), AllocError>
-    ensures { OnOk result (out.new ≡ out.old ++ filter (λ (x : AnAxis). calls.has_index own.now x.name) joined.now) }
-{
-    match joined {
-        [] => Ok(()),
-        [axis, rest @ ..] => {
-            if has_index(own, &axis.name) {
-                out.push(axis.deep_copy(alloc)?)?;
-            }
-            push_with_labels(alloc, out, own, rest)
-        }
-    }
-}
-
 // The joined axes of the names that have labels among these axes.
 fn with_labels(alloc: Global, own: &[Axis], joined: &[Axis]) -> Result<Items<Axis>, AllocError>
     ensures { IfOk result (λ xs. xs ≡ calls.with_labels own.now joined.now) }
 {
     let mut out = Items::new(alloc);
-    push_with_labels(alloc, &mut out, own, joined)?;
+    for axis in joined {
+        if has_index(own, &axis.name) {
+            out.push(axis.deep_copy(alloc)?)?;
+        }
+    }
     Ok(out)
 }
 

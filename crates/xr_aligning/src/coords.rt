@@ -1,7 +1,6 @@
 //! Coordinates over joined axes.
 ghost use Rattle.std.specs.Prelude.{◌≡◌, ◌++◌, [], map, IfOk, OnOk};
-ghost use Rattle.std.specs.List.{AllByRecursion};
-ghost use Rattle.xr_defs.specs.WellFormed.{IsCoordinate};
+ghost use Rattle.xr_aligning.specs.Common.{AllByRecursion, IsCoordinate};
 ghost use Rattle.xr_operations.specs.Alignment as alignment;
 ghost use Rattle.xr_aligning.specs.Fits.{content_after, TakesFill};
 ghost use Rattle.xr_aligning.specs.Fitted.{AreFitted, IsChange, IsContentAfter, IsFitted};
@@ -42,29 +41,14 @@ fn content_after(
     }
 }
 
-fn push_joined(
-    alloc: Global,
-    axes: &mut Items<Axis>,
-    joined: &[Axis],
-    own: &[Axis],
-) -> Result<(), AllocError>
-    ensures { OnOk result (axes.new ≡ axes.old ++ map (alignment.joined_in joined.now) own.now) }
-{
-    match own {
-        [] => Ok(()),
-        [axis, rest @ ..] => {
-            axes.push(joined_in(joined, axis).deep_copy(alloc)?)?;
-            push_joined(alloc, axes, joined, rest)
-        }
-    }
-}
-
 /// The joined axes of these, one by one.
 pub fn axes_after(alloc: Global, joined: &[Axis], own: &[Axis]) -> Result<Items<Axis>, AllocError>
     ensures { IfOk result (λ xs. xs ≡ map (alignment.joined_in joined.now) own.now) }
 {
     let mut axes = Items::new(alloc);
-    push_joined(alloc, &mut axes, joined, own)?;
+    for axis in own {
+        axes.push(joined_in(joined, axis).deep_copy(alloc)?)?;
+    }
     Ok(axes)
 }
 

@@ -1,14 +1,8 @@
 //! Whether a fill is one for the cells that need it.
 ghost use Rattle.std.specs.Prelude.{◌≡◌, List, Some, map, option_map};
-ghost use Rattle.std.specs.List.{AllByRecursion};
-ghost use Rattle.xr_arrays.specs.declared.node.Node.{Node};
-ghost use Rattle.xr_types.specs.Results.{Answers, all_of};
+ghost use Rattle.xr_aligning.specs.Common.{AllByRecursion, Answers, IsCoordinate, IsFrame, IsThere, Node, all_of, array_in, dataset_in, meaning};
 ghost use Rattle.xr_defs.specs.Meanings as meant;
-ghost use Rattle.xr_defs.specs.WellFormed.{IsCoordinate};
 ghost use Rattle.xr_relations.specs.Aligning as calls;
-ghost use Rattle.xr_values.specs.Meaning.{meaning};
-ghost use Rattle.xr_values.specs.Stands.{array_in, dataset_in};
-ghost use Rattle.xr_parts.specs.Frames.{IsFrame, IsThere};
 ghost use Rattle.xr_aligning.specs.declared.coming.Coming.{Coming as OneComing};
 ghost use Rattle.xr_aligning.specs.Coming.{check_coord_by, check_fill_by, check_number, check_fill_where, check_var_by, stands_for, Comes};
 ghost use Rattle.xr_aligning.specs.Fits as of;

@@ -1,14 +1,7 @@
 //! How the axes of a value come to joined ones.
 ghost use Rattle.std.specs.Prelude.{◌≡◌, ◌≤◌, ◌-◌, ◌^◌, ◌∷◌, ◌++◌, [], List, false, None, Some, length, map, min, nat_le, option_map, is_none, All, IfOk, OnOk};
-ghost use Rattle.std.specs.List.{list_all, list_any, AllByRecursion};
-ghost use Rattle.xr_types.specs.Points.{size};
-ghost use Rattle.xr_arrays.specs.Nodes.{IsBelow};
-ghost use Rattle.xr_defs.specs.Limits.{most_cells};
-ghost use Rattle.xr_defs.specs.Parts.{axes_called};
-ghost use Rattle.xr_defs.specs.Selecting.{axis_called, is_within};
-ghost use Rattle.xr_operations.specs.Alignment.{joined_in, sources as sources_of};
-ghost use Rattle.align_join.specs.Joined.{HasFew};
-ghost use Rattle.xr_parts.specs.Frames.{IsThere};
+ghost use Rattle.xr_aligning.specs.Common.{AllByRecursion, HasFew, IsBelow, IsThere, axes_called, axis_called, is_within, joined_in, list_all, list_any, most_cells, size};
+ghost use Rattle.xr_operations.specs.Alignment.{sources as sources_of};
 ghost use Rattle.xr_aligning.specs.Fits.{any_hole, fit_called, fit_of, sizes, Arrive, Arrives};
 ghost use Rattle.xr_aligning.specs.Fitted.{IsChange};
 

@@ -1,13 +1,9 @@
 //! The arrays and datasets that `align` is given.
 ghost use Rattle.std.specs.Prelude.{◌≡◌, ◌++◌, List, map, All, IfOk, OnOk};
-ghost use Rattle.std.specs.List.{AllByRecursion};
-ghost use Rattle.xr_arrays.specs.declared.node.Node.{Node};
-ghost use Rattle.xr_types.specs.Results.{Answers, all_of};
+ghost use Rattle.xr_aligning.specs.Common.{AllByRecursion, Answers, HasFew, IsValueIn, Node, all_of, meaning};
 ghost use Rattle.xr_types.specs.declared.axis.Axis.{Axis as AnAxis};
-ghost use Rattle.align_join.specs.Joined.{HasFew};
 ghost use Rattle.xr_operations.specs.Alignment as alignment;
 ghost use Rattle.xr_relations.specs.Aligning as calls;
-ghost use Rattle.xr_values.specs.Meaning.{meaning, IsValueIn};
 ghost use Rattle.xr_aligning.specs.Coming.{labelled_in, own_axes, IsLabelledIn, KeepsIn};
 ghost use Rattle.xr_aligning.specs.Joined.{AreLoose};
 

@@ -1,9 +1,7 @@
 //! The limits of a dataset.
 ghost use Rattle.std.specs.Prelude.{◌≡◌, ◌≤◌, ◌-◌, ◌^◌, ◌&&◌, true, List, length, map, min, nat_le};
-ghost use Rattle.std.specs.List.{list_all, AllByRecursion};
-ghost use Rattle.xr_types.specs.Points.{size};
+ghost use Rattle.xr_aligning.specs.Common.{AllByRecursion, list_all, most_cells, most_variables, size};
 ghost use Rattle.xr_types.specs.declared.axis.Axis.{Axis as OneAxis};
-ghost use Rattle.xr_defs.specs.Limits.{most_cells, most_variables};
 ghost use Rattle.xr_defs.specs.Selecting as of;
 ghost use Rattle.xr_values.specs.declared.variable.Variable.{Variable as OneVariable};
 ghost use Rattle.xr_aligning.specs.Limits.{are_variables_within, is_set_within, sizes_called};

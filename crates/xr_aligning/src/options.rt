@@ -1,11 +1,9 @@
 //! The arguments of `align` by keyword.
 ghost use Rattle.std.specs.Prelude.{◌≡◌, List, Some, map, option_map};
-ghost use Rattle.xr_arrays.specs.declared.node.Node.{Node};
-ghost use Rattle.xr_types.specs.Results.{Answers};
+ghost use Rattle.xr_aligning.specs.Common.{Answers, Node, meaning, with_key};
 ghost use Rattle.xr_types.specs.declared.operation.How.{How as AHow};
 ghost use Rattle.xr_defs.specs.Building as building;
 ghost use Rattle.xr_relations.specs.Aligning as calls;
-ghost use Rattle.xr_values.specs.Meaning.{meaning, with_key};
 ghost use Rattle.xr_aligning.specs.Aligned.{are_options, is_option};
 
 use xr_arguments::as_text;

@@ -1,8 +1,6 @@
 //! Datasets over joined axes.
 ghost use Rattle.std.specs.Prelude.{◌≡◌, IfOk, OnOk};
-ghost use Rattle.std.specs.List.{AllByRecursion};
-ghost use Rattle.plan_core.specs.Plans.{Grows};
-ghost use Rattle.xr_values.specs.Stands.{IsDatasetIn};
+ghost use Rattle.xr_aligning.specs.Common.{AllByRecursion, Grows, IsDatasetIn};
 ghost use Rattle.xr_aligning.specs.Fitted.{IsChange};
 ghost use Rattle.xr_aligning.specs.Joined.{AreLoose};
 ghost use Rattle.xr_aligning.specs.Sets.{ArePut, CanPut, IsSetAfter, IsVarAfter, IsVarHere, KeepsLabels};

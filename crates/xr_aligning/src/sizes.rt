@@ -1,21 +1,12 @@
 //! The limits of values over joined axes, from their sizes alone.
 ghost use Rattle.std.specs.Prelude.{◌≡◌, ◌+◌, ◌&&◌, ℤ, List, Option, length, map, nat_le, IfOk};
-ghost use Rattle.std.specs.List.{list_all, AllByRecursion};
-ghost use Rattle.xr_types.specs.Names.{shape_over};
-ghost use Rattle.xr_types.specs.Results.{Answers, all_of, unless};
-ghost use Rattle.xr_types.specs.declared.fault.Fault.TheVariants.{TooLarge};
+ghost use Rattle.xr_aligning.specs.Common.{AllByRecursion, Answers, IsCoordinate, IsFrame, IsThere, Node, TooLarge, all_of, dataset_in, fitted_coord, joined_in, list_all, most_cells, most_variables, shape_over, unless};
 ghost use Rattle.xr_types.specs.declared.axis.Axis.{Axis as AnAxis};
-ghost use Rattle.xr_arrays.specs.declared.node.Node.{Node};
-ghost use Rattle.xr_defs.specs.Limits.{most_cells, most_variables};
 ghost use Rattle.xr_defs.specs.Selecting as limits;
-ghost use Rattle.xr_defs.specs.WellFormed.{IsCoordinate};
-ghost use Rattle.xr_operations.specs.Alignment.{fitted_coord, joined_in};
 ghost use Rattle.xr_relations.specs.Aligning as calls;
-ghost use Rattle.xr_parts.specs.Frames.{IsFrame, IsThere};
 ghost use Rattle.xr_aligning.specs.declared.coming.Coming.{Coming as OneComing};
 ghost use Rattle.xr_aligning.specs.Coming.{come, Comes};
 ghost use Rattle.xr_aligning.specs.Fitted.{IsChange};
-ghost use Rattle.xr_values.specs.Stands.{dataset_in};
 ghost use Rattle.xr_values.specs.declared.dataset.Dataset.{Dataset as ASet};
 ghost use Rattle.xr_aligning.specs.Sets.{are_vars_within, sizes_after, IsVarHere};
 

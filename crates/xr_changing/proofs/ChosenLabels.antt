@@ -1,5 +1,6 @@
 -- Labels at positions.
-use Rattle.xr_changing.proofs.Common.{All, All-map, AreLabels, InRange, Int64, IsTime, Label, List, [], ap, arith, chosen, chosen_list, get_or, label_count, length, length-map, map, number_of, pos, refl, relisted, suc, sym, text_of, zero, ℕ, ◌∙◌, ◌∷◌, ◌≡◌}
+use Rattle.xr_changing.proofs.Common.{All, All-map, AreLabels, InRange, Int64, IsTime, Label, List, [], arith, chosen, chosen_list, get_or, label_count, length, length-map, map, map-map, number_of, pos, relisted, suc, sym, text_of, zero, ℕ, ◌∙◌, ◌∷◌, ◌≡◌}
+use Rattle.std.proofs.Math.ListN.{get_or-map}
 use Rattle.std.proofs.lemmas.Int.{ints}
 use Rattle.xr_types.specs.declared.axis.LabelList.{LabelList}
 use Rattle.xr_types.specs.declared.axis.LabelList.TheVariants.{Numbers, Times, Texts}
@@ -7,16 +8,9 @@ use Rattle.xr_types.specs.declared.axis.Calendar.{Calendar}
 use Rattle.xr_types.specs.declared.axis.Calendar.TheVariants.{Civil, NoLeap, Days360}
 use Rattle.plan_core.proofs.Arrangements.{zero_in}
 
--- ---- numbers without a sign, seen as numbers
-
-natural_at : (xs : List ℕ) (i : ℕ) → get_or (map pos xs) i (pos 0) ≡ pos (get_or xs i 0)
-natural_at [] i = refl
-natural_at (x ∷ xs) zero = refl
-natural_at (x ∷ xs) (suc i) = natural_at xs i
-
+-- numbers without a sign, seen as numbers
 pub chosen_naturals : (xs ps : List ℕ) → map pos (chosen 0 xs ps) ≡ chosen (pos 0) (map pos xs) ps
-chosen_naturals xs [] = refl
-chosen_naturals xs (p ∷ ps) = ap (λ n. n ∷ map pos (chosen 0 xs ps)) (sym (natural_at xs p)) ∙ ap (λ ns. get_or (map pos xs) p (pos 0) ∷ ns) (chosen_naturals xs ps)
+chosen_naturals xs ps = map-map pos (λ i. get_or xs i 0) ps ∙ sym (λ i. map (λ p. get_or-map pos xs p 0 i) ps)
 
 -- ---- what holds of each label and of what stands for none holds of the chosen ones
 

@@ -1,28 +1,21 @@
 -- What has new labels is as it has to be.
-use Rattle.xr_changing.proofs.Common.{All, AllByRecursion, AreCells, AreIndexed, Array, Axis, Bool, Change, ContentFits, Coord, CoordFits, IsContent, IsCoordinate, IsDimension, IsRenewed, List, None, Option, Some, TakesFit, [], among, and_parts, ap, are_distinct, are_within, arith, axis_called, axis_names, bytes_eq, bytes_eq_swap, called_here, called_on, cases_Bool, change_called, changed_cells, changed_content, changed_coord, cond, each_map, each_weaker, false, fill_along, greatest, has_hole, inl, inr, is_none, is_within, leb-true, length, list_all, map, masked_along, most_cells, names_of, nat_le, new_axis, or_parts, refl, shape_over, size, steps_along, steps_value, subst, sym, true, ℕ, ℤ, ◌&&◌, ◌++◌, ◌||◌, ◌∙◌, ◌∷◌, ◌≡◌, ◌≤◌, StepsFit, steps_cells, mul-le, length-map, ◌*◌, IsCell, Step, changed_axis, sizes_named, span, AreThere, greatest_both, front_among, sizes_again}
+use Rattle.xr_changing.proofs.Common.{All, AllByRecursion, AreCells, AreIndexed, AreThere, Array, Axis, Bool, Change, ContentFits, Coord, CoordFits, DType, IsCell, IsContent, IsCoordinate, IsDimension, IsRenewed, List, None, Option, StepsFit, TakesFit, [], among, and_parts, ap, are_distinct, are_within, arith, axis_called, axis_names, bytes_eq, bytes_eq_swap, called_here, called_name, called_on, cases_Bool, changed_cells, changed_content, changed_coord, cond, each_map, each_weaker, false, fill_along, front_among, greatest, greatest_both, has_hole, inl, inr, is_none, is_within, leb-true, length, list_all, map, map-map, masked_along, most_cells, most_dimensions, mul-le, named_again, names_of, nat_le, new_axis, or_parts, refl, shape_over, size, sizes_again, sizes_named, span, span_above, steps_along, steps_cells, steps_value, subst, sym, true, ℕ, ℤ, ◌&&◌, ◌*◌, ◌++◌, ◌||◌, ◌∙◌, ◌∷◌, ◌≡◌, ◌≤◌}
+use Rattle.xr_defs.specs.Parts.{axes_called}
 use Rattle.xr_defs.specs.declared.value.Content.{Content}
 use Rattle.xr_defs.specs.declared.value.Content.TheVariants as contents
 use Rattle.xr_parts.specs.Frames.{IsThere}
-use Rattle.xr_defs.proofs.Spans.{span_above}
-use Rattle.xr_parts.proofs.Axes.{own_axes, the_axes}
+use Rattle.xr_parts.proofs.Axes.{names_there, the_axes}
 use Rattle.xr_reducing.proofs.OneVariable.{called_below, named_in}
 use Rattle.xr_changing.proofs.NewAxes.{name_kept, names_kept}
-use Rattle.xr_changing.proofs.Stepping.{all_along, sized_by, sizes_by, value_along, AreAll, Below}
+use Rattle.xr_changing.proofs.Stepping.{all_along, value_along, AreAll, AreLow}
 
 -- ---- limits
 
-pub record Within (s : List ℕ) : Type 0 where
-  pub rank : length s ≤ 16
-  pub short : list_all (λ n. nat_le n most_cells) s ≡ true
-  pub few : size s ≤ 33554432
-
-pub within : (s : List ℕ) → is_within s ≡ true → Within s
+pub within : (s : List ℕ) → is_within s ≡ true → (length s ≤ most_dimensions) × (list_all (λ n. nat_le n most_cells) s ≡ true) × (size s ≤ most_cells)
 within s e =
-    let parts = and_parts (nat_le (length s) 16) (list_all (λ n. nat_le n most_cells) s && nat_le (size s) most_cells) e in
+    let parts = and_parts (nat_le (length s) most_dimensions) (list_all (λ n. nat_le n most_cells) s && nat_le (size s) most_cells) e in
     let rest = and_parts (list_all (λ n. nat_le n most_cells) s) (nat_le (size s) most_cells) parts.1 in
-    let low = leb-true (length s) 16 parts.0 in
-    let few = leb-true (size s) most_cells rest.1 in
-    record { rank = omega arith; short = rest.0; few = omega arith }
+    (leb-true (length s) most_dimensions parts.0, rest.0, leb-true (size s) most_cells rest.1)
 
 -- ---- the axis of a name
 
@@ -56,83 +49,6 @@ pub axes_renewed : (cs : List Change) (news xs : List Axis) → AllByRecursion (
 axes_renewed cs news [] all = refl
 axes_renewed cs news (x ∷ xs) all = ap (λ y. y ∷ map (λ (x : Axis). axis_called news x.name) xs) all.0 ∙ ap (λ ys. new_axis cs x ∷ ys) (axes_renewed cs news xs all.1)
 
--- ---- cells along new axes
-
--- the cells that steps make, of sizes that become others
-pub record IsChangedTo (masked : Bool) (ss : List Step) (a after : Array) (ns ms : List ℕ) : Type 0 where
-  pub value : steps_value ss a ≡ after
-  pub shape : after.shape ≡ ms
-  pub kind : after.kind ≡ a.kind
-  pub cells : is_within ms ≡ true → AreCells ms a.kind masked after.cells
-  pub fits : StepsFit ss a
-  pub few : (ws : List ℕ) → Below ns ws → Below ms ws → steps_cells ss a ≤ 16 * size ws
-
-filled : (cs : List Change) (fill : Option ℤ) (dims : List (List ℕ)) → (has_hole cs dims && is_none fill) ≡ false → (has_hole cs dims && is_none (fill_along cs dims fill)) ≡ false
-filled cs fill dims e = by (has_hole cs dims) e
-  where
-    by : (b : Bool) → (b && is_none fill) ≡ false → (b && is_none (cond b fill None)) ≡ false
-    by true e = e
-    by false e = refl
-
-pub changed_to : (cs : List Change) (fill : Option ℤ) (dims : List (List ℕ)) (ns ms : List ℕ) (masked : Bool) (a : Array) → length dims ≡ length ns → sizes_by cs dims ns ≡ ms → a.shape ≡ ns → AreCells ns a.kind masked a.cells → TakesFit (steps_along cs fill dims) ns a.kind
-    → IsChangedTo (masked_along cs dims fill masked) (steps_along cs fill dims) a (changed_cells cs dims fill a) ns ms
-changed_to cs fill dims ns ms masked a long sizes shape is fit =
-    let hides = masked_along cs dims fill masked in
-    let ss = steps_along cs fill dims in
-    let plain = λ (e : hides ≡ false). or_parts masked (has_hole cs dims && is_none fill) e in
-    let rank = ap length shape in
-    let low = is.low_rank in
-    let r = all_along cs (fill_along cs dims fill) hides dims ns long (λ e. filled cs fill dims (plain e).1) [] 0 a refl shape (omega arith) (subst (λ s. TakesFit ss s a.kind) (sym shape) fit)
-    (record { whole = is.whole ∙ ap size (sym shape); range = is.range; seen = λ e. is.seen (plain e).0 }) in
-    let value : steps_value ss a ≡ changed_cells cs dims fill a = value_along cs (fill_along cs dims fill) 0 dims a in
-    let there : (changed_cells cs dims fill a).shape ≡ ms = ap (λ (b : Array). b.shape) (sym value) ∙ r.shape ∙ sizes in
-    let kind : (changed_cells cs dims fill a).kind ≡ a.kind = ap (λ (b : Array). b.kind) (sym value) ∙ r.kind in
-    let all = subst (AreAll hides) value r.all in
-    record {
-      value = value;
-      shape = there;
-      kind = kind;
-      cells = λ e. let limits = within ms e in record { whole = all.whole ∙ ap size there; range = subst (λ t. All (IsCell t) (changed_cells cs dims fill a).cells) kind all.range; seen = all.seen; low_rank = limits.rank; few = limits.few };
-      fits = r.fits;
-      few = λ ws old new.
-          let few = r.few ws old (subst (λ s. Below s ws) (sym sizes) new) in
-          let up = mul-le (length ns) (size ws) 16 (size ws) low (omega arith) in
-          let one : 1 * size ws ≡ size ws = grind arith in
-          let same : length ns * (1 * size ws) ≡ length ns * size ws = ap (λ t. length ns * t) one in
-          omega (arith, few, up, same);
-    }
-
-pub one_size : (cs : List Change) (x : Axis) → sized_by (change_called cs x.name) x.size ≡ (new_axis cs x).size
-one_size cs x = by (change_called cs x.name)
-  where
-    by : (o : Option Change) → sized_by o x.size ≡ (changed_axis x o).size
-    by None = refl
-    by (Some c) = refl
-
-axis_sizes : (cs : List Change) (xs : List Axis) → sizes_by cs (axis_names xs) (shape_over xs) ≡ shape_over (map (new_axis cs) xs)
-axis_sizes cs [] = refl
-axis_sizes cs (x ∷ xs) = ap (λ n. n ∷ sizes_by cs (axis_names xs) (shape_over xs)) (one_size cs x) ∙ ap (λ ns. (new_axis cs x).size ∷ ns) (axis_sizes cs xs)
-
--- of an array over axes
-pub changed_over : (cs : List Change) (fill : Option ℤ) (xs : List Axis) (masked : Bool) (a : Array) → a.shape ≡ shape_over xs → AreCells (shape_over xs) a.kind masked a.cells → TakesFit (steps_along cs fill (axis_names xs)) (shape_over xs) a.kind
-    → IsChangedTo (masked_along cs (axis_names xs) fill masked) (steps_along cs fill (axis_names xs)) a (changed_cells cs (axis_names xs) fill a) (shape_over xs) (shape_over (map (new_axis cs) xs))
-changed_over cs fill xs masked a shape is fit =
-    changed_to cs fill (axis_names xs) (shape_over xs) (shape_over (map (new_axis cs) xs)) masked a (length-map xs (λ (x : Axis). x.name) ∙ sym (length-map xs (λ (x : Axis). x.size))) (axis_sizes cs xs) shape is fit
-
--- ---- coordinates
-
-no_axes : (cs : List Change) (xs : List Axis) → shape_over xs ≡ [] → shape_over (map (new_axis cs) xs) ≡ []
-no_axes cs [] e = refl
-no_axes cs (x ∷ xs) e = absurd cc
-
-content_formed : (cs : List Change) (fill : Option ℤ) (xs : List Axis) (c : Content) → ContentFits cs fill (axis_names xs) c → IsContent (shape_over xs) c → is_within (shape_over (map (new_axis cs) xs)) ≡ true
-    → IsContent (shape_over (map (new_axis cs) xs)) (changed_content cs (axis_names xs) fill c)
-content_formed cs fill xs (contents.Cells a masked) fit is e =
-    let to = changed_over cs fill xs masked a is.0 is.1 (subst (λ s. TakesFit (steps_along cs fill (axis_names xs)) s a.kind) is.0 fit) in
-    (to.shape, subst (λ t. AreCells (shape_over (map (new_axis cs) xs)) t (masked_along cs (axis_names xs) fill masked) (changed_cells cs (axis_names xs) fill a).cells) (sym to.kind) (to.cells e))
-content_formed cs fill xs (contents.Text t) fit is e = no_axes cs xs is
-content_formed cs fill xs (contents.Time coding t) fit is e = (no_axes cs xs is.0, is.1)
-
 over_new : (cs : List Change) (axes xs : List Axis) → AllByRecursion (IsThere axes) xs → AllByRecursion (IsThere (map (new_axis cs) axes)) (map (new_axis cs) xs)
 over_new cs axes xs all =
     each_map (IsThere axes) (IsThere (map (new_axis cs) axes)) (new_axis cs) xs
@@ -141,13 +57,98 @@ over_new cs axes xs all =
       ap (axis_called (map (new_axis cs) axes)) (name_kept cs x) ∙ called_new cs axes x.name there.0 ∙ ap (new_axis cs) there.1,
     )) all
 
+-- ---- cells along new axes
+
+-- no size on the way is greater than that of an old or of a new axis
+low : (cs : List Change) (axes xs : List Axis) → AllByRecursion (IsThere axes) xs → AreLow cs (greatest (axes ++ map (new_axis cs) axes)) xs
+low cs axes xs all =
+    let news = map (new_axis cs) axes in
+    each_weaker (IsThere axes) (λ (x : Axis). (x.size ≤ greatest (axes ++ news) x.name) × ((new_axis cs x).size ≤ greatest (axes ++ news) x.name)) xs
+    (λ x there.
+    let both = greatest_both axes news x.name in
+    let old = called_below axes x.name in
+    let own = ap (λ (y : Axis). y.size) there.1 in
+    let new = called_below news x.name in
+    let same = ap (λ (y : Axis). y.size) (called_new cs axes x.name there.0 ∙ ap (new_axis cs) there.1) in
+    (omega arith, omega arith)) all
+
+filled : (h : Bool) (fill : Option ℤ) → (h && is_none fill) ≡ false → (h && is_none (cond h fill None)) ≡ false
+filled true fill e = e
+filled false fill e = refl
+
+-- the cells that steps make along dimensions of some of these axes, of new sizes
+pub record IsChangedTo (cs : List Change) (fill : Option ℤ) (axes : List Axis) (dims : List (List ℕ)) (ms : List ℕ) (masked : Bool) (kind : DType) (a : Array) : Type 0 where
+  pub value : steps_value (steps_along cs fill dims) a ≡ changed_cells cs dims fill a
+  pub shape : (changed_cells cs dims fill a).shape ≡ ms
+  pub kind_is : (changed_cells cs dims fill a).kind ≡ kind
+  pub cells : is_within ms ≡ true → AreCells ms kind (masked_along cs dims fill masked) (changed_cells cs dims fill a).cells
+  pub fits : StepsFit (steps_along cs fill dims) a
+  pub few : steps_cells (steps_along cs fill dims) a ≤ 16 * span (axes ++ map (new_axis cs) axes)
+
+pub changed_over : (cs : List Change) (fill : Option ℤ) (axes xs : List Axis) (masked : Bool) (kind : DType) (a : Array) → AllByRecursion (IsThere axes) xs → are_distinct (axis_names xs) ≡ true → a.kind ≡ kind → a.shape ≡ shape_over xs → AreCells (shape_over xs) kind masked a.cells
+    → TakesFit (steps_along cs fill (axis_names xs)) (shape_over xs) kind → IsChangedTo cs fill axes (axis_names xs) (shape_over (map (new_axis cs) xs)) masked kind a
+changed_over cs fill axes xs masked kind a there distinct kinds shape is fit =
+    let dims = axis_names xs in
+    let ms = shape_over (map (new_axis cs) xs) in
+    let g = axes ++ map (new_axis cs) axes in
+    let hides = masked_along cs dims fill masked in
+    let ss = steps_along cs fill dims in
+    let plain = λ (e : hides ≡ false). or_parts masked (has_hole cs dims && is_none fill) e in
+    let rank = ap length shape in
+    let most = is.low_rank in
+    let r = all_along cs (fill_along cs dims fill) hides (greatest g) xs (λ e. filled (has_hole cs dims) fill (plain e).1) (low cs axes xs there) [] 0 a refl shape (omega arith)
+    (subst (TakesFit ss a.shape) (sym kinds) (subst (λ s. TakesFit ss s kind) (sym shape) fit))
+    (record { whole = is.whole ∙ ap size (sym shape); range = subst (λ t. All (IsCell t) a.cells) (sym kinds) is.range; seen = λ e. is.seen (plain e).0 }) in
+    let value : steps_value ss a ≡ changed_cells cs dims fill a = value_along cs (fill_along cs dims fill) 0 dims a in
+    let to : (changed_cells cs dims fill a).shape ≡ ms = ap (λ (b : Array). b.shape) (sym value) ∙ r.shape in
+    let same : (changed_cells cs dims fill a).kind ≡ kind = ap (λ (b : Array). b.kind) (sym value) ∙ r.kind ∙ kinds in
+    let all = subst (AreAll hides) value r.all in
+    record {
+      value = value;
+      shape = to;
+      kind_is = same;
+      cells = λ e. let limits = within ms e in record { whole = all.whole ∙ ap size to; range = subst (λ t. All (IsCell t) (changed_cells cs dims fill a).cells) same all.range; seen = all.seen; low_rank = limits.0; few = limits.2 };
+      fits = r.fits;
+      few =
+          let all = span_above (greatest g) dims g distinct (λ n e. front_among axes (map (new_axis cs) axes) n (named_in axes dims n (names_there axes xs there) e)) (λ n. omega arith) in
+          let few = r.few in
+          let up = mul-le (length (shape_over xs)) (1 * size (map (greatest g) dims)) 16 (span g) most (omega (arith, all)) in
+          omega (arith, few, up);
+    }
+
+-- along dimensions of a variable
+pub changed_named : (cs : List Change) (fill : Option ℤ) (axes : List Axis) (dims : List (List ℕ)) (masked : Bool) (kind : DType) (a : Array) → AreThere (axis_names axes) dims → are_distinct dims ≡ true → a.kind ≡ kind → a.shape ≡ sizes_named axes dims
+    → AreCells (sizes_named axes dims) kind masked a.cells → TakesFit (steps_along cs fill dims) (sizes_named axes dims) kind → IsChangedTo cs fill axes dims (sizes_named (map (new_axis cs) axes) dims) masked kind a
+changed_named cs fill axes dims masked kind a among_axes =
+    let news = map (new_axis cs) axes in
+    let xs = axes_called axes dims in
+    let there = each_map (λ d. among (axis_names axes) d ≡ true) (IsThere axes) (axis_called axes) dims (λ d has. let e = called_name axes d has in (ap (among (axis_names axes)) e ∙ has, ap (axis_called axes) e)) among_axes in
+    let named = named_again axes dims among_axes in
+    let sizes : shape_over (map (new_axis cs) xs) ≡ sizes_named news dims =
+    ap shape_over (sym (the_axes news (map (new_axis cs) xs) (over_new cs axes xs there))) ∙ ap (λ ns. shape_over (axes_called news ns)) (names_kept cs xs ∙ named) ∙ sizes_again news dims in
+    rw (named, sizes_again axes dims, sizes) at (changed_over cs fill axes xs masked kind a there)
+
+-- ---- coordinates
+
+no_axes : (cs : List Change) (xs : List Axis) → shape_over xs ≡ [] → shape_over (map (new_axis cs) xs) ≡ []
+no_axes cs [] e = refl
+no_axes cs (x ∷ xs) e = absurd cc
+
+content_formed : (cs : List Change) (fill : Option ℤ) (axes xs : List Axis) (c : Content) → AllByRecursion (IsThere axes) xs → are_distinct (axis_names xs) ≡ true → ContentFits cs fill (axis_names xs) c → IsContent (shape_over xs) c → is_within (shape_over (map (new_axis cs) xs)) ≡ true
+    → IsContent (shape_over (map (new_axis cs) xs)) (changed_content cs (axis_names xs) fill c)
+content_formed cs fill axes xs (contents.Cells a masked) there distinct fit is e =
+    let to = changed_over cs fill axes xs masked a.kind a there distinct refl is.0 is.1 (subst (λ s. TakesFit (steps_along cs fill (axis_names xs)) s a.kind) is.0 fit) in
+    (to.shape, subst (λ t. AreCells (shape_over (map (new_axis cs) xs)) t (masked_along cs (axis_names xs) fill masked) (changed_cells cs (axis_names xs) fill a).cells) (sym to.kind_is) (to.cells e))
+content_formed cs fill axes xs (contents.Text t) there distinct fit is e = no_axes cs xs is
+content_formed cs fill axes xs (contents.Time coding t) there distinct fit is e = (no_axes cs xs is.0, is.1)
+
 coord_formed : (cs : List Change) (fill : Option ℤ) (axes : List Axis) (c : Coord) → IsCoordinate axes c → CoordFits cs fill c → is_within (shape_over (map (new_axis cs) c.axes)) ≡ true → IsCoordinate (map (new_axis cs) axes) (changed_coord cs fill c)
 coord_formed cs fill axes c is fit e = record {
   name = is.name;
   over = over_new cs axes c.axes is.over;
   distinct = ap are_distinct (names_kept cs c.axes) ∙ is.distinct;
   attrs = is.attrs;
-  content = content_formed cs fill c.axes c.content fit is.content e;
+  content = content_formed cs fill axes c.axes c.content is.over is.distinct fit is.content e;
 }
 
 pub coords_formed : (cs : List Change) (fill : Option ℤ) (axes : List Axis) (coords : List Coord) → AllByRecursion (IsCoordinate axes) coords → AllByRecursion (CoordFits cs fill) coords → are_within (map (changed_coord cs fill) coords) ≡ true
@@ -158,24 +159,4 @@ coords_formed cs fill axes (c ∷ coords) is fit e =
     (coord_formed cs fill axes c is.0 fit.0 parts.0, coords_formed cs fill axes coords is.1 fit.1 parts.1)
 
 pub coord_names : (cs : List Change) (fill : Option ℤ) (coords : List Coord) → names_of (map (changed_coord cs fill) coords) ≡ names_of coords
-coord_names cs fill [] = refl
-coord_names cs fill (c ∷ coords) = ap (λ ns. c.name ∷ ns) (coord_names cs fill coords)
-
--- ---- no size on the way is greater than that of an old or of a new axis
-
-named_below : (g axes : List Axis) (dims : List (List ℕ)) → ((n : List ℕ) → greatest axes n ≤ greatest g n) → Below (sizes_named axes dims) (map (greatest g) dims)
-named_below g axes [] up = tt
-named_below g axes (d ∷ dims) up = let one = called_below axes d in let more = up d in (omega arith, named_below g axes dims up)
-
-pub few_both : (axes news : List Axis) (dims : List (List ℕ)) (cells : ℕ) → ((ws : List ℕ) → Below (sizes_named axes dims) ws → Below (sizes_named news dims) ws → cells ≤ 16 * size ws) → are_distinct dims ≡ true → AreThere (axis_names axes) dims → cells ≤ 16 * span (axes ++ news)
-few_both axes news dims cells few distinct there =
-    let g = axes ++ news in
-    let old = named_below g axes dims (λ n. let both = greatest_both axes news n in omega arith) in
-    let new = named_below g news dims (λ n. let both = greatest_both axes news n in omega arith) in
-    let some = few (map (greatest g) dims) old new in
-    let up = span_above (greatest g) dims g distinct (λ n e. front_among axes news n (named_in axes dims n there e)) (λ n. omega arith) in
-    omega (arith, some, up)
-
--- axes whose names differ have the sizes of their names
-pub own_sizes : (xs : List Axis) → are_distinct (axis_names xs) ≡ true → sizes_named xs (axis_names xs) ≡ shape_over xs
-own_sizes xs distinct = sym (sizes_again xs (axis_names xs)) ∙ ap shape_over (the_axes xs xs (own_axes xs distinct))
+coord_names cs fill = map-map (λ (c : Coord). c.name) (changed_coord cs fill)

@@ -1,6 +1,5 @@
 pub mod Common
 pub mod ChosenLabels
-pub mod Below
 pub mod NewAxes
 pub mod Stepping
 pub mod Formed

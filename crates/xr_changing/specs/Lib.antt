@@ -1,4 +1,3 @@
 pub mod Steps
-pub mod Sizes
 pub mod Changed
 pub mod Made

@@ -13,8 +13,7 @@ use Rattle.xr_operations.specs.Changing.{changed_coord, masked_along, new_axis}
 use Rattle.xr_values.specs.declared.data_array.DataArray.{DataArray}
 use Rattle.xr_values.specs.declared.dataset.Dataset.{Dataset}
 use Rattle.xr_values.specs.declared.variable.Variable.{Variable}
-use Rattle.xr_changing.specs.Sizes.{sizes_named}
-use Rattle.xr_changing.specs.Steps.{steps_along, AreIndexed, CoordFits, TakesFit}
+use Rattle.xr_changing.specs.Steps.{sizes_named, steps_along, AreIndexed, CoordFits, TakesFit}
 
 abbrev pub var_made : List Change → Option ℤ → Variable → VarMade
 var_made cs fill v =

@@ -1,13 +1,14 @@
 -- The steps from old cells to those at new labels, and what a plan takes of them.
-use Rattle.std.specs.Prelude.{◌≡◌, ◌<◌, ◌≤◌, ◌++◌, ℕ, ℤ, suc, Bool, true, false, List, [], ◌∷◌, length, Option, Some, None, get_or, All, MatchOption, ⊤, nat_lt}
-use Rattle.std.specs.List.{AllByRecursion}
+use Rattle.std.specs.Prelude.{◌≡◌, ◌<◌, ◌≤◌, ◌++◌, ℕ, ℤ, suc, Bool, true, false, List, [], ◌∷◌, length, map, Option, Some, None, get_or, All, MatchOption, ⊤}
+use Rattle.std.specs.List.{AllByRecursion, list_all}
 use Rattle.xr_types.specs.Names.{axis_names}
 use Rattle.xr_types.specs.Points.{size}
 use Rattle.xr_types.specs.declared.axis.Axis.{Axis}
 use Rattle.xr_types.specs.declared.kind.DType.{DType}
 use Rattle.xr_arrays.specs.Arrays.{IsCell}
 use Rattle.xr_arrays.specs.Nodes.{most_node_cells, IsBelow}
-use Rattle.xr_defs.specs.Selecting.{axis_called}
+use Rattle.xr_defs.specs.Selecting.{axis_called, is_within, variable_array}
+use Rattle.xr_defs.specs.Values.{Variable}
 use Rattle.xr_defs.specs.WellFormed.{IsIndex}
 use Rattle.xr_defs.specs.declared.value.Content.{Content}
 use Rattle.xr_defs.specs.declared.value.Content.TheVariants as contents
@@ -17,6 +18,7 @@ use Rattle.xr_formulas.specs.declared.chain.Step.TheVariants.{Take}
 use Rattle.plan_core.specs.Takes.{taking_sizes}
 use Rattle.xr_operations.specs.declared.change.Change.{Change}
 use Rattle.xr_operations.specs.Changing.{change_called, fill_along, new_axis}
+use Rattle.xr_values.specs.declared.variable.Variable as program
 
 -- ---- axes
 
@@ -26,6 +28,18 @@ HasIndex x = MatchOption x.labels ⊤ (IsIndex x.size)
 -- an axis with an index has one after the changes
 abbrev pub AreIndexed : List Change → List Axis → Type 0
 AreIndexed cs xs = AllByRecursion (λ (x : Axis). HasIndex x → HasIndex (new_axis cs x)) xs
+
+-- ---- sizes of variables
+
+abbrev pub sizes_named : List Axis → List (List ℕ) → List ℕ
+sizes_named axes dims = map (λ d. (axis_called axes d).size) dims
+
+abbrev pub are_vars_within : List Axis → List Variable → Bool
+are_vars_within axes vs = list_all (λ v. is_within (variable_array axes v).shape) vs
+
+-- of variables of a plan
+abbrev pub are_named_within : List Axis → List program.Variable → Bool
+are_named_within axes vs = list_all (λ (v : program.Variable). is_within (sizes_named axes v.dims)) vs
 
 -- ---- steps
 
@@ -40,11 +54,6 @@ steps_from cs fill k (d ∷ dims) = step_by fill k (change_called cs d) ++ steps
 
 abbrev pub steps_along : List Change → Option ℤ → List (List ℕ) → List Step
 steps_along cs fill dims = steps_from cs (fill_along cs dims fill) 0 dims
-
--- whether a position is one of an axis of this size, if there is one
-abbrev pub is_below : ℕ → Option ℕ → Bool
-is_below n None = true
-is_below n (Some i) = nat_lt i n
 
 -- a plan takes positions of an axis of these sizes
 pub record TakeFits (k : ℕ) (from : List (Option ℕ)) (fill : Option ℤ) (drops : Bool) (s : List ℕ) (t : DType) : Type 0 where

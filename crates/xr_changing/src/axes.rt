@@ -1,5 +1,5 @@
 //! Axes with new labels.
-ghost use Rattle.std.specs.Prelude.{◌≡◌, true, ⊤, Some, length, map, All, IfOk, MatchOption};
+ghost use Rattle.std.specs.Prelude.{◌≡◌, true, ⊤, ℕ, length, map, option_map, All, IfOk, MatchOption};
 ghost use Rattle.xr_types.specs.Kinds.{InRange};
 ghost use Rattle.xr_types.specs.declared.kind.DType.TheVariants as kinds;
 ghost use Rattle.xr_times.specs.Times.{IsTime};
@@ -23,12 +23,10 @@ fn number_of(label: &Label) -> Result<i64, NoMemory>
     ensures { IfOk result (λ n. n ≡ number_of label.now) }
 {
     match label {
-        Label::Int(n) => {
-            if *n < i64::MIN as i128 || *n > i64::MAX as i128 {
-                return Err(NoMemory);
-            }
-            Ok(*n as i64)
-        }
+        Label::Int(number) => match i64::try_from(*number) {
+            Ok(number) => Ok(number),
+            Err(_) => Err(NoMemory),
+        },
         Label::Time(time) => Ok(*time),
         Label::Text(_) => Ok(0),
     }
@@ -56,37 +54,15 @@ fn is_time(time: i64, calendar: Calendar) -> bool
     }
 }
 
-// The time of a label. One outside the years 1 to 9999, which no text of a date has, wants memory.
-fn time_of(label: &Label, calendar: Calendar) -> Result<i64, NoMemory>
-    ensures is { IfOk result (λ n. n ≡ number_of label.now) }
-    ensures time { IfOk result (IsTime calendar) }
+fn are_times(times: &[i64], calendar: Calendar) -> bool
+    ensures { result ≡ true → All (IsTime calendar) times.now }
 {
-    let time = number_of(label)?;
-    if is_time(time, calendar) {
-        Ok(time)
-    } else {
-        Err(NoMemory)
+    for time in times {
+        if !is_time(*time, calendar) {
+            return false;
+        }
     }
-}
-
-fn times_of(alloc: Global, labels: &[Label], calendar: Calendar) -> Result<Items<i64>, NoMemory>
-    ensures is { IfOk result (λ ns. ns ≡ map number_of labels.now) }
-    ensures times { IfOk result (All (IsTime calendar)) }
-{
-    let mut times = Items::new(alloc);
-    for label in labels {
-        times.push(time_of(label, calendar)?)?;
-    }
-    Ok(times)
-}
-
-fn text_of(alloc: Global, label: &Label) -> Result<TextBytes, NoMemory>
-    ensures { IfOk result (λ t. t ≡ text_of label.now) }
-{
-    match label {
-        Label::Text(text) => Ok(text.deep_copy(alloc)?),
-        _ => Ok(TextBytes::from_str(alloc, "")?),
-    }
+    true
 }
 
 fn texts_of(alloc: Global, labels: &[Label]) -> Result<Items<TextBytes>, NoMemory>
@@ -94,12 +70,16 @@ fn texts_of(alloc: Global, labels: &[Label]) -> Result<Items<TextBytes>, NoMemor
 {
     let mut texts = Items::new(alloc);
     for label in labels {
-        texts.push(text_of(alloc, label)?)?;
+        match label {
+            Label::Text(text) => texts.push(text.deep_copy(alloc)?)?,
+            _ => texts.push(TextBytes::from_str(alloc, "")?)?,
+        }
     }
     Ok(texts)
 }
 
-// Labels of the sort of a list, whole numbers as those of kind int64.
+// Labels of the sort of a list, whole numbers as those of kind int64. Times outside the years 1 to 9999, which no text of a date
+// has, want memory.
 fn relisted(alloc: Global, list: &LabelList, labels: &[Label]) -> Result<LabelList, NoMemory>
     ensures is { IfOk result (λ l. l ≡ relisted kinds.Int64 list.now labels.now) }
     ensures range { IfOk result AreLabels }
@@ -110,8 +90,11 @@ fn relisted(alloc: Global, list: &LabelList, labels: &[Label]) -> Result<LabelLi
             Ok(LabelList::Numbers(DType::Int64, numbers))
         }
         LabelList::Times(coding, _) => {
-            let times = Shared::of(alloc, times_of(alloc, labels, coding.units.calendar)?)?;
-            Ok(LabelList::Times(coding.deep_copy(alloc)?, times))
+            let times = numbers_of(alloc, labels)?;
+            if !are_times(times.as_slice(), coding.units.calendar) {
+                return Err(NoMemory);
+            }
+            Ok(LabelList::Times(coding.deep_copy(alloc)?, Shared::of(alloc, times)?))
         }
         LabelList::Texts(_) => {
             let texts = Shared::of(alloc, texts_of(alloc, labels)?)?;
@@ -141,26 +124,18 @@ fn new_list(alloc: Global, change: &Change, labels: &Labels) -> Result<Labels, N
     Ok(Labels { list, attrs })
 }
 
-fn changed_axis(alloc: Global, axis: &Axis, change: &Change) -> Result<Axis, NoMemory>
-    ensures is { IfOk result (λ x. x ≡ of.changed_axis axis.now (Some change.now)) }
-    ensures index { MatchOption axis.now.labels ⊤ (IsIndex axis.now.size) → IfOk result (λ x. MatchOption x.labels ⊤ (IsIndex x.size)) }
+#[tactic(auto, using(crate::proofs::NewAxes::attrs_kept))]
+fn new_labels(
+    alloc: Global,
+    change: &Change,
+    labels: &Option<Labels>,
+) -> Result<Option<Labels>, NoMemory>
+    ensures is { IfOk result (λ l. l ≡ option_map (of.new_list change.now) labels.now) }
+    ensures index { (n : ℕ) → MatchOption labels.now ⊤ (IsIndex n) → IfOk result (λ l. MatchOption l ⊤ (IsIndex (length change.now.from))) }
 {
-    let name = axis.name.deep_copy(alloc)?;
-    let size = change.from.as_slice().len() as u64;
-    match &axis.labels {
-        None => Ok(Axis {
-            name,
-            size,
-            labels: None,
-        }),
-        Some(labels) => {
-            let labels = new_list(alloc, change, labels)?;
-            Ok(Axis {
-                name,
-                size,
-                labels: Some(labels),
-            })
-        }
+    match labels {
+        None => Ok(None),
+        Some(labels) => Ok(Some(new_list(alloc, change, labels)?)),
     }
 }
 
@@ -170,7 +145,11 @@ fn new_axis(alloc: Global, changes: &[Change], axis: &Axis) -> Result<Axis, NoMe
 {
     match change_called(changes, &axis.name) {
         None => Ok(axis.deep_copy(alloc)?),
-        Some(change) => changed_axis(alloc, axis, change),
+        Some(change) => Ok(Axis {
+            name: axis.name.deep_copy(alloc)?,
+            size: change.from.as_slice().len() as u64,
+            labels: new_labels(alloc, change, &axis.labels)?,
+        }),
     }
 }
 

@@ -4,11 +4,10 @@ ghost use Rattle.std.specs.List.{AllByRecursion};
 ghost use Rattle.xr_operations.specs.Changing as of;
 ghost use Rattle.xr_types.specs.declared.axis.Axis.{Axis as OneAxis};
 ghost use Rattle.xr_defs.specs.Selecting.{axis_called};
-ghost use Rattle.xr_changing.specs.Steps.{steps_along, ContentFits, CoordFits, IsRenewed, TakesFit};
+ghost use Rattle.xr_changing.specs.Steps.{ContentFits, CoordFits, IsRenewed};
 
 use crate::steps::{masked_along, steps_along, taken};
 use std::alloc::Global;
-use xr_arrays::ArrayValue;
 use xr_defs::{Content, Coord};
 use xr_operations::Change;
 use xr_reducing::names_of;
@@ -16,20 +15,6 @@ use xr_types::{Axis, DeepCopy, Items, Name, NoMemory};
 
 // Steps that a plan wouldn't take, of which no coordinate has any, want memory.
 #[tactic(auto, using(crate::proofs::Stepping::value_along))]
-fn changed_cells(
-    alloc: Global,
-    changes: &[Change],
-    fill: Option<i128>,
-    dims: &[Name],
-    cells: &ArrayValue,
-) -> Result<ArrayValue, NoMemory>
-    ensures is { IfOk result (λ a. a ≡ of.changed_cells changes.now dims.now fill cells.now) }
-    ensures fits { IfOk result (λ a. TakesFit (steps_along changes.now fill dims.now) cells.now.shape cells.now.kind) }
-{
-    let steps = steps_along(alloc, changes, fill, dims, cells.shape(), cells.kind())?;
-    taken(alloc, steps.as_slice(), cells.copy(alloc)?)
-}
-
 fn changed_content(
     alloc: Global,
     changes: &[Change],
@@ -43,7 +28,8 @@ fn changed_content(
     match content {
         Content::Cells(cells, masked) => {
             let masked = masked_along(changes, dims, fill, *masked);
-            let cells = changed_cells(alloc, changes, fill, dims, cells)?;
+            let steps = steps_along(alloc, changes, fill, dims, cells.shape(), cells.kind())?;
+            let cells = taken(alloc, steps.as_slice(), cells.copy(alloc)?)?;
             Ok(Content::Cells(cells, masked))
         }
         Content::Text(text) => Ok(Content::Text(text.deep_copy(alloc)?)),
@@ -92,14 +78,11 @@ fn changed_coord(
     let own = coord.axes.as_slice();
     let names = names_of(alloc, own)?;
     let axes = axes_called(alloc, news, own)?;
-    let content = changed_content(alloc, changes, fill, names.as_slice(), &coord.content)?;
-    let name = coord.name.deep_copy(alloc)?;
-    let attrs = coord.attrs.deep_copy(alloc)?;
     Ok(Coord {
-        name,
+        name: coord.name.deep_copy(alloc)?,
         axes,
-        attrs,
-        content,
+        attrs: coord.attrs.deep_copy(alloc)?,
+        content: changed_content(alloc, changes, fill, names.as_slice(), &coord.content)?,
     })
 }
 

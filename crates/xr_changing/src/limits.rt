@@ -9,7 +9,7 @@ ghost use Rattle.xr_defs.specs.Selecting as limits;
 ghost use Rattle.xr_operations.specs.declared.change.Change.{Change as OneChange};
 ghost use Rattle.xr_operations.specs.Changing as of;
 ghost use Rattle.xr_values.specs.Stands.{array_in, dataset_in};
-ghost use Rattle.xr_changing.specs.Sizes.{are_named_within, sizes_named};
+ghost use Rattle.xr_changing.specs.Steps.{are_named_within, sizes_named};
 
 use crate::named::change_called;
 use arrangement::points;
@@ -137,19 +137,16 @@ fn are_named_within(
     Ok(true)
 }
 
-#[tactic(auto, using(crate::proofs::NewAxes::few_kept))]
+#[tactic(auto, using(crate::proofs::NewAxes::mapped))]
 fn are_few(on: &Dataset) -> bool
     ensures { (changes : List OneChange) (nodes : List Node) (fill : Option ℤ) → result ≡ limits.are_few (of.changed_set changes fill (dataset_in nodes on.now)) }
 {
-    on.coords
-        .as_slice()
-        .len()
-        .saturating_add(on.vars.as_slice().len())
-        <= MOST_VARIABLES
+    let (coords, vars) = (on.coords.as_slice(), on.vars.as_slice());
+    coords.len().saturating_add(vars.len()) <= MOST_VARIABLES
 }
 
 /// Refuses a dataset that would be too large.
-#[tactic(auto, using(crate::proofs::NewAxes::axes_short, crate::proofs::NewAxes::named_within), unfolding(xr_defs::specs::Selecting::check_set, xr_types::specs::Results::unless))]
+#[tactic(auto, using(crate::proofs::NewAxes::mapped), unfolding(xr_defs::specs::Selecting::check_set, xr_types::specs::Results::unless))]
 pub fn check_set(alloc: Global, changes: &[Change], on: &Dataset) -> Result<(), CallFault>
     ensures { (nodes : List Node) (fill : Option ℤ) → Answers (λ u. u) result (limits.check_set (of.changed_set changes.now fill (dataset_in nodes on.now))) }
 {

@@ -22,6 +22,7 @@ use xr_types::{DeepCopy, NoMemory};
 use xr_values::DataArray;
 
 // The array where dimensions are given other positions, before a plan. Steps that a plan doesn't take want memory.
+#[tactic(auto, using(crate::proofs::Formed::coords_renewed, crate::proofs::NewAxes::unchanged))]
 fn array_made(
     alloc: Global,
     changes: &[Change],
@@ -52,6 +53,7 @@ fn array_made(
 }
 
 /// The array where dimensions are given other positions, which isn't too large.
+#[tactic(auto, using(crate::proofs::PlacedArrays::made_fits))]
 pub fn placed(
     alloc: Global,
     plan: &mut Plan,

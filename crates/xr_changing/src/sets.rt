@@ -20,6 +20,7 @@ use xr_types::{DeepCopy, NoMemory};
 use xr_values::Dataset;
 
 // The dataset where dimensions are given other positions, before a plan.
+#[tactic(auto, using(crate::proofs::Formed::coords_renewed))]
 fn set_made(
     alloc: Global,
     changes: &[Change],
@@ -43,6 +44,7 @@ fn set_made(
 }
 
 /// The dataset where dimensions are given other positions, which isn't too large.
+#[tactic(auto, using(crate::proofs::SetsPlaced::set_placed))]
 pub fn set_placed(
     alloc: Global,
     plan: &mut Plan,

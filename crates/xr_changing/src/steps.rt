@@ -5,7 +5,7 @@ ghost use Rattle.xr_arrays.specs.Arrays.{IsCell};
 ghost use Rattle.xr_arrays.specs.Nodes.{most_node_cells, IsBelow};
 ghost use Rattle.xr_formulas.specs.Chains.{steps_value};
 ghost use Rattle.xr_operations.specs.Changing as of;
-ghost use Rattle.xr_changing.specs.Steps.{is_below, step_by, steps_along, steps_from, TakesFit};
+ghost use Rattle.xr_changing.specs.Steps.{step_by, steps_along, steps_from, TakesFit};
 
 use crate::named::{change_called, has_hole};
 use arrangement::{points, take};
@@ -18,13 +18,6 @@ use xr_types::{DType, Items, Name, NoMemory};
 /// Cells of a node of a plan.
 const MOST_NODE_CELLS: u64 = 1 << 50;
 
-/// The fill, where some position has no source.
-pub fn fill_along(changes: &[Change], dims: &[Name], fill: Option<i128>) -> Option<i128>
-    ensures { result ≡ of.fill_along changes.now dims.now fill }
-{
-    if has_hole(changes, dims) { fill } else { None }
-}
-
 /// Whether missing cells may stand in what had none or some, once changes are made.
 pub fn masked_along(changes: &[Change], dims: &[Name], fill: Option<i128>, masked: bool) -> bool
     ensures { result ≡ of.masked_along changes.now dims.now fill masked }
@@ -35,7 +28,7 @@ pub fn masked_along(changes: &[Change], dims: &[Name], fill: Option<i128>, maske
 // ---- what a plan takes
 
 fn is_below(at: Option<u32>, size: u64) -> bool
-    ensures { result ≡ is_below size at }
+    ensures { result ≡ true → IsBelow size at }
 {
     match at {
         None => true,
@@ -43,11 +36,15 @@ fn is_below(at: Option<u32>, size: u64) -> bool
     }
 }
 
-#[tactic(auto, using(crate::proofs::Below::all_below))]
 fn are_below(from: &[Option<u32>], size: u64) -> bool
     ensures { result ≡ true → All (IsBelow size) from.now }
 {
-    from.iter().all(|at| is_below(*at, size))
+    for at in from {
+        if !is_below(*at, size) {
+            return false;
+        }
+    }
+    true
 }
 
 fn can_take(
@@ -121,7 +118,7 @@ pub fn steps_along(
 {
     let mut steps = Items::new(alloc);
     let mut sizes = Items::from_slice(alloc, shape)?;
-    let fill = fill_along(changes, dims, fill);
+    let fill = if has_hole(changes, dims) { fill } else { None };
     push_steps(alloc, &mut steps, changes, fill, 0, dims, &mut sizes, kind)?;
     Ok(steps)
 }

@@ -14,6 +14,7 @@ use xr_types::{Axis, DeepCopy, Items, NoMemory};
 use xr_values::Variable;
 
 // Steps that a plan doesn't take want memory.
+#[tactic(auto, using(crate::proofs::NewAxes::fits_unchanged))]
 fn var_made(
     alloc: Global,
     changes: &[Change],
@@ -28,12 +29,11 @@ fn var_made(
     let shape = sizes_named(alloc, &[], axes, dims)?;
     let steps = steps_along(alloc, changes, fill, dims, shape.as_slice(), var.kind)?;
     let start = Start::Node(var.node);
-    let masked = masked_along(changes, dims, fill, var.masked);
     Ok(VarMade {
         name: var.name.deep_copy(alloc)?,
         dims: var.dims.deep_copy(alloc)?,
         kind: var.kind,
-        masked,
+        masked: masked_along(changes, dims, fill, var.masked),
         attrs: var.attrs.deep_copy(alloc)?,
         cells: Chain { start, steps },
     })

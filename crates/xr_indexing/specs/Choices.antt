@@ -1,10 +1,9 @@
 -- What selectors and choices of the program stand for.
-use Rattle.std.specs.Prelude.{◌++◌, ℕ, List, Result, Ok}
+use Rattle.std.specs.Prelude.{◌++◌, List, Result, Ok}
 use Rattle.xr_types.specs.declared.fault.Fault.{Fault}
 use Rattle.xr_types.specs.Results.{◌>>=◌}
 use Rattle.xr_defs.specs.Selecting as of
 use Rattle.xr_defs.specs.Arguments as calls
-use Rattle.xr_defs.specs.Meanings.{Value}
 use Rattle.xr_indexing.specs.declared.choice.Positions.{Positions}
 use Rattle.xr_indexing.specs.declared.choice.Selector.{Selector}
 use Rattle.xr_indexing.specs.declared.choice.Selector.TheVariants.{At, Span, Each}
@@ -26,7 +25,3 @@ choice_in (Several ps) = of.Several ps
 -- items that come behind others
 abbrev pub behind : {A : Type 0} → List A → Result (List A) Fault → Result (List A) Fault
 behind out more = more >>= λ xs. Ok (out ++ xs)
-
--- what a dimension of this size is given
-abbrev pub choice_given : ℕ → Value → Result of.Choice Fault
-choice_given n v = of.as_selector v >>= λ s. of.choice_of n s

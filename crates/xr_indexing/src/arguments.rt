@@ -10,8 +10,11 @@ use xr_types::{CallFault, Fault, Items};
 use xr_values::Value;
 
 /// The number that a value is.
+///
+/// # Errors
+/// `WrongKind` unless it is a number.
 #[tactic(auto, using(xr_arguments::proofs::Variants::is_number, xr_values::proofs::Meaning::meaning_out), unfolding(xr_defs::specs::Selecting::as_number))]
-fn as_number(value: &Value) -> Result<i128, CallFault>
+pub fn as_number(value: &Value) -> Result<i128, CallFault>
     ensures { (nodes : List Node) → Answers (λ n. n) result (of.as_number (meaning nodes value.now)) }
 {
     match value {

@@ -15,10 +15,7 @@ pub fn position_of(axes: &[Axis], name: &TextBytes) -> Option<usize>
             if axis.name.is(name) {
                 return Some(0);
             }
-            match position_of(rest, name) {
-                Some(n) => Some(n + 1),
-                None => None,
-            }
+            Some(position_of(rest, name)? + 1)
         }
     }
 }

@@ -13,30 +13,9 @@ use crate::selection::selection_given;
 use plan_core::Plan;
 use std::alloc::Global;
 use xr_changing::{check_array, check_set, placed, set_placed};
-use xr_operations::Selection;
 use xr_squeezing::{are_few, squeezed_array, squeezed_set};
 use xr_types::{CallFault, Fault};
 use xr_values::{Args, DataArray, Dataset};
-
-// The array at these positions, once it isn't too large.
-#[tactic(auto, unfolding(xr_operations::specs::Indexing::array_selected))]
-fn array_selected(
-    alloc: Global,
-    plan: &mut Plan,
-    selection: &Selection,
-    on: &DataArray,
-) -> Result<DataArray, CallFault>
-    requires { IsArrayIn plan.old on.now }
-    ensures answers { AnswersArray plan.new result (of.array_selected selection.now (array_in plan.old on.now)) }
-    ensures grows { Grows plan.old plan.new }
-    ensures room { IfOk result (λ b. AddsAtMost plan.old plan.new (room (of_array (array_in plan.old on.now) ∷ of_array (array_in plan.new b) ∷ []))) }
-{
-    let changes = selection.changes.as_slice();
-    check_array(alloc, changes, on)?;
-    let taken = placed(alloc, plan, changes, None, on)?;
-    let left = squeezed_array(alloc, plan, selection.gone.as_slice(), taken)?;
-    Ok(left)
-}
 
 /// The array at the positions of each argument by keyword: a position, a slice or a list of positions. A dimension of which one
 /// position is taken goes, and leaves its label there as a coordinate.
@@ -45,7 +24,7 @@ fn array_selected(
 /// `BadArgument` for a plain argument; then, for each argument, `WrongKind` unless it is a position, a slice or a list of
 /// positions, and `BadArgument` for a step of 0; then `NoDimension` for the first name that is no dimension; then
 /// `OutOfRange` for a position that isn't there; then `TooLarge`.
-#[tactic(auto, unfolding(xr_operations::specs::Indexing::isel_array))]
+#[tactic(auto, unfolding(xr_operations::specs::Indexing::isel_array, xr_operations::specs::Indexing::array_selected))]
 pub fn isel_array(
     alloc: Global,
     plan: &mut Plan,
@@ -58,30 +37,10 @@ pub fn isel_array(
     ensures room { IfOk result (λ b. AddsAtMost plan.old plan.new (room (of_array (array_in plan.old on.now) ∷ of_array (array_in plan.new b) ∷ []))) }
 {
     let selection = selection_given(alloc, on.axes.as_slice(), args)?;
-    array_selected(alloc, plan, &selection, on)
-}
-
-// The dataset at these positions, once it isn't too large.
-#[tactic(auto, unfolding(xr_operations::specs::Indexing::set_selected, xr_types::specs::Results::unless))]
-fn set_selected(
-    alloc: Global,
-    plan: &mut Plan,
-    selection: &Selection,
-    on: &Dataset,
-) -> Result<Dataset, CallFault>
-    requires { IsDatasetIn plan.old on.now }
-    ensures answers { AnswersSet plan.new result (of.set_selected selection.now (dataset_in plan.old on.now)) }
-    ensures grows { Grows plan.old plan.new }
-    ensures room { IfOk result (λ t. AddsAtMost plan.old plan.new (room (of_set (dataset_in plan.old on.now) ∷ of_set (dataset_in plan.new t) ∷ []))) }
-{
     let changes = selection.changes.as_slice();
-    let gone = selection.gone.as_slice();
-    check_set(alloc, changes, on)?;
-    let taken = set_placed(alloc, plan, changes, None, on)?;
-    if !are_few(gone, &taken) {
-        return Err(CallFault::Refused(Fault::TooLarge));
-    }
-    let left = squeezed_set(alloc, plan, gone, taken)?;
+    check_array(alloc, changes, on)?;
+    let taken = placed(alloc, plan, changes, None, on)?;
+    let left = squeezed_array(alloc, plan, selection.gone.as_slice(), taken)?;
     Ok(left)
 }
 
@@ -90,7 +49,7 @@ fn set_selected(
 ///
 /// # Errors
 /// Those of `isel_array`.
-#[tactic(auto, unfolding(xr_operations::specs::Indexing::isel_set))]
+#[tactic(auto, unfolding(xr_operations::specs::Indexing::isel_set, xr_operations::specs::Indexing::set_selected, xr_types::specs::Results::unless))]
 pub fn isel_set(
     alloc: Global,
     plan: &mut Plan,
@@ -103,5 +62,13 @@ pub fn isel_set(
     ensures room { IfOk result (λ t. AddsAtMost plan.old plan.new (room (of_set (dataset_in plan.old on.now) ∷ of_set (dataset_in plan.new t) ∷ []))) }
 {
     let selection = selection_given(alloc, on.axes.as_slice(), args)?;
-    set_selected(alloc, plan, &selection, on)
+    let changes = selection.changes.as_slice();
+    let gone = selection.gone.as_slice();
+    check_set(alloc, changes, on)?;
+    let taken = set_placed(alloc, plan, changes, None, on)?;
+    if !are_few(gone, &taken) {
+        return Err(CallFault::Refused(Fault::TooLarge));
+    }
+    let left = squeezed_set(alloc, plan, gone, taken)?;
+    Ok(left)
 }

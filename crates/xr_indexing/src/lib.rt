@@ -9,7 +9,7 @@ mod selection;
 mod selectors;
 mod slices;
 
-pub use arguments::as_numbers;
+pub use arguments::{as_number, as_numbers};
 pub use axes::position_of;
 pub use choice::{Choice, Positions, Selector, choice_of};
 pub use isel::{isel_array, isel_set};

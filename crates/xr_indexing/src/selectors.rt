@@ -1,7 +1,7 @@
 //! Selectors that a call is given: a position, a slice of positions, or a list of them.
-ghost use Rattle.std.specs.Prelude.{◌≡◌, List, map};
+ghost use Rattle.std.specs.Prelude.{List};
 ghost use Rattle.xr_arrays.specs.declared.node.Node.{Node};
-ghost use Rattle.xr_types.specs.Results.{Answers, all_of};
+ghost use Rattle.xr_types.specs.Results.{Answers};
 ghost use Rattle.xr_defs.specs.Meanings.{Slice};
 ghost use Rattle.xr_defs.specs.Arguments as calls;
 ghost use Rattle.xr_defs.specs.Selecting as of;
@@ -27,22 +27,13 @@ fn as_position(part: &Part) -> Result<Option<i128>, CallFault>
     }
 }
 
-fn is_zero(step: Option<i128>) -> bool
-    ensures { result ≡ calls.is_zero step }
-{
-    match step {
-        Some(n) => n == 0,
-        None => false,
-    }
-}
-
 #[tactic(auto, unfolding(xr_defs::specs::Arguments::as_positions, xr_types::specs::Results::unless))]
 fn as_positions(start: &Part, stop: &Part, step: Option<i128>) -> Result<Positions, CallFault>
     ensures { Answers positions_in result (calls.as_positions (Slice start.now stop.now step)) }
 {
     let start = as_position(start)?;
     let stop = as_position(stop)?;
-    if is_zero(step) {
+    if let Some(0) = step {
         return Err(CallFault::Refused(Fault::BadArgument));
     }
     Ok(Positions { start, stop, step })
@@ -92,28 +83,4 @@ pub fn check_dimension(
         Some(_) => Ok(()),
         None => Err(CallFault::Refused(Fault::NoDimension(argument.0.deep_copy(alloc)?))),
     }
-}
-
-/// Refuses the first argument that is no selector.
-pub fn check_selectors(alloc: Global, keyed: &[(TextBytes, Value)]) -> Result<(), CallFault>
-    ensures { (nodes : List Node) → Answers (λ u. u) result (all_of of.check_selector (map (with_key nodes) keyed.now)) }
-{
-    for argument in keyed {
-        check_selector(alloc, argument)?;
-    }
-    Ok(())
-}
-
-/// Refuses the first argument whose name is no dimension.
-pub fn check_dimensions(
-    alloc: Global,
-    axes: &[Axis],
-    keyed: &[(TextBytes, Value)],
-) -> Result<(), CallFault>
-    ensures { (nodes : List Node) → Answers (λ u. u) result (all_of (calls.check_dimension axes.now) (map (with_key nodes) keyed.now)) }
-{
-    for argument in keyed {
-        check_dimension(alloc, axes, argument)?;
-    }
-    Ok(())
 }

@@ -1,93 +1,51 @@
 //! The positions of a slice (Python, "Sequence types: s[i:j:k]").
-ghost use Rattle.std.specs.Prelude.{◌≡◌, ◌<◌, ◌≤◌, ◌-◌, ◌^◌, min, IfOk, unsigned_abs, Some};
-ghost use Rattle.xr_defs.specs.Slices.{rising_end, falling_end, given, rising, falling, slice_positions};
+ghost use Rattle.std.specs.Prelude.{◌≡◌, ◌<◌, ◌≤◌, ◌-◌, ◌^◌, suc, true, false, if◌then◌else◌, map, IfOk, Some};
+ghost use Rattle.xr_defs.specs.Slices.{rising_end, falling_end, given, rising, slice_positions};
 
 use std::alloc::{AllocError, Global};
 
-// How far a number is from 0, as far as 64 bits count.
-fn magnitude(n: i128) -> u64
-    ensures { result ≡ min (unsigned_abs n) (2 ^ 64 - 1) }
-{
-    let far = n.unsigned_abs();
-    if far < 1 << 64 { far as u64 } else { u64::MAX }
-}
-
-// An end of a rising slice, brought into 0 to n.
-fn rising_end(n: u64, end: i128) -> u64
-    ensures value { result ≡ rising_end n end }
-    ensures high { result ≤ n }
-{
-    let far = magnitude(end);
-    if end < 0 {
-        n.saturating_sub(far)
-    } else {
-        far.min(n)
-    }
-}
-
-// One more than an end of a falling slice, brought into 0 to n.
-fn falling_end(n: u64, end: i128) -> u64
-    ensures value { result ≡ falling_end n end }
-    ensures high { result ≤ n }
-{
-    if end < 0 {
-        n.saturating_sub(magnitude(end + 1))
-    } else {
-        let far = magnitude(end);
-        if far < n { far + 1 } else { n }
-    }
-}
-
-fn rising_end_or(n: u64, none: u64, end: Option<i128>) -> u64
+// An end of a slice, brought into 0 to n. Of a slice that goes back it is counted from the last position on.
+fn end_of(n: u128, back: bool, none: u128, end: Option<i128>) -> u128
     requires { none ≤ n }
-    ensures value { result ≡ given none (rising_end n) end }
+    ensures on { back ≡ false → result ≡ given none (rising_end n) end }
+    ensures back { back ≡ true → n - result ≡ given (n - none) (falling_end n) end }
     ensures high { result ≤ n }
 {
     match end {
-        Some(end) => rising_end(n, end),
+        Some(end) => {
+            let end = if back { -1 - end } else { end };
+            let far = end.unsigned_abs();
+            if end < 0 {
+                n.saturating_sub(far)
+            } else {
+                n.min(far)
+            }
+        }
         None => none,
     }
 }
 
-fn falling_end_or(n: u64, none: u64, end: Option<i128>) -> u64
-    requires { none ≤ n }
-    ensures value { result ≡ given none (falling_end n) end }
-    ensures high { result ≤ n }
-{
-    match end {
-        Some(end) => falling_end(n, end),
-        None => none,
-    }
-}
-
-// Every step-th position from the start on, below the stop.
-fn walk_on(alloc: Global, n: u64, start: u64, stop: u64, step: u64) -> Result<Vec<u32>, AllocError>
+// Every step-th position from the start on, below the stop; on the way back counted from the last one on.
+fn walk(
+    alloc: Global,
+    n: u128,
+    back: bool,
+    start: u128,
+    stop: u128,
+    step: u128,
+) -> Result<Vec<u32>, AllocError>
     requires stop { stop ≤ n }
     requires step { 0 < step }
+    requires far { step ≤ 2 ^ 127 }
     requires small { n < 2 ^ 32 }
-    ensures { IfOk result (λ v. v.items ≡ rising n start stop step) }
+    ensures { IfOk result (λ v. v.items ≡ map (λ i. if back then n - suc i else i) (rising n start stop step)) }
 {
     let mut out = Vec::new(alloc);
     let mut at = start;
     'walk: while at < stop {
-        out.push(at as u32)?;
-        at = at.saturating_add(step);
-    }
-    Ok(out)
-}
-
-// Every step-th position from below `above` on downwards, from `low` up.
-fn walk_back(alloc: Global, n: u64, above: u64, low: u64, step: u64) -> Result<Vec<u32>, AllocError>
-    requires above { above ≤ n }
-    requires step { 0 < step }
-    requires small { n < 2 ^ 32 }
-    ensures { IfOk result (λ v. v.items ≡ falling n above low step) }
-{
-    let mut out = Vec::new(alloc);
-    let mut at = above;
-    'walk: while low < at {
-        out.push((at - 1) as u32)?;
-        at = at.saturating_sub(step);
+        let place = if back { n - 1 - at } else { at };
+        out.push(place as u32)?;
+        at += step;
     }
     Ok(out)
 }
@@ -102,18 +60,14 @@ fn by_step(
     requires { size < 2 ^ 32 }
     ensures { IfOk result (λ v. v.items ≡ slice_positions size start stop (Some step)) }
 {
-    let far = magnitude(step);
-    if step < 0 {
-        let above = falling_end_or(size, size, start);
-        let low = falling_end_or(size, 0, stop);
-        return walk_back(alloc, size, above, low, far);
+    if step == 0 {
+        return Ok(Vec::new(alloc));
     }
-    if step > 0 {
-        let first = rising_end_or(size, 0, start);
-        let last = rising_end_or(size, size, stop);
-        return walk_on(alloc, size, first, last, far);
-    }
-    Ok(Vec::new(alloc))
+    let n = u128::from(size);
+    let back = step < 0;
+    let first = end_of(n, back, 0, start);
+    let last = end_of(n, back, n, stop);
+    walk(alloc, n, back, first, last, step.unsigned_abs())
 }
 
 /// The positions of a slice `start:stop:step` on an axis of so many positions. A step that is missing is 1, and a
@@ -128,8 +82,5 @@ pub fn slice_positions(
     requires { size < 2 ^ 32 }
     ensures { IfOk result (λ v. v.items ≡ slice_positions size start stop step) }
 {
-    match step {
-        Some(step) => by_step(alloc, size, start, stop, step),
-        None => by_step(alloc, size, start, stop, 1),
-    }
+    by_step(alloc, size, start, stop, step.unwrap_or(1))
 }

@@ -1,5 +1,5 @@
 //! The labels that each dimension is given, and the old positions that they show.
-ghost use Rattle.std.specs.Prelude.{◌≡◌, ◌≤◌, List, Some, length, map, filter, is_some, IfOk};
+ghost use Rattle.std.specs.Prelude.{◌≡◌, ◌≤◌, List, length, map, filter, is_some, IfOk};
 ghost use Rattle.std.specs.List.{list_all, AllByRecursion};
 ghost use Rattle.xr_arrays.specs.declared.node.Node.{Node};
 ghost use Rattle.xr_arrays.specs.Labels.{labels_of};
@@ -11,35 +11,24 @@ ghost use Rattle.xr_selecting.specs.Searches.{search_in};
 ghost use Rattle.xr_indexing.specs.Choices.{behind};
 ghost use Rattle.xr_reindexing.specs.Asked.{names_dimension};
 
-use crate::asked::{check_lists, check_names, fill_given, is_option};
+use crate::asked::{check_list, fill_given, is_option};
 use label_index::Index;
 use std::alloc::Global;
 use xr_arrays::Sources;
-use xr_indexing::position_of;
+use xr_indexing::{check_dimension, position_of};
 use xr_operations::Change;
 use xr_selecting::{Search, are_kin, as_labels, check_search, found};
 use xr_types::{Axis, CallFault, DeepCopy, Fault, Items, Label, LabelList, NoMemory, TextBytes};
 use xr_values::{Args, Value};
 
-// Positions past 32 bits, which no axis has, want memory.
-fn as_source(place: u64) -> Result<Option<u32>, NoMemory>
-    ensures { IfOk result (λ o. o ≡ Some place) }
-{
-    if place > u32::MAX as u64 {
-        return Err(NoMemory);
-    }
-    Ok(Some(place as u32))
-}
-
-// The old position that a label shows, if there is one.
+// The old position that a label shows, if there is one. Positions past 32 bits, which no axis has, want memory.
 fn source(index: &Index<'_>, by: Search, label: &Label) -> Result<Option<u32>, NoMemory>
     ensures { IfOk result (λ o. o ≡ of.source (search_in by) index.now label.now) }
 {
     match found(index, by, label) {
-        Ok(place) => as_source(place),
+        Ok(place) if place <= u32::MAX as u64 => Ok(Some(place as u32)),
         Err(CallFault::Refused(_)) => Ok(None),
-        Err(CallFault::Declined(_)) => Err(NoMemory),
-        Err(CallFault::NoMemory) => Err(NoMemory),
+        _ => Err(NoMemory),
     }
 }
 
@@ -73,23 +62,15 @@ fn check_labels(
     }
     match by.method {
         Some(near) => check_search(index, list, near, by.tolerance),
-        None => {
-            if index.is_unique() {
-                Ok(())
-            } else {
-                Err(CallFault::Refused(Fault::NotUnique))
-            }
-        }
+        None if !index.is_unique() => Err(CallFault::Refused(Fault::NotUnique)),
+        None => Ok(()),
     }
 }
 
 fn all_some(from: &[Option<u32>]) -> bool
     ensures { result ≡ list_all is_some from.now }
 {
-    match from {
-        [] => true,
-        [position, rest @ ..] => position.is_some() && all_some(rest),
-    }
+    from.iter().all(|position| position.is_some())
 }
 
 // The change of a dimension with these labels to those of a list.
@@ -142,19 +123,13 @@ fn change_along(
     requires { AllByRecursion IsDimension axes.now }
     ensures { (nodes : List Node) → Answers (λ c. c) result (of.change_along (search_in by) filled axes.now (with_key nodes argument.now)) }
 {
-    match position_of(axes, &argument.0) {
-        None => Err(CallFault::Refused(Fault::LabelKind)),
+    let name = &argument.0;
+    match position_of(axes, name) {
         Some(k) => match &axes[k].labels {
+            Some(labels) => change_on(alloc, by, filled, name, &labels.list, items(&argument.1)),
             None => Err(CallFault::Refused(Fault::LabelKind)),
-            Some(labels) => change_on(
-                alloc,
-                by,
-                filled,
-                &argument.0,
-                &labels.list,
-                items(&argument.1),
-            ),
         },
+        None => Err(CallFault::Refused(Fault::LabelKind)),
     }
 }
 
@@ -183,22 +158,6 @@ fn push_changes(
     }
 }
 
-#[tactic(auto, using(xr_indexing::proofs::Loops::behind_none))]
-fn changes(
-    alloc: Global,
-    by: Search,
-    filled: bool,
-    axes: &[Axis],
-    keyed: &[(TextBytes, Value)],
-) -> Result<Items<Change>, CallFault>
-    requires { AllByRecursion IsDimension axes.now }
-    ensures { (nodes : List Node) → Answers (λ cs. cs) result (of.changes (search_in by) filled axes.now (filter names_dimension (map (with_key nodes) keyed.now))) }
-{
-    let mut out = Items::new(alloc);
-    push_changes(alloc, &mut out, by, filled, axes, keyed)?;
-    Ok(out)
-}
-
 // ---- whole numbers of kind int64
 
 fn is_held(label: &Label) -> bool
@@ -206,8 +165,7 @@ fn is_held(label: &Label) -> bool
 {
     match label {
         Label::Int(n) => i64::MIN as i128 <= *n && *n <= i64::MAX as i128,
-        Label::Time(_) => true,
-        Label::Text(_) => true,
+        _ => true,
     }
 }
 
@@ -222,14 +180,8 @@ fn check_held(change: &Change) -> Result<(), CallFault>
     ensures { Answers (λ u. u) result (of.check_held change.now) }
 {
     match &change.labels {
-        None => Ok(()),
-        Some(labels) => {
-            if are_held(labels.as_slice()) {
-                Ok(())
-            } else {
-                Err(CallFault::Refused(Fault::DoesNotFit))
-            }
-        }
+        Some(labels) if !are_held(labels.as_slice()) => Err(CallFault::Refused(Fault::DoesNotFit)),
+        _ => Ok(()),
     }
 }
 
@@ -251,7 +203,7 @@ fn check_each_held(changes: &[Change]) -> Result<(), CallFault>
 /// `WrongKind` for the first dimension that is given no list of labels; then `NoDimension`; then, dimension by dimension,
 /// `BadArgument`, `LabelKind`, `NotUnique`, `NotMonotonic`, and `WouldPromote` where a label isn't there and no fill is given; then
 /// `DoesNotFit` for a whole number past 64 bits.
-#[tactic(auto, unfolding(xr_relations::specs::Reindexing::changes_given, xr_values::specs::Meaning::given))]
+#[tactic(auto, using(xr_indexing::proofs::Loops::behind_none), unfolding(xr_relations::specs::Reindexing::changes_given, xr_values::specs::Meaning::given))]
 pub fn changes_given(
     alloc: Global,
     by: Search,
@@ -262,10 +214,19 @@ pub fn changes_given(
     ensures { (nodes : List Node) → Answers (λ cs. cs) result (of.changes_given (search_in by) axes.now (given nodes args.now)) }
 {
     let keyed = args.keyed.as_slice();
-    check_lists(keyed)?;
-    check_names(alloc, axes, keyed)?;
+    'lists: for argument in keyed {
+        if !is_option(&argument.0) {
+            check_list(argument)?;
+        }
+    }
+    'names: for argument in keyed {
+        if !is_option(&argument.0) {
+            check_dimension(alloc, axes, argument)?;
+        }
+    }
     let filled = fill_given(args).is_some();
-    let changes = changes(alloc, by, filled, axes, keyed)?;
+    let mut changes = Items::new(alloc);
+    push_changes(alloc, &mut changes, by, filled, axes, keyed)?;
     check_each_held(changes.as_slice())?;
     Ok(changes)
 }

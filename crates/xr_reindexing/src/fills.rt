@@ -5,14 +5,13 @@ ghost use Rattle.xr_types.specs.Results.{Answers, all_of};
 ghost use Rattle.xr_defs.specs.Building.{element_cell};
 ghost use Rattle.xr_operations.specs.Moves as fills;
 ghost use Rattle.xr_relations.specs.Reindexing as of;
-ghost use Rattle.xr_reindexing.specs.Asked.{check_named};
 ghost use Rattle.xr_values.specs.Meaning.{meaning};
 ghost use Rattle.xr_values.specs.Stands.{variable_in};
 
 use std::alloc::Global;
 use xr_changing::{has_hole, names_of};
 use xr_defs::{Content, Coord};
-use xr_formulas::{fits, is_truths};
+use xr_formulas::{check_fits, is_truths};
 use xr_operations::Change;
 use xr_types::{CallFault, DType, Fault, Name};
 use xr_values::{Value, Variable};
@@ -24,20 +23,8 @@ fn fill_for(kind: DType, value: &Value) -> Result<Option<i128>, CallFault>
 {
     match value {
         Value::Missing => Ok(None),
-        Value::Number(n) => {
-            if is_truths(kind) {
-                Err(CallFault::Refused(Fault::WrongKind))
-            } else {
-                Ok(Some(*n))
-            }
-        }
-        Value::Truth(b) => {
-            if is_truths(kind) {
-                Ok(Some(*b as i128))
-            } else {
-                Err(CallFault::Refused(Fault::WrongKind))
-            }
-        }
+        Value::Number(n) if !is_truths(kind) => Ok(Some(*n)),
+        Value::Truth(b) if is_truths(kind) => Ok(Some(*b as i128)),
         _ => Err(CallFault::Refused(Fault::WrongKind)),
     }
 }
@@ -63,12 +50,7 @@ pub fn fill_called(kind: DType, value: Option<&Value>) -> Result<Option<Option<i
 fn is_literal(value: &Value) -> bool
     ensures { (nodes : List Node) → result ≡ fills.is_literal (meaning nodes value.now) }
 {
-    match value {
-        Value::Number(_) => true,
-        Value::Truth(_) => true,
-        Value::Missing => true,
-        _ => false,
-    }
+    matches!(value, Value::Number(_) | Value::Truth(_) | Value::Missing)
 }
 
 /// Refuses a fill that is neither a literal nor `NA`.
@@ -77,14 +59,8 @@ pub fn check_literal(value: Option<&Value>) -> Result<(), CallFault>
     ensures { (nodes : List Node) → Answers (λ u. u) result (of.check_literal (option_map (λ v. meaning nodes v.now) value.entry)) }
 {
     match value {
-        None => Ok(()),
-        Some(value) => {
-            if is_literal(value) {
-                Ok(())
-            } else {
-                Err(CallFault::Refused(Fault::WrongKind))
-            }
-        }
+        Some(value) if !is_literal(value) => Err(CallFault::Refused(Fault::WrongKind)),
+        _ => Ok(()),
     }
 }
 
@@ -111,22 +87,6 @@ pub fn cell_of(value: Option<&Value>) -> Option<i128>
 
 // ---- whether it fits
 
-#[tactic(auto, unfolding(xr_operations::specs::Moves::check_fill, xr_operations::specs::CellMethods::check_fits, xr_types::specs::Results::unless))]
-fn check_fill(kind: DType, fill: Option<i128>) -> Result<(), CallFault>
-    ensures { Answers (λ u. u) result (fills.check_fill kind fill) }
-{
-    match fill {
-        None => Ok(()),
-        Some(n) => {
-            if fits(kind, n) {
-                Ok(())
-            } else {
-                Err(CallFault::Refused(Fault::DoesNotFit))
-            }
-        }
-    }
-}
-
 /// Refuses a fill that isn't one for cells of this kind over these dimensions, where some position shows no old one.
 ///
 /// # Errors
@@ -140,15 +100,12 @@ pub fn check_fit(
 ) -> Result<(), CallFault>
     ensures { (nodes : List Node) → Answers (λ u. u) result (of.check_fit changes.now (of.fill_or_missing (option_map (λ v. meaning nodes v.now) value.entry)) dims.now kind) }
 {
-    if !has_hole(changes, dims) {
-        return Ok(());
-    }
     match value {
-        None => Ok(()),
-        Some(value) => {
-            let fill = fill_for(kind, value)?;
-            check_fill(kind, fill)
-        }
+        Some(value) if has_hole(changes, dims) => match fill_for(kind, value)? {
+            Some(n) => check_fits(kind, n),
+            None => Ok(()),
+        },
+        _ => Ok(()),
     }
 }
 
@@ -166,8 +123,7 @@ fn check_coord(
             let names = names_of(alloc, coord.axes.as_slice())?;
             check_fit(changes, value, names.as_slice(), cells.kind())
         }
-        Content::Text(_) => Ok(()),
-        Content::Time(_, _) => Ok(()),
+        _ => Ok(()),
     }
 }
 
@@ -189,27 +145,15 @@ pub fn check_coords(
     }
 }
 
-#[tactic(auto, unfolding(crate::specs::Asked::check_named))]
-fn check_one(changes: &[Change], value: Option<&Value>, var: &Variable) -> Result<(), CallFault>
-    ensures { (nodes : List Node) → Answers (λ u. u) result (check_named changes.now (of.fill_or_missing (option_map (λ v. meaning nodes v.now) value.entry)) var.now) }
-{
-    check_fit(changes, value, var.dims.as_slice(), var.kind)
-}
-
-fn check_named(
+#[tactic(auto, unfolding(xr_relations::specs::Reindexing::check_variable))]
+fn check_variable(
     changes: &[Change],
     value: Option<&Value>,
-    vars: &[Variable],
+    var: &Variable,
 ) -> Result<(), CallFault>
-    ensures { (nodes : List Node) → Answers (λ u. u) result (all_of (check_named changes.now (of.fill_or_missing (option_map (λ v. meaning nodes v.now) value.entry))) vars.now) }
+    ensures { (nodes others : List Node) → Answers (λ u. u) result (of.check_variable changes.now (of.fill_or_missing (option_map (λ v. meaning others v.now) value.entry)) (variable_in nodes var.now)) }
 {
-    match vars {
-        [] => Ok(()),
-        [var, rest @ ..] => {
-            check_one(changes, value, var)?;
-            check_named(changes, value, rest)
-        }
-    }
+    check_fit(changes, value, var.dims.as_slice(), var.kind)
 }
 
 /// Refuses a fill that isn't one for the cells of each variable along the changes.
@@ -220,5 +164,11 @@ pub fn check_variables(
 ) -> Result<(), CallFault>
     ensures { (nodes others : List Node) → Answers (λ u. u) result (all_of (of.check_variable changes.now (of.fill_or_missing (option_map (λ v. meaning others v.now) value.entry))) (map (variable_in nodes) vars.now)) }
 {
-    check_named(changes, value, vars)
+    match vars {
+        [] => Ok(()),
+        [var, rest @ ..] => {
+            check_variable(changes, value, var)?;
+            check_variables(changes, value, rest)
+        }
+    }
 }

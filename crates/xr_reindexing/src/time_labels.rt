@@ -1,8 +1,7 @@
 //! `times(units, LIST, calendar="proleptic_gregorian")`: labels that are times.
-ghost use Rattle.std.specs.Prelude.{◌≡◌, ◌∷◌, Some, List, map, is_some, option_map, All, IfOk};
+ghost use Rattle.std.specs.Prelude.{◌≡◌, List, option_map, All, IfOk};
 ghost use Rattle.xr_arrays.specs.declared.node.Node.{Node};
 ghost use Rattle.xr_times.specs.Times.{IsTime};
-ghost use Rattle.xr_times.specs.Units.{calendar_named};
 ghost use Rattle.xr_types.specs.Results.{Answers};
 ghost use Rattle.xr_defs.specs.Meanings as meant;
 ghost use Rattle.xr_relations.specs.Times as of;
@@ -28,30 +27,17 @@ fn counts_given(alloc: Global, value: &Value) -> Result<Items<i128>, CallFault>
 
 // ---- the calendar and the units
 
-fn is_read(name: &TextBytes) -> bool
-    ensures { result ≡ is_some (calendar_named (Some name.now)) }
-{
-    calendar_named(name.as_bytes()).is_some()
-}
-
-#[tactic(auto, unfolding(xr_relations::specs::Times::calendar_called))]
-fn calendar_called(alloc: Global, name: &TextBytes) -> Result<TextBytes, CallFault>
-    ensures { Answers (λ t. t) result (of.calendar_called name.now) }
-{
-    if is_read(name) {
-        Ok(name.deep_copy(alloc)?)
-    } else {
-        Err(CallFault::Refused(Fault::BadArgument))
-    }
-}
-
-#[tactic(auto, unfolding(xr_relations::specs::Times::calendar_given))]
+#[tactic(auto, unfolding(xr_relations::specs::Times::calendar_given, xr_relations::specs::Times::calendar_called))]
 fn calendar_given(alloc: Global, value: Option<&Value>) -> Result<TextBytes, CallFault>
     ensures { (nodes : List Node) → Answers (λ t. t) result (of.calendar_given (option_map (λ v. meaning nodes v.now) value.entry)) }
 {
-    match value {
-        None => Ok(TextBytes::from_str(alloc, "proleptic_gregorian")?),
-        Some(value) => calendar_called(alloc, as_text(value)?),
+    let Some(value) = value else {
+        return Ok(TextBytes::from_str(alloc, "proleptic_gregorian")?);
+    };
+    let name = as_text(value)?;
+    match calendar_named(name.as_bytes()) {
+        Some(_) => Ok(name.deep_copy(alloc)?),
+        None => Err(CallFault::Refused(Fault::BadArgument)),
     }
 }
 
@@ -59,10 +45,8 @@ fn calendar_given(alloc: Global, value: Option<&Value>) -> Result<TextBytes, Cal
 fn units_given(text: &TextBytes, calendar: &TextBytes) -> Result<Units, CallFault>
     ensures { Answers (λ u. u) result (of.units_given text.now calendar.now) }
 {
-    match read_units(text.as_bytes(), Some(calendar.as_bytes())) {
-        Some(units) => Ok(units),
-        None => Err(CallFault::Refused(Fault::BadArgument)),
-    }
+    let units = read_units(text.as_bytes(), Some(calendar.as_bytes()));
+    units.ok_or(CallFault::Refused(Fault::BadArgument))
 }
 
 // ---- the times
@@ -72,10 +56,7 @@ fn time_at(units: &Units, count: i128) -> Result<i64, CallFault>
     ensures answers { Answers (λ t. t) result (of.time_at units.now count) }
     ensures time { IfOk result (IsTime units.now.calendar) }
 {
-    match decode(units, count) {
-        Some(time) => Ok(time),
-        None => Err(CallFault::Refused(Fault::OutOfRange)),
-    }
+    decode(units, count).ok_or(CallFault::Refused(Fault::OutOfRange))
 }
 
 #[tactic(auto, using(xr_indexing::proofs::Loops::behind_both, xr_indexing::proofs::Loops::behind_nothing), unfolding(xr_relations::specs::Times::times_at))]
@@ -92,16 +73,6 @@ fn push_times(times: &mut Items<i64>, units: &Units, counts: &[i128]) -> Result<
             push_times(times, units, rest)
         }
     }
-}
-
-#[tactic(auto, using(xr_indexing::proofs::Loops::behind_none))]
-fn times_at(alloc: Global, units: &Units, counts: &[i128]) -> Result<Items<i64>, CallFault>
-    ensures answers { Answers (λ ts. ts) result (of.times_at units.now counts.now) }
-    ensures times { IfOk result (All (IsTime units.now.calendar)) }
-{
-    let mut times = Items::new(alloc);
-    push_times(&mut times, units, counts)?;
-    Ok(times)
 }
 
 // Times, and how they stand in a file.
@@ -126,7 +97,7 @@ fn coded(
     Ok(Value::Times(coding, times))
 }
 
-#[tactic(auto, unfolding(xr_relations::specs::Times::times_by))]
+#[tactic(auto, using(xr_indexing::proofs::Loops::behind_none), unfolding(xr_relations::specs::Times::times_by))]
 fn times_by(
     alloc: Global,
     units: &Value,
@@ -140,7 +111,8 @@ fn times_by(
     let counts = counts_given(alloc, counts)?;
     let calendar = calendar_given(alloc, calendar)?;
     let units = units_given(text, &calendar)?;
-    let times = times_at(alloc, &units, counts.as_slice())?;
+    let mut times = Items::new(alloc);
+    push_times(&mut times, &units, counts.as_slice())?;
     let coded = coded(alloc, units, text, calendar, times)?;
     Ok(coded)
 }
@@ -154,7 +126,7 @@ fn times_by(
 /// text, for what is no list of whole numbers, and for a calendar that is no text; `BadArgument` for a calendar that isn't one of
 /// them, and then for units that don't read in it; then `OutOfRange` for a time outside the years 1 to 9999, or before 1582-10-15
 /// where the calendar doesn't read such times.
-#[tactic(auto, unfolding(xr_relations::specs::Times::times_given))]
+#[tactic(auto, unfolding(xr_relations::specs::Times::times_given, xr_defs::specs::Building::bound))]
 pub fn times(alloc: Global, args: &Args) -> Result<Value, CallFault>
     ensures means { (nodes : List Node) → Answers (meaning nodes) result (of.times_given (given nodes args.now)) }
     ensures inside { IfOk result (λ v. (nodes : List Node) → IsValueIn nodes v) }

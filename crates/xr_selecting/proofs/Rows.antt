@@ -1,44 +1,22 @@
 -- The slice of positions that stands for positions in a row chooses these.
-use Rattle.std.proofs.Common.{◌≡◌, ◌≤◌, ◌<◌, ◌+◌, ◌-◌, ◌%◌, ◌&&◌, ◌==◌, ℕ, zero, suc, Bool, true, false, List, [], ◌++◌, length, filter, get_or, nat_le, nat_lt, Ok, refl, ap, ◌∙◌, arith, append-nil, eq-eqb, add-zero}
+use Rattle.std.proofs.Common.{◌≡◌, ◌≤◌, ◌+◌, ◌-◌, ◌%◌, ◌&&◌, ◌==◌, ℕ, zero, suc, Bool, List, [], ◌++◌, length, filter, get_or, nat_le, nat_lt, Ok, refl, sym, ap, ◌∙◌, arith, eq-eqb, add-zero}
 use Rattle.std.proofs.lemmas.Bool.Decides.{nat_tests}
-use Rattle.std.proofs.lemmas.List.Elements.{filter-append}
 use Rattle.std.proofs.lemmas.List.FromFn.{get_or-range_with_len, length-range_with_len}
 use Rattle.std.specs.List.{range_with_len}
 use Rattle.std.specs.Prelude.{min}
 use Rattle.xr_types.specs.Results.{◌>>=◌, unless}
-use Rattle.xr_arrays.proofs.LabelPlaces.{filter_all, filter_none, range_with_len-add}
+use Rattle.xr_arrays.proofs.LabelPlaces.{filter_all}
 use Rattle.xr_defs.specs.Arguments.{as_position, as_positions}
 use Rattle.xr_defs.specs.Selecting.{Several, as_selector, choice_of}
 use Rattle.xr_defs.specs.Slices.{rising}
 use Rattle.xr_operations.specs.Selection.{in_row}
-
-abbrev within : ℕ → ℕ → ℕ → Bool
-within s t i = nat_le s i && (nat_lt i t && ((i - s) % 1 == 0))
-
-each_is : (n : ℕ) → (n % 1 == 0) ≡ true
-each_is n = eq-eqb (n % 1) 0 (omega arith)
-
-before_is : (s t i : ℕ) → i < s → within s t i ≡ false
-before_is s t i lt = grind (arith, nat_tests)
-
-inside_is : (s t i : ℕ) → s ≤ i → i < t → within s t i ≡ true
-inside_is s t i le lt = let e = each_is (i - s) in grind (arith, nat_tests)
-
-behind_is : (s t i : ℕ) → t ≤ i → within s t i ≡ false
-behind_is s t i le = grind (arith, nat_tests)
+use Rattle.xr_indexing.proofs.Walks.{begins, ends, more}
 
 rising_row : (n s k : ℕ) → s + k ≤ n → rising n s (s + k) 1 ≡ range_with_len s k
 rising_row n s k le =
-    let test : ℕ → Bool = within s (s + k) in
-    let rest = n - (s + k) in
-    let from : 0 + s ≡ s = omega arith in
-    let whole : n ≡ s + (k + rest) = omega arith in
-    ap (λ m. filter test (range_with_len 0 m)) whole ∙ ap (filter test) (range_with_len-add 0 s (k + rest) ∙ ap (λ a. range_with_len 0 s ++ range_with_len a (k + rest)) from ∙ ap (λ xs. range_with_len 0 s ++ xs) (range_with_len-add s k rest))
-    ∙ filter-append test (range_with_len 0 s) (range_with_len s k ++ range_with_len (s + k) rest)
-    ∙ ap (λ xs. xs ++ filter test (range_with_len s k ++ range_with_len (s + k) rest)) (filter_none test 0 s (λ i from to. before_is s (s + k) i (omega arith)))
-    ∙ filter-append test (range_with_len s k) (range_with_len (s + k) rest)
-    ∙ ap (λ xs. xs ++ filter test (range_with_len (s + k) rest)) (filter_all test s k (λ i from to. inside_is s (s + k) i from to))
-    ∙ ap (λ xs. range_with_len s k ++ xs) (filter_none test (s + k) rest (λ i from to. behind_is s (s + k) i from)) ∙ append-nil (range_with_len s k)
+    let test : ℕ → Bool = λ i. nat_le s i && (nat_lt i (s + k) && ((i - s) % 1 == 0)) in
+    sym (ends n s (s + k) 1 (s + k) le (omega arith)) ∙ more test s k ∙ ap (λ xs. xs ++ filter test (range_with_len s k)) (begins s (s + k) 1)
+    ∙ filter_all test s k (λ i from to. let e = eq-eqb ((i - s) % 1) 0 (omega arith) in grind (arith, nat_tests))
 
 least : (a n : ℕ) → a ≤ n → min a n ≡ a
 least a n le = grind arith

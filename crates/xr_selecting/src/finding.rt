@@ -1,7 +1,7 @@
 //! The positions of labels.
 ghost use Rattle.std.specs.Prelude.{◌≡◌, true, Ok};
 ghost use Rattle.std.specs.List.{list_all, list_any};
-ghost use Rattle.xr_arrays.specs.Labels.{is_kin, suits, is_nearest};
+ghost use Rattle.xr_arrays.specs.Labels.{is_kin, suits};
 ghost use Rattle.xr_types.specs.Results.{Answers};
 ghost use Rattle.xr_operations.specs.Selection as of;
 ghost use Rattle.xr_selecting.specs.Searches.{search_in};
@@ -24,10 +24,7 @@ pub fn found(index: &Index<'_>, by: Search, label: &Label) -> Result<u64, CallFa
         Some(near) => index.find_near(label, near, by.tolerance),
         None => index.find(label),
     };
-    match place {
-        Ok(p) => Ok(p),
-        Err(fault) => Err(CallFault::Refused(fault)),
-    }
+    place.map_err(|fault| CallFault::Refused(fault))
 }
 
 fn is_kin(list: &LabelList, label: &Label) -> bool
@@ -52,10 +49,7 @@ fn stands_twice(index: &Index<'_>, label: &Label) -> bool
     requires { is_kin index.now label.now ≡ true }
     ensures { result ≡ of.stands_twice index.now label.now }
 {
-    match index.find(label) {
-        Ok(_) => false,
-        Err(fault) => matches!(fault, Fault::NotUnique),
-    }
+    matches!(index.find(label), Err(Fault::NotUnique))
 }
 
 fn any_twice(index: &Index<'_>, labels: &[Label]) -> bool
@@ -70,30 +64,12 @@ fn any_twice(index: &Index<'_>, labels: &[Label]) -> bool
     false
 }
 
-fn are_texts(list: &LabelList) -> bool
-    ensures { result ≡ of.are_texts list.now }
-{
-    matches!(list, LabelList::Texts(_))
-}
-
-fn is_nearest(near: Near) -> bool
-    ensures { result ≡ is_nearest near }
-{
-    matches!(near, Near::Nearest)
-}
-
-fn can_search(list: &LabelList, near: Near, tolerance: Option<u128>) -> bool
-    ensures { result ≡ of.can_search list.now near tolerance }
-{
-    !(are_texts(list) && (is_nearest(near) || tolerance.is_some()))
-}
-
 fn suits(near: Near, direction: Direction) -> bool
     ensures { result ≡ suits near direction }
 {
     match direction {
         Direction::Ascending => true,
-        Direction::Descending => is_nearest(near),
+        Direction::Descending => matches!(near, Near::Nearest),
         Direction::Neither => false,
     }
 }
@@ -113,7 +89,8 @@ pub fn check_search(
     requires { index.now ≡ list.now }
     ensures { Answers (λ u. u) result (of.check_search list.now near tolerance) }
 {
-    if !can_search(list, near, tolerance) {
+    let far = matches!(near, Near::Nearest) || tolerance.is_some();
+    if far && matches!(list, LabelList::Texts(_)) {
         return Err(CallFault::Refused(Fault::LabelKind));
     }
     if !index.is_unique() {
@@ -142,13 +119,8 @@ pub fn check_list(
     }
     match by.method {
         Some(near) => check_search(index, list, near, by.tolerance),
-        None => {
-            if any_twice(index, labels) {
-                Err(CallFault::Refused(Fault::NotUnique))
-            } else {
-                Ok(())
-            }
-        }
+        None if any_twice(index, labels) => Err(CallFault::Refused(Fault::NotUnique)),
+        None => Ok(()),
     }
 }
 

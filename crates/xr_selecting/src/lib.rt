@@ -1,7 +1,6 @@
 //! Selection by label: `sel` over arrays and datasets.
 #![tactic(auto)]
 
-mod ends;
 mod finding;
 mod kinds;
 mod labels;

@@ -1,5 +1,5 @@
 //! The positions that a dimension is given, as `isel` takes them.
-ghost use Rattle.std.specs.Prelude.{◌≡◌, ◌≤◌, ◌<◌, ◌+◌, ◌^◌, List, length, pos, IfOk};
+ghost use Rattle.std.specs.Prelude.{◌≡◌, ◌≤◌, ◌<◌, ◌^◌, List, length, IfOk};
 ghost use Rattle.std.specs.List.{range_with_len, AllByRecursion};
 ghost use Rattle.xr_arrays.specs.declared.node.Node.{Node};
 ghost use Rattle.xr_arrays.specs.Labels.{labels_of};
@@ -9,16 +9,14 @@ ghost use Rattle.xr_defs.specs.Selecting.{axis_called};
 ghost use Rattle.xr_defs.specs.WellFormed.{IsDimension};
 ghost use Rattle.xr_operations.specs.Selection as of;
 ghost use Rattle.xr_values.specs.Meaning.{all_values, meaning};
-ghost use Rattle.xr_indexing.specs.Choices.{selector_in};
 ghost use Rattle.xr_selecting.specs.Searches.{search_in};
 
-use crate::ends::between_ends;
 use crate::finding::{check_list, each_found, found};
-use crate::labels::{as_label, as_labels};
+use crate::labels::{as_end, as_label, as_labels};
 use crate::options::Search;
 use label_index::Index;
 use std::alloc::{AllocError, Global};
-use xr_arrays::Span;
+use xr_arrays::{Direction, Span};
 use xr_defs::Part;
 use xr_indexing::{Selector, as_selector, choice_of, position_of};
 use xr_types::{Axis, CallFault, Fault, LabelList, TextBytes};
@@ -54,13 +52,6 @@ fn of_list(
     Ok(Value::List(positions))
 }
 
-// The position behind the last of those in a row.
-fn behind(span: Span) -> i128
-    ensures { result ≡ pos (span.first + span.length) }
-{
-    i128::from(span.first) + i128::from(span.length)
-}
-
 // Positions in a row.
 #[tactic(auto, using(xr_arguments::proofs::Variants::is_slice, crate::proofs::Lists::row_is))]
 fn in_row(span: Span) -> Value
@@ -68,12 +59,13 @@ fn in_row(span: Span) -> Value
     ensures { (nodes : List Node) → meaning nodes result ≡ of.in_row (range_with_len span.first span.length) }
 {
     let first = i128::from(span.first);
-    let behind = behind(span);
+    let behind = first + i128::from(span.length);
     Value::Slice(Part::At(first), Part::At(behind), None)
 }
 
-// The positions of a slice of labels.
-#[tactic(auto, unfolding(xr_operations::specs::Selection::slice_located, xr_types::specs::Results::unless))]
+// The positions of a slice of labels, of which both ends are included, in a row. Of the period that an end among times names, the
+// slice holds each second.
+#[tactic(auto, unfolding(xr_operations::specs::Selection::slice_located, xr_operations::specs::Selection::between_ends, xr_types::specs::Results::unless))]
 fn of_slice(
     alloc: Global,
     by: Search,
@@ -89,8 +81,13 @@ fn of_slice(
         return Err(CallFault::Refused(Fault::BadArgument));
     }
     let index = Index::over(alloc, list)?;
-    let span = between_ends(alloc, &index, list, start, stop)?;
-    Ok(in_row(span))
+    let falls = matches!(index.direction(), Direction::Descending);
+    let from = as_end(alloc, list, falls, start)?;
+    let to = as_end(alloc, list, !falls, stop)?;
+    match index.slice(from.as_ref(), to.as_ref()) {
+        Ok(span) => Ok(in_row(span)),
+        Err(fault) => Err(CallFault::Refused(fault)),
+    }
 }
 
 // The position of one label.
@@ -121,23 +118,8 @@ fn located(alloc: Global, by: Search, list: &LabelList, value: &Value) -> Result
     }
 }
 
-// Refuses a position that isn't there. A slice of positions has none.
-#[tactic(auto, unfolding(xr_defs::specs::Selecting::choice_of, xr_operations::specs::Selection::check_positions))]
-fn check_positions(alloc: Global, size: u64, selector: &Selector) -> Result<(), CallFault>
-    requires { size < 2 ^ 32 }
-    ensures { Answers (λ u. u) result (of.check_positions size (selector_in selector.now)) }
-{
-    match selector {
-        Selector::Span(_) => Ok(()),
-        Selector::At(_) | Selector::Each(_) => {
-            choice_of(alloc, size, selector)?;
-            Ok(())
-        }
-    }
-}
-
-// The positions of a bare axis of this size, as they are given.
-#[tactic(auto, unfolding(xr_operations::specs::Selection::placed, xr_types::specs::Results::unless))]
+// The positions of a bare axis of this size, as they are given. A slice of positions has none that isn't there.
+#[tactic(auto, unfolding(xr_operations::specs::Selection::placed, xr_operations::specs::Selection::check_positions, xr_defs::specs::Selecting::choice_of, xr_types::specs::Results::unless))]
 fn placed(alloc: Global, by: Search, size: u64, value: &Value) -> Result<Value, CallFault>
     requires { size < 2 ^ 32 }
     ensures { (nodes : List Node) → Answers (meaning nodes) result (of.placed (search_in by) size (meaning nodes value.now)) }
@@ -146,20 +128,10 @@ fn placed(alloc: Global, by: Search, size: u64, value: &Value) -> Result<Value, 
         return Err(CallFault::Refused(Fault::BadArgument));
     }
     let selector = as_selector(alloc, value)?;
-    check_positions(alloc, size, &selector)?;
-    Ok(value.copy(alloc)?)
-}
-
-// The positions of what an axis is given.
-#[tactic(auto, unfolding(xr_operations::specs::Selection::positions_on))]
-fn positions_on(alloc: Global, by: Search, axis: &Axis, value: &Value) -> Result<Value, CallFault>
-    requires { IsDimension axis.now }
-    ensures { (nodes : List Node) → Answers (meaning nodes) result (of.positions_on (search_in by) axis.now (meaning nodes value.now)) }
-{
-    match &axis.labels {
-        Some(labels) => located(alloc, by, &labels.list, value),
-        None => placed(alloc, by, axis.size, value),
+    if !matches!(selector, Selector::Span(_)) {
+        choice_of(alloc, size, &selector)?;
     }
+    Ok(value.copy(alloc)?)
 }
 
 /// The positions of what the axis of this name is given.
@@ -174,7 +146,10 @@ pub fn positions_along(
     ensures { (nodes : List Node) → Answers (meaning nodes) result (of.positions_on (search_in by) (axis_called axes.now argument.now.0) (meaning nodes argument.now.1)) }
 {
     match position_of(axes, &argument.0) {
-        Some(k) => positions_on(alloc, by, &axes[k], &argument.1),
+        Some(k) => match &axes[k].labels {
+            Some(labels) => located(alloc, by, &labels.list, &argument.1),
+            None => placed(alloc, by, axes[k].size, &argument.1),
+        },
         None => placed(alloc, by, 0, &argument.1),
     }
 }

@@ -3,12 +3,12 @@ ghost use Rattle.std.specs.Prelude.{◌≡◌, List, map, option_map};
 ghost use Rattle.xr_arrays.specs.declared.node.Node.{Node};
 ghost use Rattle.xr_types.specs.Results.{Answers};
 ghost use Rattle.xr_defs.specs.Building as calls;
-ghost use Rattle.xr_defs.specs.Selecting as positions;
 ghost use Rattle.xr_operations.specs.Selection as of;
 ghost use Rattle.xr_values.specs.Meaning.{meaning, with_key};
 ghost use Rattle.xr_selecting.specs.Searches.{search_in};
 
 use xr_arguments::as_text;
+use xr_indexing::as_number;
 use xr_types::{CallFault, Fault, Near, TextBytes};
 use xr_values::Value;
 
@@ -19,46 +19,22 @@ pub struct Search {
     pub tolerance: Option<u128>,
 }
 
-// The argument by this keyword.
-fn keyword<'a>(name: &str, keyed: &'a [(TextBytes, Value)]) -> Option<&'a Value>
-    ensures { (nodes : List Node) → option_map (λ v. meaning nodes v.now) result ≡ calls.keyword name.now (map (with_key nodes) keyed.now) }
-{
-    match keyed {
-        [] => None,
-        [argument, rest @ ..] => {
-            if argument.0.as_str() == name {
-                Some(&argument.1)
-            } else {
-                keyword(name, rest)
-            }
-        }
-    }
-}
-
 /// The argument by this keyword, where `None` is no argument.
 #[tactic(auto, using(xr_arguments::proofs::Variants::is_absent, xr_values::proofs::Meaning::meaning_out))]
 pub fn option<'a>(name: &str, keyed: &'a [(TextBytes, Value)]) -> Option<&'a Value>
     ensures { (nodes : List Node) → option_map (λ v. meaning nodes v.now) result ≡ calls.given_value (calls.keyword name.now (map (with_key nodes) keyed.now)) }
 {
-    match keyword(name, keyed) {
-        Some(Value::Absent) => None,
-        Some(value) => Some(value),
-        None => None,
-    }
-}
-
-fn method_named(text: &TextBytes) -> Option<Near>
-    ensures { result ≡ of.method_named text.now }
-{
-    let text = text.as_str();
-    if text == "pad" || text == "ffill" {
-        Some(Near::Pad)
-    } else if text == "backfill" || text == "bfill" {
-        Some(Near::Backfill)
-    } else if text == "nearest" {
-        Some(Near::Nearest)
-    } else {
-        None
+    match keyed {
+        [] => None,
+        [argument, rest @ ..] => {
+            if argument.0.as_str() != name {
+                return option(name, rest);
+            }
+            match &argument.1 {
+                Value::Absent => None,
+                value => Some(value),
+            }
+        }
     }
 }
 
@@ -68,30 +44,12 @@ fn as_method(value: Option<&Value>) -> Result<Option<Near>, CallFault>
 {
     match value {
         None => Ok(None),
-        Some(value) => match method_named(as_text(value)?) {
-            Some(near) => Ok(Some(near)),
-            None => Err(CallFault::Refused(Fault::BadArgument)),
+        Some(value) => match as_text(value)?.as_str() {
+            "pad" | "ffill" => Ok(Some(Near::Pad)),
+            "backfill" | "bfill" => Ok(Some(Near::Backfill)),
+            "nearest" => Ok(Some(Near::Nearest)),
+            _ => Err(CallFault::Refused(Fault::BadArgument)),
         },
-    }
-}
-
-#[tactic(auto, using(xr_arguments::proofs::Variants::is_number, xr_values::proofs::Meaning::meaning_out), unfolding(xr_defs::specs::Selecting::as_number))]
-fn as_number(value: &Value) -> Result<i128, CallFault>
-    ensures { (nodes : List Node) → Answers (λ n. n) result (positions.as_number (meaning nodes value.now)) }
-{
-    match value {
-        Value::Number(n) => Ok(*n),
-        _ => Err(CallFault::Refused(Fault::WrongKind)),
-    }
-}
-
-fn as_distance(n: i128) -> Result<u128, CallFault>
-    ensures { Answers (λ far. far) result (of.as_distance n) }
-{
-    if n < 0 {
-        Err(CallFault::Refused(Fault::BadArgument))
-    } else {
-        Ok(n as u128)
     }
 }
 
@@ -99,17 +57,14 @@ fn as_distance(n: i128) -> Result<u128, CallFault>
 fn as_tolerance(method: Option<Near>, value: Option<&Value>) -> Result<Option<u128>, CallFault>
     ensures { (nodes : List Node) → Answers (λ far. far) result (of.as_tolerance method (option_map (λ v. meaning nodes v.now) value.entry)) }
 {
-    match value {
-        None => Ok(None),
-        Some(value) => {
-            let far = as_distance(as_number(value)?)?;
-            if method.is_some() {
-                Ok(Some(far))
-            } else {
-                Err(CallFault::Refused(Fault::BadArgument))
-            }
-        }
+    let Some(value) = value else {
+        return Ok(None);
+    };
+    let far = as_number(value)?;
+    if far < 0 || method.is_none() {
+        return Err(CallFault::Refused(Fault::BadArgument));
     }
+    Ok(Some(far as u128))
 }
 
 /// The method and the tolerance that a call is given.

@@ -1,9 +1,4 @@
 pub mod Common
 pub mod Leaving
-pub mod Picked
 pub mod Spanned
-pub mod Squeezable
 pub mod Squeezed
-pub mod Variables
-pub mod SetsFormed
-pub mod SetsSqueezed

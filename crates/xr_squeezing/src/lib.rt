@@ -1,12 +1,10 @@
 //! Dimensions of one position that go, and leave their labels as coordinates without dimensions.
 #![tactic(auto)]
 
-mod alone;
 mod arrays;
 mod coords;
-mod labels;
+mod dims;
 mod sets;
-mod steps;
 
 pub use arrays::squeezed_array;
 pub use sets::{are_few, squeezed_set};

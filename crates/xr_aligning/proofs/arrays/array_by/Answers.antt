@@ -1,17 +1,5 @@
-use Rattle.std.proofs.Common.{◌∙◌, ◌≡◌, true, Bor, List, [], ap, map, subst, sym}
-use Rattle.std.specs.List.{AllByRecursion}
-use Rattle.xr_types.specs.Names.{are_distinct, axis_names}
-use Rattle.xr_defs.specs.Selecting.{is_within}
-use Rattle.xr_defs.specs.WellFormed.{IsCoordinate}
-use Rattle.xr_formulas.specs.Chains.{IsValueOf}
-use Rattle.xr_arrays.specs.Arrays.{IsCell}
-use Rattle.xr_arrays.specs.Nodes.{value}
-use Rattle.xr_operations.specs.Alignment.{joined_in, masked_with}
-use Rattle.xr_parts.specs.Frames.{IsThere}
+use Rattle.xr_aligning.proofs.Common.{AllByRecursion, AreFitted, Arrive, Bor, Fit, IsCell, IsCoordinate, IsThere, IsValueOf, List, [], any_hole, ap, are_distinct, axis_names, cells_after, fill_in, fit_of, is_within, joined_in, map, masked_with, sizes, subst, sym, true, value, ◌∙◌, ◌≡◌}
 use Rattle.xr_parts.proofs.Axes.{own_axes}
-use Rattle.xr_aligning.specs.declared.fits.Fit.{Fit}
-use Rattle.xr_aligning.specs.Fits.{any_hole, cells_after, fill_in, fit_of, sizes, Arrive}
-use Rattle.xr_aligning.specs.Fitted.{AreFitted}
 use Rattle.xr_aligning.proofs.Called.{sizes_over}
 use Rattle.xr_aligning.proofs.ArraysAfter.{after, node_sized}
 use Rattle.xr_aligning.proofs.arrays.array_by.Goals as goal

@@ -1,10 +1,4 @@
-use Rattle.std.proofs.Common.{◌≡◌, true, Err, ◌∙◌, ◌==◌, ap, length, subst, sym}
-use Rattle.std.proofs.lemmas.Result.{err_from_is_err_and}
-use Rattle.std.proofs.lemmas.Bool.{ne_eqb}
-use Rattle.xr_files.specs.Classic.{is_name}
-use Rattle.xr_parts.proofs.Naming.{named_text}
-use Rattle.xr_aligning.specs.Assigned.{IsPlaced}
-use Rattle.xr_aligning.specs.Joined.{AreLoose}
+use Rattle.xr_aligning.proofs.Common.{AreLoose, Err, IsPlaced, ap, err_from_is_err_and, is_name, length, named_text, ne_eqb, subst, sym, true, ◌==◌, ◌∙◌, ◌≡◌}
 use Rattle.xr_aligning.proofs.Checked.{call_done, call_fails, call_large, unnamed}
 use Rattle.xr_aligning.proofs.assigned.variable_assigned.Goals as goal
 
@@ -13,8 +7,8 @@ returns-then-as_str-eq0-clause-answers c = unnamed c.args.plan.now c.args.set.no
 
 pub returns-in_err-axes-clause-answers : goal.returns-in_err-axes-clause-answers
 returns-in_err-axes-clause-answers c =
-    call_fails c.args.plan.now c.args.set.now c.args.name.now c.args.array.now (ap (λ t. length t == 0) (sym c.as_str.ensures) ∙ ne_eqb (length c.as_str.result.now) 0 c.if-as_str-eq0.false) c.args.plan.now c.from_residual.result c.in_err-axes.field-0.0
-    (let p = err_from_is_err_and c.from_residual.result c.from_residual.ensures.1 in p.1 ∙ ap Err p.2) (c.in_err-axes.ensures.axes c.args.plan.now)
+    call_fails c.args.plan.now c.args.set.now c.args.name.now c.args.array.now (ap (λ t. length t == 0) (sym c.as_str.ensures) ∙ ne_eqb (length c.as_str.result.now) 0 c.if-as_str-eq0.false) c.args.plan.now c.from_residual-in_err-axes.result c.in_err-axes.field-0.0
+    (let p = err_from_is_err_and c.from_residual-in_err-axes.result c.from_residual-in_err-axes.ensures.1 in p.1 ∙ ap Err p.2) (c.in_err-axes.ensures.axes c.args.plan.now)
 
 pub returns-then-not-is_set_within-clause-answers : goal.returns-then-not-is_set_within-clause-answers
 returns-then-not-is_set_within-clause-answers c =

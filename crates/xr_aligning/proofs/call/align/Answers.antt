@@ -1,15 +1,4 @@
-use Rattle.std.proofs.Common.{◌≡◌, ◌∙◌, ◌&&◌, ◌==◌, All, Ok, Err, List, ap, length, map, option_map, subst, sym}
-use Rattle.std.specs.Prelude.{nat_le}
-use Rattle.std.proofs.lemmas.Result.{err_from_is_err_and}
-use Rattle.std.proofs.lemmas.List.Elements.{recursion_from_All}
-use Rattle.std.proofs.lemmas.List.{length-map}
-use Rattle.std.specs.List.{AllByRecursion}
-use Rattle.xr_types.specs.Results.{all_of, Answers}
-use Rattle.xr_relations.specs.Aligning.{check_labelled}
-use Rattle.xr_values.specs.Meaning.{given, meaning, with_key, IsValueIn}
-use Rattle.xr_aligning.specs.Aligned.{are_options}
-use Rattle.xr_aligning.specs.declared.labelled.Labelled.{Labelled}
-use Rattle.xr_aligning.specs.Coming.{labelled_in, IsLabelledIn}
+use Rattle.xr_aligning.proofs.Common.{All, AllByRecursion, Answers, Err, IsLabelledIn, IsValueIn, Labelled, List, Ok, all_of, ap, are_options, check_labelled, err_from_is_err_and, given, labelled_in, length, length-map, map, meaning, nat_le, option_map, recursion_from_All, subst, sym, with_key, ◌&&◌, ◌==◌, ◌∙◌, ◌≡◌}
 use Rattle.xr_aligning.proofs.Answering.{call_answered, fill_fails, fill_in, join_fails, join_in, kinds_fail, misfit, miskeyed, options_are}
 use Rattle.xr_aligning.proofs.call.align.Goals as goal
 

@@ -1,13 +1,4 @@
-use Rattle.std.proofs.Common.{◌∙◌, Err, List, ap, map, option_map, subst, sym}
-use Rattle.std.proofs.lemmas.Result.{err_from_is_err_and}
-use Rattle.std.specs.List.{AllByRecursion}
-use Rattle.xr_types.specs.Results.{Answers}
-use Rattle.xr_types.specs.declared.axis.Axis.{Axis}
-use Rattle.xr_operations.specs.Alignment.{aligned}
-use Rattle.xr_relations.specs.Aligning.{axes_of}
-use Rattle.xr_values.specs.Meaning.{meaning}
-use Rattle.xr_aligning.specs.Coming.{labelled_in, Comes, TakesLabels}
-use Rattle.xr_aligning.specs.declared.coming.Coming.{Coming}
+use Rattle.xr_aligning.proofs.Common.{AllByRecursion, Answers, Axis, Comes, Coming, Err, List, TakesLabels, aligned, ap, axes_of, err_from_is_err_and, labelled_in, map, meaning, option_map, subst, sym, ◌∙◌}
 use Rattle.xr_aligning.proofs.Answering.{fills_fail, joins_fail, sizes_fail, some_kept, values_done}
 use Rattle.xr_aligning.proofs.Given.{all_ready}
 use Rattle.xr_aligning.proofs.call.aligned_by.Goals as goal

@@ -1,7 +1,4 @@
-use Rattle.std.proofs.Common.{◌+◌, ◌∷◌, ◌++◌, ◌∙◌, [], ap, drop, subst, sym, take}
-use Rattle.std.proofs.lemmas.List.{take_all, take_more}
-use Rattle.xr_values.proofs.Places.{from_place}
-use Rattle.xr_aligning.specs.Aligned.{ArePlaced}
+use Rattle.xr_aligning.proofs.Common.{ArePlaced, [], ap, drop, from_place, subst, sym, take, take_all, take_more, ◌++◌, ◌+◌, ◌∙◌, ◌∷◌}
 use Rattle.xr_aligning.proofs.Placing.{next, none_yet, ready_now}
 use Rattle.xr_aligning.proofs.call.push_values.Goals as goal
 

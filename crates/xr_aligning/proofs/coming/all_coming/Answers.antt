@@ -1,6 +1,4 @@
-use Rattle.std.proofs.Common.{subst, sym}
-use Rattle.std.specs.List.{AllByRecursion}
-use Rattle.xr_aligning.specs.Coming.{Comes}
+use Rattle.xr_aligning.proofs.Common.{AllByRecursion, Comes, subst, sym}
 use Rattle.xr_aligning.proofs.coming.all_coming.Goals as goal
 
 pub returns-clause-comes : goal.returns-clause-comes

@@ -1,6 +1,4 @@
-use Rattle.std.proofs.Common.{◌∙◌, map, subst}
-use Rattle.xr_aligning.specs.Coming.{own_axes}
-use Rattle.xr_aligning.specs.Fits.{fit_of, Arrive}
+use Rattle.xr_aligning.proofs.Common.{Arrive, fit_of, map, own_axes, subst, ◌∙◌}
 use Rattle.xr_aligning.proofs.coming.coming_to.Goals as goal
 
 pub returns-clause-comes : goal.returns-clause-comes

@@ -1,6 +1,4 @@
-use Rattle.std.proofs.Common.{◌∷◌, [], ◌++◌, ◌∙◌, map, refl, ap}
-use Rattle.xr_aligning.specs.declared.coming.Coming.{Coming}
-use Rattle.xr_aligning.specs.Coming.{Comes, IsLabelledIn, TakesLabels}
+use Rattle.xr_aligning.proofs.Common.{Comes, Coming, IsLabelledIn, TakesLabels, [], ap, map, refl, ◌++◌, ◌∙◌, ◌∷◌}
 use Rattle.xr_aligning.proofs.Loops.{all_hold, holds_here, more, one_mapped}
 use Rattle.xr_aligning.proofs.coming.push_coming.Goals as goal
 

@@ -1,8 +1,4 @@
-use Rattle.std.proofs.Common.{◌≡◌, ◌++◌, List, map, drop}
-use Rattle.std.specs.List.{AllByRecursion}
-use Rattle.xr_arrays.specs.declared.node.Node.{Node}
-use Rattle.xr_aligning.specs.declared.coming.Coming.{Coming}
-use Rattle.xr_aligning.specs.Coming.{Comes, IsLabelledIn, TakesLabels}
+use Rattle.xr_aligning.proofs.Common.{AllByRecursion, Comes, Coming, IsLabelledIn, List, Node, TakesLabels, drop, map, ◌++◌, ◌≡◌}
 use Rattle.xr_aligning.proofs.coming.push_coming.Given as goal
 
 abbrev pub invariant-loop-value : goal.invariant-loop-value

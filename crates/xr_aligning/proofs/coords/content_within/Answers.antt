@@ -1,7 +1,4 @@
-use Rattle.std.proofs.Common.{◌∙◌, Bor, List, ap, map, subst, sym}
-use Rattle.xr_defs.specs.Selecting.{is_within}
-use Rattle.xr_aligning.specs.declared.fits.Fit.{Fit}
-use Rattle.xr_aligning.specs.Fits.{content_after, sizes, TakesFill}
+use Rattle.xr_aligning.proofs.Common.{Bor, Fit, List, TakesFill, ap, content_after, is_within, map, sizes, subst, sym, ◌∙◌}
 use Rattle.xr_aligning.proofs.Called.{sizes_over}
 use Rattle.xr_aligning.proofs.coords.content_within.Goals as goal
 

@@ -1,6 +1,4 @@
-use Rattle.std.proofs.Common.{◌∙◌, ap, map, subst}
-use Rattle.xr_operations.specs.Alignment.{joined_in}
-use Rattle.xr_aligning.specs.Fitted.{IsContentAfter}
+use Rattle.xr_aligning.proofs.Common.{IsContentAfter, ap, joined_in, map, subst, ◌∙◌}
 use Rattle.xr_aligning.proofs.Formed.{coord_fitted}
 use Rattle.xr_aligning.proofs.coords.coord_after.Goals as goal
 

@@ -1,6 +1,4 @@
-use Rattle.std.proofs.Common.{subst, sym}
-use Rattle.std.specs.List.{AllByRecursion}
-use Rattle.xr_parts.specs.Frames.{IsThere}
+use Rattle.xr_aligning.proofs.Common.{AllByRecursion, IsThere, subst, sym}
 use Rattle.xr_aligning.proofs.Holes.{own_there}
 use Rattle.xr_aligning.proofs.filling.check_array.Goals as goal
 

@@ -1,5 +1,4 @@
-use Rattle.std.proofs.Common.{◌∙◌, Bor, ap, map}
-use Rattle.xr_aligning.specs.declared.fits.Fit.{Fit}
+use Rattle.xr_aligning.proofs.Common.{Bor, Fit, ap, map, ◌∙◌}
 use Rattle.xr_aligning.proofs.Holes.{hole_answered}
 use Rattle.xr_aligning.proofs.filling.check_axes.Goals as goal
 

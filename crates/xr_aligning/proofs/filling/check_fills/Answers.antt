@@ -1,10 +1,4 @@
-use Rattle.std.proofs.Common.{◌∙◌, Err, ap, option_map, refl, sym}
-use Rattle.std.proofs.lemmas.List.{at_drop_all}
-use Rattle.std.proofs.lemmas.Result.{err_from_is_err_and}
-use Rattle.xr_types.specs.Results.{all_of}
-use Rattle.xr_values.specs.Meaning.{meaning}
-use Rattle.xr_aligning.specs.Coming.{check_fill_by, stands_for}
-use Rattle.xr_aligning.specs.declared.coming.Coming.{Coming}
+use Rattle.xr_aligning.proofs.Common.{Coming, Err, all_of, ap, at_drop_all, check_fill_by, err_from_is_err_and, meaning, option_map, refl, stands_for, sym, ◌∙◌}
 use Rattle.xr_aligning.proofs.Loops.{failed, passed}
 use Rattle.xr_aligning.proofs.filling.check_fills.Goals as goal
 

@@ -1,9 +1,4 @@
-use Rattle.std.proofs.Common.{◌≡◌, List, drop, option_map}
-use Rattle.xr_types.specs.Results.{all_of}
-use Rattle.xr_arrays.specs.declared.node.Node.{Node}
-use Rattle.xr_values.specs.Meaning.{meaning}
-use Rattle.xr_aligning.specs.declared.coming.Coming.{Coming}
-use Rattle.xr_aligning.specs.Coming.{check_fill_by, stands_for}
+use Rattle.xr_aligning.proofs.Common.{Coming, List, Node, all_of, check_fill_by, drop, meaning, option_map, stands_for, ◌≡◌}
 use Rattle.xr_aligning.proofs.filling.check_fills.Given as goal
 
 abbrev pub invariant-loop-one : goal.invariant-loop-one

@@ -1,5 +1,4 @@
-use Rattle.std.proofs.Common.{Err, ap, ◌∙◌}
-use Rattle.std.proofs.lemmas.Result.{err_from_is_err_and}
+use Rattle.xr_aligning.proofs.Common.{Err, ap, err_from_is_err_and, ◌∙◌}
 use Rattle.xr_aligning.proofs.Holes.{set_fails, set_goes_on}
 use Rattle.xr_aligning.proofs.filling.check_set.Goals as goal
 

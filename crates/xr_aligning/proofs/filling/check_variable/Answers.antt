@@ -1,8 +1,4 @@
-use Rattle.std.proofs.Common.{◌∙◌, Bor, ap, map}
-use Rattle.xr_defs.specs.Parts.{axes_called}
-use Rattle.xr_aligning.specs.Coming.{check_var_by}
-use Rattle.xr_aligning.specs.declared.fits.Fit.{Fit}
-use Rattle.xr_aligning.specs.Fits.{fit_of}
+use Rattle.xr_aligning.proofs.Common.{Bor, Fit, ap, axes_called, check_var_by, fit_of, map, ◌∙◌}
 use Rattle.xr_aligning.proofs.Holes.{hole_answered}
 use Rattle.xr_aligning.proofs.filling.check_variable.Goals as goal
 

@@ -1,5 +1,4 @@
-use Rattle.std.proofs.Common.{sym, ◌∙◌, arith}
-use Rattle.xr_joining.proofs.NamedAxes.{in_next}
+use Rattle.xr_aligning.proofs.Common.{arith, in_next, sym, ◌∙◌}
 use Rattle.xr_aligning.proofs.fits.+joined_in.Goals as goal
 
 pub returns-else-is : goal.returns-else-is

@@ -1,6 +1,4 @@
-use Rattle.std.proofs.Common.{subst, sym}
-use Rattle.std.specs.List.{AllByRecursion}
-use Rattle.xr_aligning.specs.Coming.{IsLabelledIn}
+use Rattle.xr_aligning.proofs.Common.{AllByRecursion, IsLabelledIn, subst, sym}
 use Rattle.xr_aligning.proofs.labelled.all_labelled.Goals as goal
 
 pub returns-clause-inside : goal.returns-clause-inside

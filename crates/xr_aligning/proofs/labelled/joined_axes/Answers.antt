@@ -1,6 +1,4 @@
-use Rattle.std.proofs.Common.{◌++◌, Bor, List, ap, map, ◌∙◌}
-use Rattle.xr_types.specs.declared.axis.Axis.{Axis}
-use Rattle.xr_aligning.specs.Coming.{own_axes}
+use Rattle.xr_aligning.proofs.Common.{Axis, Bor, List, ap, map, own_axes, ◌++◌, ◌∙◌}
 use Rattle.xr_aligning.proofs.Given.{axes_answered, axes_kept, axes_loose}
 use Rattle.xr_aligning.proofs.labelled.joined_axes.Goals as goal
 

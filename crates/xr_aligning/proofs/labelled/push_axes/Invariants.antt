@@ -1,6 +1,4 @@
-use Rattle.std.proofs.Common.{◌≡◌, ◌++◌, map, drop, All}
-use Rattle.align_join.specs.Joined.{HasFew}
-use Rattle.xr_aligning.specs.Coming.{own_axes}
+use Rattle.xr_aligning.proofs.Common.{All, HasFew, drop, map, own_axes, ◌++◌, ◌≡◌}
 use Rattle.xr_aligning.proofs.labelled.push_axes.Given as goal
 
 abbrev pub invariant-loop-value : goal.invariant-loop-value

@@ -1,8 +1,4 @@
-use Rattle.std.proofs.Common.{◌∷◌, [], ◌++◌, ◌∙◌, map, refl, sym, ap}
-use Rattle.xr_types.specs.Results.{all_of}
-use Rattle.xr_relations.specs.Aligning.{check_labelled}
-use Rattle.xr_values.specs.Meaning.{meaning, IsValueIn}
-use Rattle.xr_aligning.specs.Coming.{labelled_in, IsLabelledIn}
+use Rattle.xr_aligning.proofs.Common.{IsLabelledIn, IsValueIn, [], all_of, ap, check_labelled, labelled_in, map, meaning, refl, sym, ◌++◌, ◌∙◌, ◌∷◌}
 use Rattle.xr_aligning.proofs.Loops.{all_hold, holds_here, more, one_mapped, passed}
 use Rattle.xr_aligning.proofs.labelled.push_labelled.Goals as goal
 

@@ -1,10 +1,4 @@
-use Rattle.std.proofs.Common.{◌≡◌, ◌++◌, List, map, drop}
-use Rattle.std.specs.List.{AllByRecursion}
-use Rattle.xr_types.specs.Results.{all_of}
-use Rattle.xr_arrays.specs.declared.node.Node.{Node}
-use Rattle.xr_relations.specs.Aligning.{check_labelled}
-use Rattle.xr_values.specs.Meaning.{meaning, IsValueIn}
-use Rattle.xr_aligning.specs.Coming.{labelled_in, IsLabelledIn}
+use Rattle.xr_aligning.proofs.Common.{AllByRecursion, IsLabelledIn, IsValueIn, List, Node, all_of, check_labelled, drop, labelled_in, map, meaning, ◌++◌, ◌≡◌}
 use Rattle.xr_aligning.proofs.labelled.push_labelled.Given as goal
 
 abbrev pub invariant-loop-value : goal.invariant-loop-value

@@ -1,5 +1,4 @@
-use Rattle.std.proofs.Common.{rules}
-use Rattle.xr_aligning.specs.Sets.{IsVarHere}
+use Rattle.xr_aligning.proofs.Common.{IsVarHere, rules}
 use Rattle.xr_aligning.proofs.Firsts.{each_rest}
 use Rattle.xr_aligning.proofs.SetsAfter.{empty_put, more_put, rest_put}
 use Rattle.xr_aligning.proofs.sets.+put_vars.Goals as goal

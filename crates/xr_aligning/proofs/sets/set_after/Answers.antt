@@ -1,15 +1,4 @@
-use Rattle.std.proofs.Common.{◌≡◌, ◌∙◌, Bor, List, [], ap, map, subst, sym}
-use Rattle.std.specs.List.{list_all, AllByRecursion}
-use Rattle.std.specs.Prelude.{nat_le}
-use Rattle.xr_defs.specs.Limits.{most_cells}
-use Rattle.xr_defs.specs.WellFormed.{IsCoordinate}
-use Rattle.xr_operations.specs.Alignment.{joined_in}
-use Rattle.xr_parts.specs.Frames.{IsThere}
-use Rattle.xr_values.specs.declared.variable.Variable.{Variable}
-use Rattle.xr_aligning.specs.declared.fits.Fit.{Fit}
-use Rattle.xr_aligning.specs.Fits.{fit_of, sizes, Arrive}
-use Rattle.xr_aligning.specs.Fitted.{AreFitted}
-use Rattle.xr_aligning.specs.Sets.{ArePut, IsVarHere}
+use Rattle.xr_aligning.proofs.Common.{AllByRecursion, AreFitted, ArePut, Arrive, Bor, Fit, IsCoordinate, IsThere, IsVarHere, List, Variable, [], ap, fit_of, joined_in, list_all, map, most_cells, nat_le, sizes, subst, sym, ◌∙◌, ◌≡◌}
 use Rattle.xr_aligning.proofs.Holes.{own_there}
 use Rattle.xr_aligning.proofs.Given.{set_frame}
 use Rattle.xr_aligning.proofs.SetsAfter.{set_after, vars_of}

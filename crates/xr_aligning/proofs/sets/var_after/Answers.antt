@@ -1,12 +1,4 @@
-use Rattle.std.proofs.Common.{◌≡◌, ◌∙◌, Bor, List, ap, map, subst, sym}
-use Rattle.xr_arrays.specs.Arrays.{IsCell}
-use Rattle.xr_arrays.specs.Nodes.{value}
-use Rattle.xr_defs.specs.Parts.{axes_called}
-use Rattle.xr_defs.specs.Selecting.{is_within}
-use Rattle.xr_formulas.specs.Chains.{IsValueOf}
-use Rattle.xr_operations.specs.Alignment.{masked_with}
-use Rattle.xr_aligning.specs.declared.fits.Fit.{Fit}
-use Rattle.xr_aligning.specs.Fits.{any_hole, cells_after, fill_in, fit_of, sizes}
+use Rattle.xr_aligning.proofs.Common.{Bor, Fit, IsCell, IsValueOf, List, any_hole, ap, axes_called, cells_after, fill_in, fit_of, is_within, map, masked_with, sizes, subst, sym, value, ◌∙◌, ◌≡◌}
 use Rattle.xr_aligning.proofs.Called.{sizes_over}
 use Rattle.xr_aligning.proofs.SetsAfter.{var_after, var_sized}
 use Rattle.xr_aligning.proofs.sets.var_after.Goals as goal

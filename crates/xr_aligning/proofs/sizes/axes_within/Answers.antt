@@ -1,7 +1,4 @@
-use Rattle.std.proofs.Common.{◌∙◌, Bor, ap, map}
-use Rattle.xr_defs.specs.Selecting.{is_within}
-use Rattle.xr_aligning.specs.declared.fits.Fit.{Fit}
-use Rattle.xr_aligning.specs.Fits.{sizes}
+use Rattle.xr_aligning.proofs.Common.{Bor, Fit, ap, is_within, map, sizes, ◌∙◌}
 use Rattle.xr_aligning.proofs.Called.{sizes_over}
 use Rattle.xr_aligning.proofs.sizes.axes_within.Goals as goal
 

@@ -1,6 +1,4 @@
-use Rattle.std.proofs.Common.{◌≡◌, ℤ, Option, map, drop}
-use Rattle.xr_defs.specs.Selecting.{are_within}
-use Rattle.xr_operations.specs.Alignment.{fitted_coord}
+use Rattle.xr_aligning.proofs.Common.{Option, are_within, drop, fitted_coord, map, ℤ, ◌≡◌}
 use Rattle.xr_aligning.proofs.sizes.coords_within.Given as goal
 
 abbrev pub invariant-loop-coord : goal.invariant-loop-coord

@@ -1,6 +1,4 @@
-use Rattle.std.proofs.Common.{◌∙◌, ap, sym}
-use Rattle.xr_types.specs.Results.{unless}
-use Rattle.xr_types.specs.declared.fault.Fault.TheVariants.{TooLarge}
+use Rattle.xr_aligning.proofs.Common.{TooLarge, ap, sym, unless, ◌∙◌}
 use Rattle.xr_aligning.proofs.Sized.{set_over}
 use Rattle.xr_aligning.proofs.sizes.is_fitted_within.Goals as goal
 

@@ -1,8 +1,4 @@
-use Rattle.std.proofs.Common.{◌∙◌, Bor, ap, map}
-use Rattle.xr_defs.specs.Parts.{axes_called}
-use Rattle.xr_defs.specs.Selecting.{is_within}
-use Rattle.xr_aligning.specs.declared.fits.Fit.{Fit}
-use Rattle.xr_aligning.specs.Fits.{fit_of, sizes}
+use Rattle.xr_aligning.proofs.Common.{Bor, Fit, ap, axes_called, fit_of, is_within, map, sizes, ◌∙◌}
 use Rattle.xr_aligning.proofs.Called.{sizes_over}
 use Rattle.xr_aligning.proofs.sizes.var_within.Goals as goal
 

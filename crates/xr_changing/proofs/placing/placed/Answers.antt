@@ -1,8 +1,5 @@
-use Rattle.xr_changing.proofs.PlacedArrays.{array_placed, made_fits}
+use Rattle.xr_changing.proofs.PlacedArrays.{array_placed}
 use Rattle.xr_changing.proofs.placing.placed.Goals as goal
-
-pub push_formula-requires : goal.push_formula-requires
-push_formula-requires c = made_fits c.args.plan.now c.args.changes.now c.args.fill c.args.on.now c.requires.inside c.in_ok-made.ensures.fits c.in_ok-made.made c.in_ok-made.ensures.is
 
 pub returns-clause-is : goal.returns-clause-is
 returns-clause-is c =

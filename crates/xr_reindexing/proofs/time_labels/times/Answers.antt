@@ -3,10 +3,6 @@ use Rattle.xr_defs.specs.Building.{bound}
 use Rattle.xr_relations.specs.Times.{times_given}
 use Rattle.xr_reindexing.proofs.time_labels.times.Goals as goal
 
-pub returns-in_err-values-clause-means : goal.returns-in_err-values-clause-means
-unfolding times_given bound
-returns-in_err-values-clause-means c = λ nodes. let b = c.in_err-values.ensures nodes in search rules
-
 pub returns-in_err-units-clause-means : goal.returns-in_err-units-clause-means
 unfolding times_given bound
 returns-in_err-units-clause-means c = λ nodes. let b = c.in_ok-values.ensures nodes in let a = c.argument.ensures nodes in let r = c.in_err-units.ensures nodes in search rules

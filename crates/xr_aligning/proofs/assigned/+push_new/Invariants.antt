@@ -1,5 +1,0 @@
-use Rattle.std.proofs.Common.{length}
-use Rattle.xr_aligning.proofs.assigned.+push_new.Given as goal
-
-abbrev pub decreases-push_new : goal.decreases-push_new
-decreases-push_new l = length l.coords.now

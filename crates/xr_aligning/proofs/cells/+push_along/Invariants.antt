@@ -1,5 +1,0 @@
-use Rattle.std.proofs.Common.{length}
-use Rattle.xr_aligning.proofs.cells.+push_along.Given as goal
-
-abbrev pub decreases-push_along : goal.decreases-push_along
-decreases-push_along l = length l.fits.now

@@ -1,5 +1,0 @@
-use Rattle.std.proofs.Common.{length}
-use Rattle.xr_aligning.proofs.cells.+push_sizes.Given as goal
-
-abbrev pub decreases-push_sizes : goal.decreases-push_sizes
-decreases-push_sizes l = length l.fits.now

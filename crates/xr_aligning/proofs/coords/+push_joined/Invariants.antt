@@ -1,5 +1,0 @@
-use Rattle.std.proofs.Common.{length}
-use Rattle.xr_aligning.proofs.coords.+push_joined.Given as goal
-
-abbrev pub decreases-push_joined : goal.decreases-push_joined
-decreases-push_joined l = length l.own.now

@@ -1,5 +1,0 @@
-use Rattle.std.proofs.Common.{length}
-use Rattle.xr_selecting.proofs.options.+keyword.Given as goal
-
-abbrev pub decreases-keyword : goal.decreases-keyword
-decreases-keyword l = length l.keyed.now

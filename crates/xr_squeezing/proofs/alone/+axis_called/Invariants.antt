@@ -1,5 +1,0 @@
-use Rattle.std.proofs.Common.{length}
-use Rattle.xr_squeezing.proofs.alone.+axis_called.Given as goal
-
-abbrev pub decreases-axis_called : goal.decreases-axis_called
-decreases-axis_called l = length l.axes.now
