@@ -1,7 +1,7 @@
 use Rattle.xr_arguments.proofs.Common.{arith, no_values, rules, texts_in}
 use Rattle.xr_defs.specs.Arguments.{as_text}
 use Rattle.xr_arguments.proofs.Listed.{read_on, text_err, texts_more}
-use Rattle.xr_arguments.proofs.texts.texts_in.Goals as goal
+use Rattle.xr_arguments.proofs.arguments.texts_in.Goals as goal
 
 pub loop-value-init : goal.loop-value-init
 unfolding texts_in
