@@ -1,5 +1,5 @@
 -- What a call makes, as a value of the plan.
-use Rattle.xr_formulas.proofs.Common.{AddsAtMost, AddsBeside, AddsForAny, Axis, DataArray, IsArrayIn, IsArrayOf, List, Node, Portion, StandsFor, Value, [], adds_up, ap, arith, array_in, back_among, count, greatest_both, meaning, mul-le, of_array, portions, room, span, span_up, subst, sym, ◌*◌, ◌++◌, ◌+◌, ◌∙◌, ◌∷◌, ◌≡◌, ◌≤◌}
+use Rattle.xr_formulas.proofs.Common.{AddsAtMost, AddsBeside, AddsForAny, Axis, DataArray, IsArrayOf, List, Node, Portion, StandsFor, Value, [], adds_up, ap, arith, array_in, back_among, count, greatest_both, meaning, mul-le, of_array, portions, room, span, span_up, subst, sym, ◌*◌, ◌++◌, ◌+◌, ◌∙◌, ◌∷◌, ◌≡◌, ◌≤◌}
 use Rattle.std.proofs.lemmas.Grind.{flat_map-append}
 use Rattle.std.proofs.lemmas.List.Sums.{sum_by-append}
 use Rattle.std.specs.List.{flat_map, sum_by}
@@ -31,12 +31,9 @@ room_beside old new b adds ps =
 
 -- ---- an array as a value
 
-module _ (new : List Node) (v : Value) (r : Rc DataArray Global) (a : DataArray) (is : v ≡ variants.Array r) (same : r.value ≡ a) where
-  meaning_is : meaning new v ≡ of.Array (array_in new a)
-  meaning_is = is_array new v r is ∙ ap (λ (x : DataArray). of.Array (array_in new x)) same
+module _ (new : List Node) (v : Value) (r : Rc DataArray Global) (is : v ≡ variants.Array r) where
+  pub array_placed : (means : values.DataArray) → IsArrayOf new means r.value → StandsFor new (of.Array means) v
+  array_placed means made = record { is = is_array new v r is ∙ ap of.Array made.is; inside = array_inside new v r is made.inside }
 
-  pub array_placed : (means : values.DataArray) → IsArrayOf new means a → StandsFor new (of.Array means) v
-  array_placed means made = record { is = meaning_is ∙ ap of.Array made.is; inside = array_inside new v r is (subst (IsArrayIn new) (sym same) made.inside) }
-
-  pub array_room : (old : List Node) → AddsForAny old new (array_in new a) → AddsBeside old new (meaning new v)
-  array_room old adds ps = subst (λ qs. AddsAtMost old new (room (ps ++ qs))) (sym (ap portions meaning_is)) (room_beside old new (array_in new a) adds ps)
+  pub array_room : (old : List Node) → AddsForAny old new (array_in new r.value) → AddsBeside old new (meaning new v)
+  array_room old adds ps = subst (λ qs. AddsAtMost old new (room (ps ++ qs))) (sym (ap portions (is_array new v r is))) (room_beside old new (array_in new r.value) adds ps)

@@ -1,31 +1,24 @@
 -- The kinds that operators take.
-use Rattle.xr_formulas.proofs.Common.{Bool, DType, Err, Fault, InRange, IsPlaced, None, Ok, OpKind, Option, Result, Side, Some, Sort, Suits, and_parts, ap, arith, cast_signed, cast_unsigned, check_kinds, check_truths, common_kind, false, in_range, ints, is_chars, is_comparison, is_truths, not, number_kind, of_truth, or_right, promoted, refl, sort_of, sym, takes_truths, takes_two, true, true≢false, truth_number, unless, w128, with_literal, ℤ, ◌&&◌, ◌>>=◌, ◌||◌, ◌∙◌, ◌≡◌, ◌≢◌}
+use Rattle.xr_formulas.proofs.Common.{Bool, DType, Err, Fault, IsPlaced, None, Ok, OpKind, Option, Result, Side, Some, Suits, and_parts, ap, arith, check_kinds, check_truths, common_kind, false, in_range, is_chars, is_comparison, is_truths, not, number_kind, or_right, promoted, refl, sort_of, sym, takes_truths, takes_two, to_z-of_z, true, true≢false, truth_number, unless, ℤ, ◌&&◌, ◌>>=◌, ◌||◌, ◌∙◌, ◌≡◌, ◌≢◌}
 use Rattle.xr_types.specs.declared.fault.Fault.TheVariants.{DoesNotFit, WrongKind, WouldPromote}
 use Rattle.xr_types.specs.declared.kind.DType.TheVariants as kinds
 use Rattle.xr_types.specs.declared.operation.OpKind.TheVariants as ops
 use Rattle.xr_operations.specs.Arithmetic as sorts
 use Rattle.xr_operations.specs.CellMethods.{check_fits}
-use Rattle.xr_defs.specs.Values.{DataArray}
-use Rattle.xr_formulas.proofs.Compared.{kept_wide}
 
 -- ---- the check of two kinds
 
-abbrev is_division : Sort → Bool
-is_division sorts.Division = true
-is_division sort = false
-
-not_division : (sort : Sort) (a b : DType) → check_kinds sort a b ≡ Ok tt → is_division sort ≡ false
+no_division : (a b : DType) → check_kinds sorts.Division a b ≡ Ok tt → ⊥
 unfolding check_kinds unless
-not_division sorts.Division a b e = by (not (is_chars a || is_chars b)) tt e
+no_division a b e = by (not (is_chars a || is_chars b)) tt e
   where
-    by : (c : Bool) (u : Unit {0}) → (unless c WrongKind >>= λ v. Err WouldPromote) ≡ Ok u → true ≡ false
-    by true u e = absurd cc
-    by false u e = absurd cc
-not_division sort a b e = refl
+    by : (c : Bool) (u : Unit {0}) → (unless c WrongKind >>= λ v. Err WouldPromote) ≡ Ok u → ⊥
+    by true u e = cc
+    by false u e = cc
 
-two_from : (op : OpKind) → is_division (sort_of op) ≡ false → takes_two op ≡ true
-two_from ops.Add e = refl
-two_from op e = cc
+two_from : (op : OpKind) (a b : DType) → check_kinds (sort_of op) a b ≡ Ok tt → takes_two op ≡ true
+two_from ops.Add a b e = refl
+two_from op a b e = first_of (cc, grind (arith, no_division))
 
 -- what the kind of two operands tells
 common_tells : (op : OpKind) (k u t : DType) → common_kind op k u ≡ Ok t → (takes_two op ≡ true) × (promoted k u ≡ Some t)
@@ -35,7 +28,7 @@ common_tells op k u t e = by (check_kinds (sort_of op) k u) refl (promoted k u) 
     by : (r : Result (Unit {0}) Fault) → check_kinds (sort_of op) k u ≡ r → (o : Option DType) → (r >>= λ v. elim o [ None ↦ Err WouldPromote | Some w ↦ Ok w ]) ≡ Ok t → (takes_two op ≡ true) × (o ≡ Some t)
     by (Err f) is o e = absurd cc
     by (Ok tt) is None e = absurd cc
-    by (Ok tt) is (Some w) e = (two_from op (not_division (sort_of op) k u is), cc)
+    by (Ok tt) is (Some w) e = (two_from op k u is, cc)
 
 -- ---- beside a whole number
 
@@ -94,18 +87,10 @@ module _ (side : Side) (op : OpKind) (k : DType) (b : Bool) (e : check_truths op
   pub truth_own : kinds.Bool ≡ k
   truth_own = sym (truths_is k both.0)
 
+-- the number is kept in 128 bits
+pub ruleset truth_held = (truth_own, to_z-of_z)
+
 -- ---- what the calls tell
-
-pub truth_told : (side : Side) (op : OpKind) (a : DataArray) (b : Bool) → check_truths op a.kind ≡ Ok tt → of_truth side op a b ≡ Ok (with_literal side op kinds.Bool (truth_number b) a)
-unfolding of_truth
-truth_told side op a b e = ap (λ r. r >>= λ u. Ok (with_literal side op kinds.Bool (truth_number b) a)) e
-
-truth_in : (b : Bool) → InRange kinds.Bool (truth_number b)
-truth_in true = (omega (arith, ints), omega (arith, ints))
-truth_in false = (omega (arith, ints), omega (arith, ints))
-
-pub truth_kept : (b : Bool) (n : ℤ) → n ≡ truth_number b → cast_signed w128 (cast_unsigned w128 n) ≡ truth_number b
-truth_kept b n is = ap (λ m. cast_signed w128 (cast_unsigned w128 m)) is ∙ kept_wide kinds.Bool (truth_number b) (truth_in b)
 
 pub fits_told : (t : DType) (n : ℤ) → check_fits t n ≡ Ok tt → in_range t n ≡ true
 unfolding check_fits
