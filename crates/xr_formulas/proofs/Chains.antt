@@ -44,15 +44,15 @@ pub record IsOn (old nodes : List Node) (c : Chain) (node : ℕ) (rest : List St
   pub grows : Grows old nodes
   pub cells : cells_of nodes + steps_cells rest (value nodes node) ≤ cells_of old + chain_cells old c
 
-module _ (old nodes : List Node) (c : Chain) (node : ℕ) where
+module _ {old nodes : List Node} {c : Chain} {node : ℕ} where
   pub first_on : ChainFits old c → IsValueOf nodes (start_value old c.start) node → Grows old nodes → AddsAtMost old nodes (start_cells c.start) → IsOn old nodes c node c.steps
   first_on fits is grows adds =
       let start = adds.cells in
       let steps = ap (steps_cells c.steps) is.is in
       record { inside = is.inside; fits = rw is.is fits.steps; comes = ap (steps_value c.steps) is.is; grows = grows; cells = omega arith }
 
-  pub next_on : (new : List Node) (place : ℕ) (rest after : List Step) (s : Step) → rest ≡ s ∷ after → IsOn old nodes c node rest → Pushes nodes new (step_node s node) place → IsOn old new c place after
-  next_on new place rest after s is on pushes =
+  pub next_on : {new : List Node} {place : ℕ} {rest after : List Step} {s : Step} → rest ≡ s ∷ after → IsOn old nodes c node rest → Pushes nodes new (step_node s node) place → IsOn old new c place after
+  next_on {new} {place} {rest} {after} {s} is on pushes =
       let here = subst (IsOn old nodes c node) is on in
       let added = node_added nodes new (step_node s node) place (step_value s (value nodes node)) (step_valued nodes s node) pushes in
       let same = added.0.is in
@@ -67,8 +67,8 @@ module _ (old nodes : List Node) (c : Chain) (node : ℕ) where
         cells = omega arith;
       }
 
-  pub last_on : (rest : List Step) → rest ≡ [] → IsOn old nodes c node rest → IsValueOf nodes (chain_value old c) node × AddsAtMost old nodes (chain_cells old c)
-  last_on rest none on =
+  pub last_on : {rest : List Step} → rest ≡ [] → IsOn old nodes c node rest → IsValueOf nodes (chain_value old c) node × AddsAtMost old nodes (chain_cells old c)
+  last_on none on =
       let here = subst (IsOn old nodes c node) none on in
       let cells = here.cells in
       (record { inside = here.inside; is = here.comes }, record { cells = omega arith })

@@ -44,7 +44,7 @@ still_is old new v n g is = record { inside = let longer = grown-length old new 
 -- ---- two arrays of a plan
 
 -- the first chain, the second and their pair are added
-module _ (old one two : List Node) (op : OpKind) (a b : Chain) (m n : ℕ) (fits : FormulaFits old (Two op a b))
+module _ {old one two : List Node} {op : OpKind} {a b : Chain} {m n : ℕ} (fits : FormulaFits old (Two op a b))
     (first : IsValueOf one (chain_value old a) m) (grows_one : Grows old one) (second : IsValueOf two (chain_value one b) n) (grows_two : Grows one two) where
   a_is : IsValueOf two (chain_value old a) m
   a_is = still_is one two (chain_value old a) m grows_two first
@@ -71,7 +71,7 @@ module _ (old one two : List Node) (op : OpKind) (a b : Chain) (m n : ℕ) (fits
 -- ---- three arrays of a plan
 
 -- the test, the two chains and the choice are added
-module _ (old one two three : List Node) (c a b : Chain) (k m n : ℕ) (fits : FormulaFits old (Three c a b)) (test : IsValueOf one (chain_value old c) k) (grows_one : Grows old one)
+module _ {old one two three : List Node} {c a b : Chain} {k m n : ℕ} (fits : FormulaFits old (Three c a b)) (test : IsValueOf one (chain_value old c) k) (grows_one : Grows old one)
     (first : IsValueOf two (chain_value one a) m) (grows_two : Grows one two) (second : IsValueOf three (chain_value two b) n) (grows_three : Grows two three) where
   grows_both : Grows old two
   grows_both = grows_on old one two grows_one grows_two

@@ -52,11 +52,10 @@ module _ (nodes : List Node) (a : DataArray) (cells : Chain) (t : DType) (p : Pl
       let match : Match p.op (over_shape t xs) (over_shape t ys) = record { op_of = two; shape = refl; kind = refl; suits = suits; small = let most = is.formed.cells.few in omega arith; low_rank = is.formed.cells.low_rank } in
       let up = own_span (array_in nodes a) is.formed in
       let some = some_span a.axes in
-      let points = ap (λ (v : Array). size v.shape) c_is in (
-        (c_fits, d_fits, subst (λ v. Match p.op v (chain_value nodes d)) (sym c_is) (subst (Match p.op (over_shape t xs)) (sym d_is) match)),
-        ap (λ v. paired p.op v (chain_value nodes d)) c_is ∙ ap (paired p.op (over_shape t xs)) d_is,
-        omega arith,
-      )
+      let points = ap (λ (v : Array). size v.shape) c_is in
+      let fits = subst (λ v. Match p.op v (chain_value nodes d)) (sym c_is) (subst (Match p.op (over_shape t xs)) (sym d_is) match) in
+      let value_is = ap (λ v. paired p.op v (chain_value nodes d)) c_is ∙ ap (paired p.op (over_shape t xs)) d_is in
+      ((c_fits, d_fits, fits), value_is, omega arith)
 
   number_fits : ChainFits nodes number
   number_fits = literal_fits t p.number nodes a.axes range is.formed.cells.few (few_axes nodes a is)

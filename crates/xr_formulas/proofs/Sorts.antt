@@ -4,7 +4,6 @@ use Rattle.xr_types.specs.declared.fault.Fault.TheVariants.{DoesNotFit, WrongKin
 use Rattle.xr_types.specs.declared.kind.DType.TheVariants as kinds
 use Rattle.xr_types.specs.declared.operation.OpKind.TheVariants as ops
 use Rattle.xr_operations.specs.Arithmetic as sorts
-use Rattle.xr_operations.specs.CellMethods.{check_fits}
 
 -- ---- the check of two kinds
 
@@ -32,17 +31,13 @@ common_tells op k u t e = by (check_kinds (sort_of op) k u) refl (promoted k u) 
 
 -- ---- beside a whole number
 
-number_kind_is : (k t : DType) → promoted k (number_kind k) ≡ Some t → t ≡ number_kind k
-number_kind_is kinds.Bool t e = cc
-number_kind_is k t e = cc
+no_truths : (k t : DType) → promoted k (number_kind k) ≡ Some t → t ≢ kinds.Bool
+no_truths kinds.Bool t e same = absurd cc
+no_truths k t e same = absurd cc
 
-no_truths : (k : DType) → number_kind k ≢ kinds.Bool
-no_truths kinds.Bool e = absurd cc
-no_truths k e = absurd cc
-
-own_kind : (k t : DType) → t ≡ number_kind k → (is_truths k && not (is_truths t)) ≡ false → t ≡ k
-own_kind kinds.Bool t is e = absurd (true≢false (sym (ap (λ u. not (is_truths u)) is) ∙ e))
-own_kind k t is e = is
+own_kind : (k t : DType) → promoted k (number_kind k) ≡ Some t → (is_truths k && not (is_truths t)) ≡ false → t ≡ k
+own_kind kinds.Bool t e whole = let is : kinds.Int64 ≡ t = cc in absurd (true≢false (ap (λ u. not (is_truths u)) is ∙ whole))
+own_kind k t e whole = cc
 
 pub passes : (b : Bool) (f : Fault) → unless b f ≡ Ok tt → b ≡ true
 unfolding unless
@@ -50,18 +45,14 @@ passes true f e = refl
 passes false f e = absurd cc
 
 module _ (side : Side) (op : OpKind) (k t : DType) (n : ℤ) (e : common_kind op k (number_kind k) ≡ Ok t) where
-  kind_is : t ≡ number_kind k
-  kind_is = number_kind_is k t (common_tells op k (number_kind k) t e).1
+  tells : (takes_two op ≡ true) × (promoted k (number_kind k) ≡ Some t)
+  tells = common_tells op k (number_kind k) t e
 
   pub number_placed : unless (is_comparison op || in_range t n) DoesNotFit ≡ Ok tt → IsPlaced t (record { side = side; op = op; number = n })
-  number_placed fits = record {
-    two = (common_tells op k (number_kind k) t e).0;
-    suits = λ sums same. no_truths k (sym kind_is ∙ same);
-    fits = passes (is_comparison op || in_range t n) DoesNotFit fits;
-  }
+  number_placed fits = record { two = tells.0; suits = λ sums. no_truths k t tells.1; fits = passes (is_comparison op || in_range t n) DoesNotFit fits }
 
   pub number_own : (is_truths k && not (is_truths t)) ≡ false → t ≡ k
-  number_own = own_kind k t kind_is
+  number_own = own_kind k t tells.1
 
 -- ---- beside a truth value
 
@@ -89,9 +80,3 @@ module _ (side : Side) (op : OpKind) (k : DType) (b : Bool) (e : check_truths op
 
 -- the number is kept in 128 bits
 pub ruleset truth_held = (truth_own, to_z-of_z)
-
--- ---- what the calls tell
-
-pub fits_told : (t : DType) (n : ℤ) → check_fits t n ≡ Ok tt → in_range t n ≡ true
-unfolding check_fits
-fits_told t n e = passes (in_range t n) DoesNotFit e

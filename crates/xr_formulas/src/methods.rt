@@ -31,16 +31,6 @@ fn tested(alloc: Global, op: OpKind, on: &DataArray, args: &Args) -> Result<Made
     Ok(made)
 }
 
-#[tactic(auto, unfolding(xr_operations::specs::CellMethods::kind_called))]
-fn kind_called(name: &TextBytes) -> Result<DType, CallFault>
-    ensures { Answers (λ k. k) result (calls.kind_called name.now) }
-{
-    match kind_named(name.as_str()) {
-        Some(kind) => Ok(kind),
-        None => Err(CallFault::Refused(Fault::BadArgument)),
-    }
-}
-
 // Refuses what doesn't hold.
 #[tactic(auto, unfolding(xr_types::specs::Results::unless))]
 pub(crate) fn check(holds: bool, fault: Fault) -> Result<(), CallFault>
@@ -54,12 +44,15 @@ pub(crate) fn check(holds: bool, fault: Fault) -> Result<(), CallFault>
 }
 
 // `astype(kind)`
-#[tactic(auto, using(crate::proofs::Answered::answered), unfolding(xr_operations::specs::CellMethods::cast_called))]
+#[tactic(auto, using(crate::proofs::Answered::answered), unfolding(xr_operations::specs::CellMethods::cast_called, xr_operations::specs::CellMethods::kind_called))]
 fn cast_called(alloc: Global, on: &DataArray, args: &Args) -> Result<Made, CallFault>
     ensures { (nodes : List Node) → IsArrayIn nodes on.now → AnswersMade nodes result (calls.cast_called (array_in nodes on.now) (given nodes args.now)) }
 {
     check(!is_chars(on.kind), Fault::WrongKind)?;
-    let kind = kind_called(as_text(only(args, "kind")?)?)?;
+    let text = as_text(only(args, "kind")?)?;
+    let Some(kind) = kind_named(text.as_str()) else {
+        return Err(CallFault::Refused(Fault::BadArgument));
+    };
     let attrs = on.attrs.deep_copy(alloc)?;
     let made = changed(alloc, on, OpKind::Cast, kind, attrs)?;
     Ok(made)
@@ -109,7 +102,7 @@ pub fn check_fits(kind: DType, n: i128) -> Result<(), CallFault>
 }
 
 // `fillna(literal)`
-#[tactic(auto, using(crate::proofs::Answered::answered, crate::proofs::Sorts::fits_told), unfolding(xr_operations::specs::CellMethods::fill_called))]
+#[tactic(auto, using(crate::proofs::Answered::answered, crate::proofs::Sorts::passes), unfolding(xr_operations::specs::CellMethods::fill_called, xr_operations::specs::CellMethods::check_fits))]
 fn fill_called(alloc: Global, on: &DataArray, args: &Args) -> Result<Made, CallFault>
     ensures { (nodes : List Node) → IsArrayIn nodes on.now → AnswersMade nodes result (calls.fill_called (array_in nodes on.now) (given nodes args.now)) }
 {

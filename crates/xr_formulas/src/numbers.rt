@@ -7,7 +7,7 @@ ghost use Rattle.xr_defs.specs.WellFormed.{AreAttributes};
 ghost use Rattle.xr_operations.specs.Arithmetic.{is_truths as of_truths, with_literal};
 ghost use Rattle.xr_operations.specs.CellMethods.{filled_with};
 ghost use Rattle.xr_values.specs.Stands.{array_in, IsArrayIn};
-ghost use Rattle.xr_formulas.specs.Beside.{ascending, formula_beside, holds, operand, placed_on, within_kind, Fills, IsOver, IsPlaced};
+ghost use Rattle.xr_formulas.specs.Beside.{formula_beside, holds, operand, placed_on, within_kind, Fills, IsOver, IsPlaced};
 ghost use Rattle.xr_formulas.specs.Mades.{Makes};
 
 use crate::chain::{Chain, Step, cells_of, one_step};
@@ -56,15 +56,6 @@ fn holds(op: OpKind, ascending: bool) -> bool
     }
 }
 
-fn ascending(side: Side, below: bool) -> bool
-    ensures { result ≡ ascending side below }
-{
-    match side {
-        Side::Left => below,
-        Side::Right => !below,
-    }
-}
-
 // A comparison with a number that the kind doesn't have, as one with a number that it has.
 fn within_kind(kind: DType, placed: Placed) -> Placed
     ensures { result ≡ within_kind kind placed }
@@ -72,7 +63,11 @@ fn within_kind(kind: DType, placed: Placed) -> Placed
     if fits(kind, placed.number) {
         placed
     } else {
-        let up = ascending(placed.side, placed.number < least(kind));
+        let below = placed.number < least(kind);
+        let up = match placed.side {
+            Side::Left => below,
+            Side::Right => !below,
+        };
         let op = if holds(placed.op, up) {
             OpKind::GreaterEqual
         } else {

@@ -77,18 +77,12 @@ pub fn unary(alloc: Global, op: OpKind, on: &DataArray) -> Result<Made, CallFaul
     ensures { (nodes : List Node) → IsArrayIn nodes on.now → AnswersMade nodes result (calls.of_one_array op (array_in nodes on.now)) }
 {
     match op {
-        OpKind::Negate => {
-            check(is_integer_kind(on.kind), Fault::WrongKind)?;
-            let made = of_method(alloc, on, OpKind::Negate, on.kind)?;
-            Ok(made)
-        }
-        OpKind::Invert => {
-            check(!is_chars(on.kind), Fault::WrongKind)?;
-            let made = of_method(alloc, on, OpKind::Invert, on.kind)?;
-            Ok(made)
-        }
-        _ => Err(CallFault::Refused(Fault::WrongKind)),
+        OpKind::Negate => check(is_integer_kind(on.kind), Fault::WrongKind)?,
+        OpKind::Invert => check(!is_chars(on.kind), Fault::WrongKind)?,
+        _ => return Err(CallFault::Refused(Fault::WrongKind)),
     }
+    let made = of_method(alloc, on, op, on.kind)?;
+    Ok(made)
 }
 
 // ---- an array and a literal

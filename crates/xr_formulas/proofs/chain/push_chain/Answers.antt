@@ -1,4 +1,4 @@
-use Rattle.xr_formulas.proofs.Common.{IsNode, Node, Pushes, drop, drop_all, subst, sym, value, values, ◌+◌}
+use Rattle.xr_formulas.proofs.Common.{IsNode, Node, Pushes, drop_all, subst, sym, values}
 use Rattle.xr_values.proofs.Places.{from_place}
 use Rattle.xr_formulas.proofs.Chains.{IsOn, first_on, last_on, next_on, step_fits}
 use Rattle.xr_formulas.proofs.chain.push_chain.Goals as goal
@@ -6,7 +6,7 @@ use Rattle.xr_formulas.proofs.chain.push_chain.Goals as goal
 pub loop-step-init : goal.loop-step-init
 loop-step-init c =
     subst (IsOn c.args.plan.now c.push_start.new.plan c.args.chain.now c.in_ok-first.first) (sym c.as_slice-steps.ensures)
-    (first_on c.args.plan.now c.push_start.new.plan c.args.chain.now c.in_ok-first.first c.requires c.in_ok-first.ensures.value c.push_start.ensures.grows c.in_ok-first.ensures.cells)
+    (first_on c.requires c.in_ok-first.ensures.value c.push_start.ensures.grows c.in_ok-first.ensures.cells)
 
 pub push-requires : goal.push-requires
 push-requires c =
@@ -16,13 +16,11 @@ push-requires c =
 
 pub loop-step-preserved : goal.loop-step-preserved
 loop-step-preserved c =
-    let steps = c.as_slice-steps.result.now in
-    let i = c.loop-step.step-index in
-    next_on c.args.plan.now c.loop-step.plan c.args.chain.now c.loop-step.node c.push.new.self c.in_ok-node.node (drop i steps) (drop (i + 1) steps) c.step-item.result
-    (from_place steps i c.step-item.result c.loop-step-test.true c.step-item.is) c.loop-step.invariant (subst (λ (n : Node). Pushes c.loop-step.plan c.push.new.self n c.in_ok-node.node) c.in_ok-next.ensures c.in_ok-node.ensures.ok)
+    let is = from_place c.as_slice-steps.result.now c.loop-step.step-index c.step-item.result c.loop-step-test.true c.step-item.is in
+    next_on is c.loop-step.invariant (subst (λ (n : Node). Pushes c.loop-step.plan c.push.new.self n c.in_ok-node.node) c.in_ok-next.ensures c.in_ok-node.ensures.ok)
 
 pub returns-clause-value : goal.returns-clause-value
-returns-clause-value c = (last_on c.args.plan.now c.loop-step.plan c.args.chain.now c.loop-step.node _ (drop_all c.loop-step.step-index c.as_slice-steps.result.now c.loop-step-test.false) c.loop-step.invariant).0
+returns-clause-value c = (last_on (drop_all c.loop-step.step-index c.as_slice-steps.result.now c.loop-step-test.false) c.loop-step.invariant).0
 
 pub returns-clause-cells : goal.returns-clause-cells
-returns-clause-cells c = (last_on c.args.plan.now c.loop-step.plan c.args.chain.now c.loop-step.node _ (drop_all c.loop-step.step-index c.as_slice-steps.result.now c.loop-step-test.false) c.loop-step.invariant).1
+returns-clause-cells c = (last_on (drop_all c.loop-step.step-index c.as_slice-steps.result.now c.loop-step-test.false) c.loop-step.invariant).1

@@ -7,14 +7,14 @@ push_chain-requires-in-Two-2 c = still_fits c.args.plan.now c.push_chain-in-Two.
 
 pub push-requires : goal.push-requires
 push-requires c =
-    pair_placed c.args.plan.now c.push_chain-in-Two.new.plan c.push_chain-in-Two-2.new.plan c.in-Two.op c.in-Two.one c.in-Two.other c.in_ok-a-in-Two.a c.in_ok-b-in-Two.b (subst (FormulaFits c.args.plan.now) c.in-Two.is c.requires)
-    c.in_ok-a-in-Two.ensures.value c.push_chain-in-Two.ensures.grows c.in_ok-b-in-Two.ensures.value c.push_chain-in-Two-2.ensures.grows
+    let fits = subst (FormulaFits c.args.plan.now) c.in-Two.is c.requires in
+    pair_placed fits c.in_ok-a-in-Two.ensures.value c.push_chain-in-Two.ensures.grows c.in_ok-b-in-Two.ensures.value c.push_chain-in-Two-2.ensures.grows
 
 pub returns-in_ok-node-in-Two : goal.returns-in_ok-node-in-Two
 returns-in_ok-node-in-Two c =
-    let done = pair_pushed c.args.plan.now c.push_chain-in-Two.new.plan c.push_chain-in-Two-2.new.plan c.in-Two.op c.in-Two.one c.in-Two.other c.in_ok-a-in-Two.a c.in_ok-b-in-Two.b (subst (FormulaFits c.args.plan.now) c.in-Two.is c.requires)
-    c.in_ok-a-in-Two.ensures.value c.push_chain-in-Two.ensures.grows c.in_ok-b-in-Two.ensures.value c.push_chain-in-Two-2.ensures.grows
-    c.push.new.self c.in_ok-node-in-Two.node c.in_ok-node-in-Two.ensures.ok c.in_ok-a-in-Two.ensures.cells c.in_ok-b-in-Two.ensures.cells in
+    let fits = subst (FormulaFits c.args.plan.now) c.in-Two.is c.requires in
+    let pushed = pair_pushed fits c.in_ok-a-in-Two.ensures.value c.push_chain-in-Two.ensures.grows c.in_ok-b-in-Two.ensures.value c.push_chain-in-Two-2.ensures.grows in
+    let done = pushed c.push.new.self c.in_ok-node-in-Two.node c.in_ok-node-in-Two.ensures.ok c.in_ok-a-in-Two.ensures.cells c.in_ok-b-in-Two.ensures.cells in
     rw c.in-Two.is (record { value = done.0; grows = done.1; cells = done.2 })
 
 pub push_chain-requires-in-Three-2 : goal.push_chain-requires-in-Three-2
@@ -22,16 +22,16 @@ push_chain-requires-in-Three-2 c = still_fits c.args.plan.now c.push_chain-in-Th
 
 pub push_chain-requires-in-Three-3 : goal.push_chain-requires-in-Three-3
 push_chain-requires-in-Three-3 c =
-    still_fits c.args.plan.now c.push_chain-in-Three-2.new.plan c.in-Three.other (grows_on c.args.plan.now c.push_chain-in-Three.new.plan c.push_chain-in-Three-2.new.plan c.push_chain-in-Three.ensures.grows c.push_chain-in-Three-2.ensures.grows) (subst (FormulaFits c.args.plan.now) c.in-Three.is c.requires).2
+    still_fits c.args.plan.now c.push_chain-in-Three-2.new.plan c.in-Three.other (grows_on _ _ _ c.push_chain-in-Three.ensures.grows c.push_chain-in-Three-2.ensures.grows) (subst (FormulaFits c.args.plan.now) c.in-Three.is c.requires).2
 
 pub push-requires-in-Three : goal.push-requires-in-Three
 push-requires-in-Three c =
-    choice_placed c.args.plan.now c.push_chain-in-Three.new.plan c.push_chain-in-Three-2.new.plan c.push_chain-in-Three-3.new.plan c.in-Three.test c.in-Three.one c.in-Three.other c.in_ok-cond-in-Three.cond c.in_ok-a-in-Three.a c.in_ok-b-in-Three.b
-    (subst (FormulaFits c.args.plan.now) c.in-Three.is c.requires) c.in_ok-cond-in-Three.ensures.value c.push_chain-in-Three.ensures.grows c.in_ok-a-in-Three.ensures.value c.push_chain-in-Three-2.ensures.grows c.in_ok-b-in-Three.ensures.value c.push_chain-in-Three-3.ensures.grows
+    let fits = subst (FormulaFits c.args.plan.now) c.in-Three.is c.requires in
+    choice_placed fits c.in_ok-cond-in-Three.ensures.value c.push_chain-in-Three.ensures.grows c.in_ok-a-in-Three.ensures.value c.push_chain-in-Three-2.ensures.grows c.in_ok-b-in-Three.ensures.value c.push_chain-in-Three-3.ensures.grows
 
 pub returns-in_ok-node-in-Three : goal.returns-in_ok-node-in-Three
 returns-in_ok-node-in-Three c =
-    let done = choice_pushed c.args.plan.now c.push_chain-in-Three.new.plan c.push_chain-in-Three-2.new.plan c.push_chain-in-Three-3.new.plan c.in-Three.test c.in-Three.one c.in-Three.other c.in_ok-cond-in-Three.cond c.in_ok-a-in-Three.a c.in_ok-b-in-Three.b
-    (subst (FormulaFits c.args.plan.now) c.in-Three.is c.requires) c.in_ok-cond-in-Three.ensures.value c.push_chain-in-Three.ensures.grows c.in_ok-a-in-Three.ensures.value c.push_chain-in-Three-2.ensures.grows c.in_ok-b-in-Three.ensures.value c.push_chain-in-Three-3.ensures.grows
-    c.push-in-Three.new.self c.in_ok-node-in-Three.node c.in_ok-node-in-Three.ensures.ok c.in_ok-cond-in-Three.ensures.cells c.in_ok-a-in-Three.ensures.cells c.in_ok-b-in-Three.ensures.cells in
+    let fits = subst (FormulaFits c.args.plan.now) c.in-Three.is c.requires in
+    let pushed = choice_pushed fits c.in_ok-cond-in-Three.ensures.value c.push_chain-in-Three.ensures.grows c.in_ok-a-in-Three.ensures.value c.push_chain-in-Three-2.ensures.grows c.in_ok-b-in-Three.ensures.value c.push_chain-in-Three-3.ensures.grows in
+    let done = pushed c.push-in-Three.new.self c.in_ok-node-in-Three.node c.in_ok-node-in-Three.ensures.ok c.in_ok-cond-in-Three.ensures.cells c.in_ok-a-in-Three.ensures.cells c.in_ok-b-in-Three.ensures.cells in
     rw c.in-Three.is (record { value = done.0; grows = done.1; cells = done.2 })
