@@ -41,68 +41,50 @@ module _ (old new : List Node) (c : Chain) (g : Grows old new) (fits : ChainFits
 still_is : (old new : List Node) (v : Array) (n : ℕ) → Grows old new → IsValueOf old v n → IsValueOf new v n
 still_is old new v n g is = record { inside = let longer = grown-length old new g in let here = is.inside in omega arith; is = grown_value old new n g is.inside ∙ is.is }
 
--- ---- two arrays of a plan
+-- ---- the node of a formula
 
--- the first chain, the second and their pair are added
-module _ {old one two : List Node} {op : OpKind} {a b : Chain} {m n : ℕ} (fits : FormulaFits old (Two op a b))
-    (first : IsValueOf one (chain_value old a) m) (grows_one : Grows old one) (second : IsValueOf two (chain_value one b) n) (grows_two : Grows one two) where
-  a_is : IsValueOf two (chain_value old a) m
-  a_is = still_is one two (chain_value old a) m grows_two first
+-- the first chain and the second are added: the plan takes their pair, and what comes of it is the formula's value
+pub pair_made : {old one two : List Node} {op : OpKind} {a b : Chain} {m n : ℕ} → FormulaFits old (Two op a b) → IsValueOf one (chain_value old a) m → Grows old one → IsValueOf two (chain_value one b) n → Grows one two
+    → IsNode (values two) (Binary op m n)
+    × ((new : List Node) (place : ℕ) → Pushes two new (Binary op m n) place → AddsAtMost old one (chain_cells old a) → AddsAtMost one two (chain_cells one b)
+    → IsValueOf new (formula_value old (Two op a b)) place × Grows old new × AddsAtMost old new (formula_cells old (Two op a b)))
+unfolding node_value
+pair_made {old} {one} {two} {op} {a} {b} {m} {n} fits first grows_one second grows_two =
+    let a_is = still_is one two (chain_value old a) m grows_two first in
+    let b_is = later_is old one b grows_one fits.1 two n second in
+    let a_in = a_is.inside in
+    let b_in = b_is.inside in
+    let long = values-length two in
+    let is = subst (λ v. Match op v (value two n)) (sym a_is.is) (subst (Match op (chain_value old a)) (sym b_is.is) fits.2) in
+    let value_is = ap (λ v. paired op v (value two n)) a_is.is ∙ ap (paired op (chain_value old a)) b_is.is in
+    let most : ℕ = chain_cells old a + chain_cells old b in (
+      record { fits = (omega arith, omega arith, is.op_of, is.shape, is.kind, is.suits); small = is.small; low_rank = is.low_rank },
+      λ new place pushes adds_a adds_b. node_after old two new (Binary op m n) place most (formula_value old (Two op a b)) (grows_on old one two grows_one grows_two) (later_adds old one b grows_one fits.1 two (chain_cells old a) adds_a adds_b) value_is pushes,
+    )
 
-  b_is : IsValueOf two (chain_value old b) n
-  b_is = later_is old one b grows_one fits.1 two n second
-
-  pub pair_placed : IsNode (values two) (Binary op m n)
-  unfolding node_value
-  pair_placed =
-      let long = values-length two in
-      let a_in = a_is.inside in
-      let b_in = b_is.inside in
-      let is = subst (λ v. Match op v (value two n)) (sym a_is.is) (subst (Match op (chain_value old a)) (sym b_is.is) fits.2) in
-      record { fits = (omega arith, omega arith, is.op_of, is.shape, is.kind, is.suits); small = is.small; low_rank = is.low_rank }
-
-  pub pair_pushed : (new : List Node) (place : ℕ) → Pushes two new (Binary op m n) place → AddsAtMost old one (chain_cells old a) → AddsAtMost one two (chain_cells one b)
-      → IsValueOf new (formula_value old (Two op a b)) place × Grows old new × AddsAtMost old new (formula_cells old (Two op a b))
-  unfolding node_value
-  pair_pushed new place pushes adds_a adds_b =
-      node_after old two new (Binary op m n) place (chain_cells old a + chain_cells old b) (formula_value old (Two op a b)) (grows_on old one two grows_one grows_two) (later_adds old one b grows_one fits.1 two (chain_cells old a) adds_a adds_b)
-      (ap (λ v. paired op v (value two n)) a_is.is ∙ ap (paired op (chain_value old a)) b_is.is) pushes
-
--- ---- three arrays of a plan
-
--- the test, the two chains and the choice are added
-module _ {old one two three : List Node} {c a b : Chain} {k m n : ℕ} (fits : FormulaFits old (Three c a b)) (test : IsValueOf one (chain_value old c) k) (grows_one : Grows old one)
-    (first : IsValueOf two (chain_value one a) m) (grows_two : Grows one two) (second : IsValueOf three (chain_value two b) n) (grows_three : Grows two three) where
-  grows_both : Grows old two
-  grows_both = grows_on old one two grows_one grows_two
-
-  test_is : IsValueOf three (chain_value old c) k
-  test_is = still_is one three (chain_value old c) k (grows_on one two three grows_two grows_three) test
-
-  first_is : IsValueOf three (chain_value old a) m
-  first_is = still_is two three (chain_value old a) m grows_three (later_is old one a grows_one fits.1 two m first)
-
-  second_is : IsValueOf three (chain_value old b) n
-  second_is = later_is old two b grows_both fits.2 three n second
-
-  pub choice_placed : IsNode (values three) (Choose k m n)
-  unfolding node_value
-  choice_placed =
-      let long = values-length three in
-      let c_in = test_is.inside in
-      let a_in = first_is.inside in
-      let b_in = second_is.inside in
-      let is = subst (λ v. Choices v (value three m) (value three n)) (sym test_is.is) (subst (λ v. Choices (chain_value old c) v (value three n)) (sym first_is.is) (subst (Choices (chain_value old c) (chain_value old a)) (sym second_is.is) fits.3)) in
-      record { fits = (omega arith, omega arith, omega arith, is.truth, is.tests, is.shape, is.kind); small = is.small; low_rank = is.low_rank }
-
-  pub choice_pushed : (new : List Node) (place : ℕ) → Pushes three new (Choose k m n) place → AddsAtMost old one (chain_cells old c) → AddsAtMost one two (chain_cells one a) → AddsAtMost two three (chain_cells two b)
-      → IsValueOf new (formula_value old (Three c a b)) place × Grows old new × AddsAtMost old new (formula_cells old (Three c a b))
-  unfolding node_value
-  choice_pushed new place pushes adds_c adds_a adds_b =
-      let most : ℕ = chain_cells old c + chain_cells old a in
-      let upto = later_adds old one a grows_one fits.1 two (chain_cells old c) adds_c adds_a in
-      node_after old three new (Choose k m n) place (most + chain_cells old b) (formula_value old (Three c a b)) (grows_on old two three grows_both grows_three) (later_adds old two b grows_both fits.2 three most upto adds_b)
-      (ap (λ v. choose_of v (value three m) (value three n)) test_is.is ∙ ap (λ v. choose_of (chain_value old c) v (value three n)) first_is.is ∙ ap (choose_of (chain_value old c) (chain_value old a)) second_is.is) pushes
+-- the test, the first chain and the second are added: it takes the choice
+pub choice_made : {old one two three : List Node} {c a b : Chain} {k m n : ℕ} → FormulaFits old (Three c a b) → IsValueOf one (chain_value old c) k → Grows old one → IsValueOf two (chain_value one a) m → Grows one two → IsValueOf three (chain_value two b) n → Grows two three
+    → IsNode (values three) (Choose k m n)
+    × ((new : List Node) (place : ℕ) → Pushes three new (Choose k m n) place → AddsAtMost old one (chain_cells old c) → AddsAtMost one two (chain_cells one a) → AddsAtMost two three (chain_cells two b)
+    → IsValueOf new (formula_value old (Three c a b)) place × Grows old new × AddsAtMost old new (formula_cells old (Three c a b)))
+unfolding node_value
+choice_made {old} {one} {two} {three} {c} {a} {b} {k} {m} {n} fits test grows_one first grows_two second grows_three =
+    let grows_both = grows_on old one two grows_one grows_two in
+    let c_is = still_is one three (chain_value old c) k (grows_on one two three grows_two grows_three) test in
+    let a_is = still_is two three (chain_value old a) m grows_three (later_is old one a grows_one fits.1 two m first) in
+    let b_is = later_is old two b grows_both fits.2 three n second in
+    let c_in = c_is.inside in
+    let a_in = a_is.inside in
+    let b_in = b_is.inside in
+    let long = values-length three in
+    let is = subst (λ v. Choices v (value three m) (value three n)) (sym c_is.is) (subst (λ v. Choices (chain_value old c) v (value three n)) (sym a_is.is) (subst (Choices (chain_value old c) (chain_value old a)) (sym b_is.is) fits.3)) in
+    let value_is = ap (λ v. choose_of v (value three m) (value three n)) c_is.is ∙ ap (λ v. choose_of (chain_value old c) v (value three n)) a_is.is ∙ ap (choose_of (chain_value old c) (chain_value old a)) b_is.is in
+    let most : ℕ = chain_cells old c + chain_cells old a in
+    let upto = later_adds old one a grows_one fits.1 two (chain_cells old c) in
+    let all = later_adds old two b grows_both fits.2 three most in (
+      record { fits = (omega arith, omega arith, omega arith, is.truth, is.tests, is.shape, is.kind); small = is.small; low_rank = is.low_rank },
+      λ new place pushes adds_c adds_a adds_b. node_after old three new (Choose k m n) place (most + chain_cells old b) (formula_value old (Three c a b)) (grows_on old two three grows_both grows_three) (all (upto adds_c adds_a) adds_b) value_is pushes,
+    )
 
 -- ---- what is added
 

@@ -44,15 +44,11 @@ unfolding unless
 passes true f e = refl
 passes false f e = absurd cc
 
-module _ (side : Side) (op : OpKind) (k t : DType) (n : ℤ) (e : common_kind op k (number_kind k) ≡ Ok t) where
-  tells : (takes_two op ≡ true) × (promoted k (number_kind k) ≡ Some t)
-  tells = common_tells op k (number_kind k) t e
-
-  pub number_placed : unless (is_comparison op || in_range t n) DoesNotFit ≡ Ok tt → IsPlaced t (record { side = side; op = op; number = n })
-  number_placed fits = record { two = tells.0; suits = λ sums. no_truths k t tells.1; fits = passes (is_comparison op || in_range t n) DoesNotFit fits }
-
-  pub number_own : (is_truths k && not (is_truths t)) ≡ false → t ≡ k
-  number_own = own_kind k t tells.1
+pub number_placed : (side : Side) (op : OpKind) (k t : DType) (n : ℤ) → common_kind op k (number_kind k) ≡ Ok t → unless (is_comparison op || in_range t n) DoesNotFit ≡ Ok tt
+    → IsPlaced t (record { side = side; op = op; number = n }) × ((is_truths k && not (is_truths t)) ≡ false → t ≡ k)
+number_placed side op k t n e fits =
+    let tells = common_tells op k (number_kind k) t e in
+    (record { two = tells.0; suits = λ sums. no_truths k t tells.1; fits = passes (is_comparison op || in_range t n) DoesNotFit fits }, own_kind k t tells.1)
 
 -- ---- beside a truth value
 
