@@ -1,6 +1,6 @@
 use Rattle.xr_changing.proofs.Common.{ap, chosen, map, pos, shown, ◌∙◌}
-use Rattle.xr_changing.proofs.ChosenLabels.{chosen_naturals}
-use Rattle.xr_changing.proofs.labels.chosen_integers.Goals as goal
+use Rattle.xr_changing.proofs.NewAxes.{chosen_naturals}
+use Rattle.xr_changing.proofs.axes.chosen_integers.Goals as goal
 
 pub returns-in_ok-unsigned-in-Unsigned : goal.returns-in_ok-unsigned-in-Unsigned
 returns-in_ok-unsigned-in-Unsigned c =
