@@ -85,14 +85,19 @@ given nodes args = record { plain = map (meaning nodes) args.plain.items; keyed 
 -- each array and dataset in it is one of the plan, and its times stand in the years 1 to 9999
 unfoldable mutual
   pub IsTreeIn : List Node → Tree → Type 0
+  IsTreeIn nodes tree.Absent = ⊤
+  IsTreeIn nodes tree.Missing = ⊤
+  IsTreeIn nodes (tree.Truth b) = ⊤
+  IsTreeIn nodes (tree.Number n) = ⊤
+  IsTreeIn nodes (tree.Text t) = ⊤
   IsTreeIn nodes (tree.Sequence ts) = AreTreesIn nodes ts
   IsTreeIn nodes (tree.Table es) = AreEntriesIn nodes es
+  IsTreeIn nodes (tree.Slice start stop step) = ⊤
   IsTreeIn nodes (tree.Array a) = IsArrayIn nodes a
   IsTreeIn nodes (tree.Set s) = IsDatasetIn nodes s
   IsTreeIn nodes (tree.Times coding ts) = All (IsTime coding.units.calendar) ts
   IsTreeIn nodes (tree.GroupedArray a g) = IsArrayIn nodes a
   IsTreeIn nodes (tree.GroupedSet s g) = IsDatasetIn nodes s
-  IsTreeIn nodes t = ⊤
 
   pub AreTreesIn : List Node → Trees → Type 0
   AreTreesIn nodes tree.NoTree = ⊤
@@ -110,14 +115,19 @@ IsEntryIn nodes kv = IsValueIn nodes kv.1
 
 -- the same by the outermost layer
 abbrev pub IsLayerIn : List Node → Value-F Value → Type 0
+IsLayerIn nodes held.Absent = ⊤
+IsLayerIn nodes held.Missing = ⊤
+IsLayerIn nodes (held.Truth b) = ⊤
+IsLayerIn nodes (held.Number n) = ⊤
+IsLayerIn nodes (held.Text t) = ⊤
 IsLayerIn nodes (held.List vs) = All (IsValueIn nodes) vs.items
 IsLayerIn nodes (held.Table es) = All (IsEntryIn nodes) es.items
+IsLayerIn nodes (held.Slice start stop step) = ⊤
 IsLayerIn nodes (held.Array a) = IsArrayIn nodes a.value
 IsLayerIn nodes (held.Set s) = IsDatasetIn nodes s.value
 IsLayerIn nodes (held.Times coding ts) = All (IsTime coding.units.calendar) ts
 IsLayerIn nodes (held.GroupedArray a g) = IsArrayIn nodes a.value
 IsLayerIn nodes (held.GroupedSet s g) = IsDatasetIn nodes s.value
-IsLayerIn nodes x = ⊤
 
 -- the arguments of a call
 pub record AreArgsIn (nodes : List Node) (args : Args) : Type 0 where

@@ -13,16 +13,40 @@ use Rattle.xr_defs.specs.WellFormed.{IsDataArray, IsDataset}
 
 -- an array with these cells in place of its node
 abbrev pub with_cells : DataArray → List (Option ℤ) → of.DataArray
-with_cells a cells = record { name = a.name; axes = a.axes; kind = a.kind; masked = a.masked; attrs = a.attrs; coords = a.coords; cells = cells }
+with_cells a cells =
+    record {
+      name = a.name;
+      axes = a.axes;
+      kind = a.kind;
+      masked = a.masked;
+      attrs = a.attrs;
+      coords = a.coords;
+      cells = cells;
+    }
 
 abbrev pub array_in : List Node → DataArray → of.DataArray
 array_in nodes a = with_cells a (value nodes a.node).cells
 
 abbrev pub variable_in : List Node → Variable → of.Variable
-variable_in nodes v = record { name = v.name; dims = v.dims; kind = v.kind; masked = v.masked; attrs = v.attrs; cells = (value nodes v.node).cells }
+variable_in nodes v =
+    record {
+      name = v.name;
+      dims = v.dims;
+      kind = v.kind;
+      masked = v.masked;
+      attrs = v.attrs;
+      cells = (value nodes v.node).cells;
+    }
 
 abbrev pub dataset_in : List Node → Dataset → of.Dataset
-dataset_in nodes s = record { axes = s.axes; coords = s.coords; vars = map (variable_in nodes) s.vars; attrs = s.attrs; skipped = s.skipped }
+dataset_in nodes s =
+    record {
+      axes = s.axes;
+      coords = s.coords;
+      vars = map (variable_in nodes) s.vars;
+      attrs = s.attrs;
+      skipped = s.skipped;
+    }
 
 -- a node of the plan whose value has this shape and kind
 pub record IsNodeOf (nodes : List Node) (n : ℕ) (shape : List ℕ) (kind : DType) : Type 0 where
