@@ -1,5 +1,5 @@
 -- What the steps to new labels make of cells.
-use Rattle.xr_changing.proofs.Common.{All, AllByRecursion, Array, Axis, Bool, Change, IsBelow, IsCell, IsPoint, List, None, Option, Some, Step, StepsFit, TakesFit, [], along, ap, append_assoc, arith, axis_called, called_below, cells_along, cells_by, change_called, changed_axis, false, from_source, get_or, greatest, greatest_both, has_hole, is_none, is_open, is_some, length, length-append, length-set, list_any, lit<, map, mul-le, new_axis, or_right, place, refl, set, size, size_up, step_by, steps_cells, steps_from, steps_value, suc, sym, taken_from, true, zero, ℕ, ℤ, ◌&&◌, ◌*◌, ◌++◌, ◌+◌, ◌<◌, ◌||◌, ◌∙◌, ◌∷◌, ◌≡◌, ◌≤◌}
+use Rattle.xr_changing.proofs.Common.{All, AllByRecursion, Array, Axis, Bool, Change, IsBelow, IsCell, IsPoint, List, None, Option, Some, Step, StepsFit, TakesFit, [], along, ap, append_assoc, arith, axis_called, called_below, cells_along, cells_by, change_called, changed_axis, false, from_source, get_or, greatest, greatest_both, has_hole, is_none, is_open, is_some, length, length-append, length-set, list_any, lit<, map, mul-le, new_axis, or_right, place, refl, set, size, size_up, step_by, steps_cells, steps_from, steps_value, suc, sym, taken_from, true, zero, ℕ, ℤ, ◌&&◌, ◌*◌, ◌++◌, ◌<◌, ◌||◌, ◌∙◌, ◌∷◌, ◌≡◌, ◌≤◌}
 use Rattle.std.proofs.Math.Seq.{set-append_seam}
 use Rattle.plan_core.proofs.Tabs.{All-tab, place_below, suc_times}
 use Rattle.plan_core.proofs.Valued.{taken_is}

@@ -1,4 +1,4 @@
-use Rattle.xr_changing.proofs.Common.{ChainFits, rules, subst, sym, ◌∙◌, ◌≡◌}
+use Rattle.xr_changing.proofs.Common.{rules, ◌∙◌}
 use Rattle.xr_formulas.specs.declared.chain.Start.TheVariants as starts
 use Rattle.xr_changing.proofs.Formed.{coords_renewed}
 use Rattle.xr_changing.proofs.NewAxes.{unchanged}
