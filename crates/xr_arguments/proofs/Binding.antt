@@ -9,12 +9,9 @@ pub bound_is : {N : Type 0} (now : N → List ℕ) (names others : List N) (plai
     → list_all (is_keyword_of (map now others)) keyed ≡ true → values ≡ map Some plain ++ map (λ n. keyword n keyed) (map now others) → bound (map now names) (record { plain = plain; keyed = keyed }) ≡ Ok values
 unfolding bound unless
 bound_is now names others plain keyed values few is keywords are =
-    let rest : drop (length plain) (map now names) ≡ map now others = drop-map now (length plain) names ∙ ap (map now) (sym is) in
     let long : length (map now names) ≡ length names = length-map names now in
     let enough : nat_le (length plain) (length (map now names)) ≡ true = le-leb (length plain) (length (map now names)) (omega arith) in
-    let known : list_all (is_keyword_of (drop (length plain) (map now names))) keyed ≡ true = ap (λ ns. list_all (is_keyword_of ns) keyed) rest ∙ keywords in
-    let each : map (λ n. keyword n keyed) (drop (length plain) (map now names)) ≡ map (λ n. keyword n keyed) (map now others) = ap (map (λ n. keyword n keyed)) rest in
-    rw (enough, known) (ap (λ t. Ok (map Some plain ++ t)) each ∙ ap Ok (sym are))
+    rw (drop-map now (length plain) names, ← is, enough, keywords) (ap Ok (sym are))
 
 -- a list by its first item and the others
 pub first_and_rest : {Z W : Type 0} (now : Z → W) (zs : List Z) (d : Z) → 1 ≤ length zs → map now zs ≡ now (get_or zs 0 d) ∷ map now (take (length zs - 1) (drop 1 zs))

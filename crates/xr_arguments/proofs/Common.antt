@@ -1,6 +1,6 @@
 -- Names that several of the proofs use.
-pub use Rattle.std.proofs.Common.{All, Bool, Err, List, Ok, Option, Result, Some, [], ap, append_assoc, arith, drop, get_or, length, map, option_map, refl, rules, subst, suc, sym, take, true, ℕ, ℤ, ◌++◌, ◌+◌, ◌-◌, ◌<◌, ◌∙◌, ◌∷◌, ◌≡◌, ◌≤◌}
-pub use Rattle.std.proofs.lemmas.List.{drop-map, length-map, map-append, take-append-drop, take_all, take_more}
+pub use Rattle.std.proofs.Common.{All, Bool, Err, List, Ok, Option, Result, Some, [], ap, append_assoc, arith, drop, get_or, length, map, option_map, refl, rules, subst, suc, sym, take, true, zero, ℕ, ℤ, ◌++◌, ◌+◌, ◌-◌, ◌<◌, ◌∙◌, ◌∷◌, ◌≡◌, ◌≤◌}
+pub use Rattle.std.proofs.lemmas.List.{drop-map, length-map, map-append, take-map, take_all}
 pub use Rattle.std.specs.Prelude.{OnOk, Vec, nat_le}
 pub use Rattle.std.specs.declared.alloc.Global.{Global}
 pub use Rattle.std.specs.declared.rc.Rc.{Rc}

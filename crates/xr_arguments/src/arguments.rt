@@ -3,9 +3,11 @@ ghost use Rattle.std.specs.Prelude.{List};
 ghost use Rattle.xr_arrays.specs.declared.node.Node.{Node};
 ghost use Rattle.xr_types.specs.Results.{Answers};
 ghost use Rattle.xr_defs.specs.Arguments as calls;
-ghost use Rattle.xr_values.specs.Meaning.{meaning, given};
+ghost use Rattle.xr_defs.specs.Parts as parts;
+ghost use Rattle.xr_values.specs.Meaning.{all_values, given, meaning};
 
-use xr_types::{CallFault, Fault, TextBytes};
+use std::alloc::Global;
+use xr_types::{CallFault, DeepCopy, Fault, Items, TextBytes};
 use xr_values::{Args, Value};
 
 /// The one argument, plain or by this keyword.
@@ -35,6 +37,21 @@ pub fn as_text(value: &Value) -> Result<&TextBytes, CallFault>
         Value::Text(text) => Ok(text),
         _ => Err(CallFault::Refused(Fault::WrongKind)),
     }
+}
+
+/// The texts of a list.
+///
+/// # Errors
+/// `WrongKind` for a value that is none.
+pub fn texts_in(alloc: Global, list: &[Value]) -> Result<Items<TextBytes>, CallFault>
+    ensures { (nodes : List Node) → Answers (λ ts. ts) result (parts.texts_in (all_values nodes list.now)) }
+{
+    let mut out = Items::new(alloc);
+    for value in list {
+        let text = as_text(value)?;
+        out.push(text.deep_copy(alloc)?)?;
+    }
+    Ok(out)
 }
 
 /// Refuses every argument.

@@ -3,8 +3,6 @@
 
 mod arguments;
 mod parameters;
-mod texts;
 
-pub use arguments::{as_text, nothing_given, only};
+pub use arguments::{as_text, nothing_given, only, texts_in};
 pub use parameters::{argument, bound, option, required};
-pub use texts::texts_in;

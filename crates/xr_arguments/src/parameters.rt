@@ -95,10 +95,7 @@ pub fn bound<'a>(
 pub fn argument<'a>(values: &[Option<&'a Value>], place: usize) -> Option<&'a Value>
     ensures { (nodes : List Node) → option_map (λ v. meaning nodes v.now) result ≡ calls.argument (map (option_map (λ v. meaning nodes v.now)) values.now) place }
 {
-    match values.get(place) {
-        Some(value) => *value,
-        None => None,
-    }
+    *values.get(place)?
 }
 
 // `None` is no argument.
@@ -127,8 +124,5 @@ pub fn option<'a>(values: &[Option<&'a Value>], place: usize) -> Option<&'a Valu
 pub fn required(value: Option<&Value>) -> Result<&Value, CallFault>
     ensures { (nodes : List Node) → Answers (λ v. meaning nodes v.now) result (calls.required (option_map (λ v. meaning nodes v.now) value.entry)) }
 {
-    match value {
-        Some(value) => Ok(value),
-        None => Err(CallFault::Refused(Fault::BadArgument)),
-    }
+    value.ok_or(CallFault::Refused(Fault::BadArgument))
 }

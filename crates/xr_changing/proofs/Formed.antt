@@ -1,20 +1,17 @@
 -- What has new labels is as it has to be.
-use Rattle.xr_changing.proofs.Common.{All, AllByRecursion, AreCells, AreIndexed, AreThere, Array, Axis, Bool, Change, ContentFits, Coord, CoordFits, DType, IsCell, IsContent, IsCoordinate, IsDimension, IsRenewed, List, None, Option, StepsFit, TakesFit, [], among, and_parts, ap, are_distinct, are_within, arith, axis_called, axis_names, bytes_eq, bytes_eq_swap, called_here, called_name, called_on, cases_Bool, changed_cells, changed_content, changed_coord, cond, each_map, each_weaker, false, fill_along, front_among, greatest, greatest_both, has_hole, inl, inr, is_none, is_within, leb-true, length, list_all, map, map-map, masked_along, most_cells, most_dimensions, mul-le, named_again, names_of, nat_le, new_axis, or_parts, refl, shape_over, size, sizes_again, sizes_named, span, span_above, steps_along, steps_cells, steps_value, subst, sym, true, ℕ, ℤ, ◌&&◌, ◌*◌, ◌++◌, ◌||◌, ◌∙◌, ◌∷◌, ◌≡◌, ◌≤◌}
-use Rattle.xr_defs.specs.Parts.{axes_called}
+use Rattle.xr_changing.proofs.Common.{All, AllByRecursion, AreCells, AreIndexed, AreThere, Array, Axis, Bool, Change, ContentFits, Coord, CoordFits, IsCell, IsContent, IsCoordinate, IsDimension, IsRenewed, List, None, Option, StepsFit, TakesFit, [], among, and_parts, ap, are_distinct, are_within, arith, axes_called, axis_called, axis_names, bytes_eq, bytes_eq_swap, called_here, called_name, called_on, cases_Bool, change_called, changed_axis, changed_cells, changed_content, changed_coord, cond, each_map, each_weaker, false, fill_along, front_among, greatest, has_hole, inl, inr, is_none, is_within, leb-true, length, length-map, list_all, map, map-map, masked_along, most_cells, most_dimensions, mul-le, named_in, names_of, names_there, nat_le, new_axis, or_parts, refl, shape_over, size, sizes_again, sizes_named, span, span_above, steps_along, steps_cells, steps_value, subst, sym, the_axes, true, ℕ, ℤ, ◌&&◌, ◌*◌, ◌++◌, ◌||◌, ◌∙◌, ◌∷◌, ◌≡◌, ◌≤◌}
 use Rattle.xr_defs.specs.declared.value.Content.{Content}
 use Rattle.xr_defs.specs.declared.value.Content.TheVariants as contents
 use Rattle.xr_parts.specs.Frames.{IsThere}
-use Rattle.xr_parts.proofs.Axes.{names_there, the_axes}
-use Rattle.xr_reducing.proofs.OneVariable.{called_below, named_in}
 use Rattle.xr_changing.proofs.NewAxes.{name_kept, names_kept}
-use Rattle.xr_changing.proofs.Stepping.{all_along, value_along, AreAll, AreLow}
+use Rattle.xr_changing.proofs.Stepping.{all_along, value_along, IsAlong}
 
 -- ---- limits
 
 pub within : (s : List ℕ) → is_within s ≡ true → (length s ≤ most_dimensions) × (list_all (λ n. nat_le n most_cells) s ≡ true) × (size s ≤ most_cells)
 within s e =
-    let parts = and_parts (nat_le (length s) most_dimensions) (list_all (λ n. nat_le n most_cells) s && nat_le (size s) most_cells) e in
-    let rest = and_parts (list_all (λ n. nat_le n most_cells) s) (nat_le (size s) most_cells) parts.1 in
+    let parts = and_parts _ _ e in
+    let rest = and_parts _ _ parts.1 in
     (leb-true (length s) most_dimensions parts.0, rest.0, leb-true (size s) most_cells rest.1)
 
 -- ---- the axis of a name
@@ -45,9 +42,14 @@ coords_renewed cs axes mine news coords others m o n all =
     (each_weaker (IsCoordinate axes) (IsRenewed cs (map (new_axis cs) axes)) coords
     (λ c is. each_weaker (IsThere axes) (λ (x : Axis). axis_called (map (new_axis cs) axes) x.name ≡ new_axis cs x) c.axes (λ x there. called_new cs axes x.name there.0 ∙ ap (new_axis cs) there.1) is.over) all)
 
-pub axes_renewed : (cs : List Change) (news xs : List Axis) → AllByRecursion (λ (x : Axis). axis_called news x.name ≡ new_axis cs x) xs → map (λ (x : Axis). axis_called news x.name) xs ≡ map (new_axis cs) xs
+pub axes_renewed : (cs : List Change) (news xs : List Axis) → AllByRecursion (λ (x : Axis). axis_called news x.name ≡ new_axis cs x) xs → axes_called news (axis_names xs) ≡ map (new_axis cs) xs
 axes_renewed cs news [] all = refl
-axes_renewed cs news (x ∷ xs) all = ap (λ y. y ∷ map (λ (x : Axis). axis_called news x.name) xs) all.0 ∙ ap (λ ys. new_axis cs x ∷ ys) (axes_renewed cs news xs all.1)
+axes_renewed cs news (x ∷ xs) all = λ i. all.0 i ∷ axes_renewed cs news xs all.1 i
+
+-- the new sizes of axes, by their names
+pub sizes_new : (cs : List Change) (axes : List Axis) (dims : List (List ℕ)) → AreThere (axis_names axes) dims → shape_over (map (new_axis cs) (axes_called axes dims)) ≡ sizes_named (map (new_axis cs) axes) dims
+sizes_new cs axes [] there = refl
+sizes_new cs axes (d ∷ dims) there = sym (λ i. (called_new cs axes d there.0 i).size ∷ sym (sizes_new cs axes dims there.1) i)
 
 over_new : (cs : List Change) (axes xs : List Axis) → AllByRecursion (IsThere axes) xs → AllByRecursion (IsThere (map (new_axis cs) axes)) (map (new_axis cs) xs)
 over_new cs axes xs all =
@@ -59,74 +61,59 @@ over_new cs axes xs all =
 
 -- ---- cells along new axes
 
--- no size on the way is greater than that of an old or of a new axis
-low : (cs : List Change) (axes xs : List Axis) → AllByRecursion (IsThere axes) xs → AreLow cs (greatest (axes ++ map (new_axis cs) axes)) xs
-low cs axes xs all =
-    let news = map (new_axis cs) axes in
-    each_weaker (IsThere axes) (λ (x : Axis). (x.size ≤ greatest (axes ++ news) x.name) × ((new_axis cs x).size ≤ greatest (axes ++ news) x.name)) xs
-    (λ x there.
-    let both = greatest_both axes news x.name in
-    let old = called_below axes x.name in
-    let own = ap (λ (y : Axis). y.size) there.1 in
-    let new = called_below news x.name in
-    let same = ap (λ (y : Axis). y.size) (called_new cs axes x.name there.0 ∙ ap (new_axis cs) there.1) in
-    (omega arith, omega arith)) all
-
 filled : (h : Bool) (fill : Option ℤ) → (h && is_none fill) ≡ false → (h && is_none (cond h fill None)) ≡ false
 filled true fill e = e
 filled false fill e = refl
 
 -- the cells that steps make along dimensions of some of these axes, of new sizes
-pub record IsChangedTo (cs : List Change) (fill : Option ℤ) (axes : List Axis) (dims : List (List ℕ)) (ms : List ℕ) (masked : Bool) (kind : DType) (a : Array) : Type 0 where
+pub record IsChangedTo (cs : List Change) (fill : Option ℤ) (axes : List Axis) (dims : List (List ℕ)) (ms : List ℕ) (masked : Bool) (a : Array) : Type 0 where
   pub value : steps_value (steps_along cs fill dims) a ≡ changed_cells cs dims fill a
   pub shape : (changed_cells cs dims fill a).shape ≡ ms
-  pub kind_is : (changed_cells cs dims fill a).kind ≡ kind
-  pub cells : is_within ms ≡ true → AreCells ms kind (masked_along cs dims fill masked) (changed_cells cs dims fill a).cells
+  pub kind : (changed_cells cs dims fill a).kind ≡ a.kind
+  pub cells : is_within ms ≡ true → AreCells ms a.kind (masked_along cs dims fill masked) (changed_cells cs dims fill a).cells
   pub fits : StepsFit (steps_along cs fill dims) a
   pub few : steps_cells (steps_along cs fill dims) a ≤ 16 * span (axes ++ map (new_axis cs) axes)
 
-pub changed_over : (cs : List Change) (fill : Option ℤ) (axes xs : List Axis) (masked : Bool) (kind : DType) (a : Array) → AllByRecursion (IsThere axes) xs → are_distinct (axis_names xs) ≡ true → a.kind ≡ kind → a.shape ≡ shape_over xs → AreCells (shape_over xs) kind masked a.cells
-    → TakesFit (steps_along cs fill (axis_names xs)) (shape_over xs) kind → IsChangedTo cs fill axes (axis_names xs) (shape_over (map (new_axis cs) xs)) masked kind a
-changed_over cs fill axes xs masked kind a there distinct kinds shape is fit =
-    let dims = axis_names xs in
-    let ms = shape_over (map (new_axis cs) xs) in
-    let g = axes ++ map (new_axis cs) axes in
+new_size : (cs : List Change) (axes : List Axis) (d : List ℕ) → among (axis_names axes) d ≡ true → (axis_called (map (new_axis cs) axes) d).size ≡ (changed_axis (axis_called axes d) (change_called cs d)).size
+new_size cs axes d has = ap (λ (x : Axis). x.size) (called_new cs axes d has) ∙ (λ i. (changed_axis (axis_called axes d) (change_called cs (called_name axes d has i))).size)
+
+pub changed_named : (cs : List Change) (fill : Option ℤ) (axes : List Axis) (dims : List (List ℕ)) (masked : Bool) (a : Array) → AreThere (axis_names axes) dims → are_distinct dims ≡ true → a.shape ≡ sizes_named axes dims → AreCells a.shape a.kind masked a.cells → TakesFit (steps_along cs fill dims) a.shape a.kind
+    → IsChangedTo cs fill axes dims (sizes_named (map (new_axis cs) axes) dims) masked a
+changed_named cs fill axes dims masked a there distinct shape is fit =
+    let news = map (new_axis cs) axes in
+    let most = span (axes ++ news) in
     let hides = masked_along cs dims fill masked in
-    let ss = steps_along cs fill dims in
     let plain = λ (e : hides ≡ false). or_parts masked (has_hole cs dims && is_none fill) e in
-    let rank = ap length shape in
-    let most = is.low_rank in
-    let r = all_along cs (fill_along cs dims fill) hides (greatest g) xs (λ e. filled (has_hole cs dims) fill (plain e).1) (low cs axes xs there) [] 0 a refl shape (omega arith)
-    (subst (TakesFit ss a.shape) (sym kinds) (subst (λ s. TakesFit ss s kind) (sym shape) fit))
-    (record { whole = is.whole ∙ ap size (sym shape); range = subst (λ t. All (IsCell t) a.cells) (sym kinds) is.range; seen = λ e. is.seen (plain e).0 }) in
-    let value : steps_value ss a ≡ changed_cells cs dims fill a = value_along cs (fill_along cs dims fill) 0 dims a in
-    let to : (changed_cells cs dims fill a).shape ≡ ms = ap (λ (b : Array). b.shape) (sym value) ∙ r.shape in
-    let same : (changed_cells cs dims fill a).kind ≡ kind = ap (λ (b : Array). b.kind) (sym value) ∙ r.kind ∙ kinds in
-    let all = subst (AreAll hides) value r.all in
+    let within_span = span_above (greatest (axes ++ news)) dims (axes ++ news) distinct (λ n e. front_among axes news n (named_in axes dims n there e)) (λ n. omega arith) in
+    let sizes = each_weaker (λ d. among (axis_names axes) d ≡ true) (λ d. (axis_called news d).size ≡ (changed_axis (axis_called axes d) (change_called cs d)).size) dims (new_size cs axes) there in
+    let r = all_along cs (fill_along cs dims fill) hides axes most dims sizes (λ e. filled (has_hole cs dims) fill (plain e).1) [] 0 a refl shape is.low_rank within_span fit (record { whole = is.whole; range = is.range; seen = λ e. is.seen (plain e).0 }) in
+    let value : steps_value (steps_along cs fill dims) a ≡ changed_cells cs dims fill a = value_along cs (fill_along cs dims fill) 0 dims a in
+    let to = subst (λ b. IsAlong hides (steps_along cs fill dims) a b (sizes_named news dims) (length dims * most)) value r in
     record {
       value = value;
-      shape = to;
-      kind_is = same;
-      cells = λ e. let limits = within ms e in record { whole = all.whole ∙ ap size to; range = subst (λ t. All (IsCell t) (changed_cells cs dims fill a).cells) same all.range; seen = all.seen; low_rank = limits.0; few = limits.2 };
-      fits = r.fits;
+      shape = to.shape;
+      kind = to.kind;
+      cells = λ e. let limits = within (sizes_named news dims) e in record { whole = to.all.whole ∙ ap size to.shape; range = subst (λ t. All (IsCell t) (changed_cells cs dims fill a).cells) to.kind to.all.range; seen = to.all.seen; low_rank = limits.0; few = limits.2 };
+      fits = to.fits;
       few =
-          let all = span_above (greatest g) dims g distinct (λ n e. front_among axes (map (new_axis cs) axes) n (named_in axes dims n (names_there axes xs there) e)) (λ n. omega arith) in
-          let few = r.few in
-          let up = mul-le (length (shape_over xs)) (1 * size (map (greatest g) dims)) 16 (span g) most (omega (arith, all)) in
-          omega (arith, few, up);
+          let rank = ap length shape ∙ length-map dims (λ d. (axis_called axes d).size) in
+          let low = is.low_rank in
+          let up = mul-le (length dims) most 16 most (omega arith) (omega arith) in
+          let few = to.few in
+          omega (arith, up, few);
     }
 
--- along dimensions of a variable
-pub changed_named : (cs : List Change) (fill : Option ℤ) (axes : List Axis) (dims : List (List ℕ)) (masked : Bool) (kind : DType) (a : Array) → AreThere (axis_names axes) dims → are_distinct dims ≡ true → a.kind ≡ kind → a.shape ≡ sizes_named axes dims
-    → AreCells (sizes_named axes dims) kind masked a.cells → TakesFit (steps_along cs fill dims) (sizes_named axes dims) kind → IsChangedTo cs fill axes dims (sizes_named (map (new_axis cs) axes) dims) masked kind a
-changed_named cs fill axes dims masked kind a among_axes =
+-- of axes that are there
+sizes_there : (axes xs : List Axis) → AllByRecursion (IsThere axes) xs → sizes_named axes (axis_names xs) ≡ shape_over xs
+sizes_there axes xs there = sym (sizes_again axes (axis_names xs)) ∙ ap shape_over (the_axes axes xs there)
+
+pub changed_over : (cs : List Change) (fill : Option ℤ) (axes xs : List Axis) (masked : Bool) (a : Array) → AllByRecursion (IsThere axes) xs → are_distinct (axis_names xs) ≡ true → a.shape ≡ shape_over xs → AreCells a.shape a.kind masked a.cells → TakesFit (steps_along cs fill (axis_names xs)) a.shape a.kind
+    → IsChangedTo cs fill axes (axis_names xs) (shape_over (map (new_axis cs) xs)) masked a
+changed_over cs fill axes xs masked a there distinct shape is fit =
     let news = map (new_axis cs) axes in
-    let xs = axes_called axes dims in
-    let there = each_map (λ d. among (axis_names axes) d ≡ true) (IsThere axes) (axis_called axes) dims (λ d has. let e = called_name axes d has in (ap (among (axis_names axes)) e ∙ has, ap (axis_called axes) e)) among_axes in
-    let named = named_again axes dims among_axes in
-    let sizes : shape_over (map (new_axis cs) xs) ≡ sizes_named news dims =
-    ap shape_over (sym (the_axes news (map (new_axis cs) xs) (over_new cs axes xs there))) ∙ ap (λ ns. shape_over (axes_called news ns)) (names_kept cs xs ∙ named) ∙ sizes_again news dims in
-    rw (named, sizes_again axes dims, sizes) at (changed_over cs fill axes xs masked kind a there)
+    let to = map (new_axis cs) xs in
+    subst (λ ms. IsChangedTo cs fill axes (axis_names xs) ms masked a) (ap (sizes_named news) (sym (names_kept cs xs)) ∙ sizes_there news to (over_new cs axes xs there))
+    (changed_named cs fill axes (axis_names xs) masked a (names_there axes xs there) distinct (shape ∙ sym (sizes_there axes xs there)) is fit)
 
 -- ---- coordinates
 
@@ -137,8 +124,8 @@ no_axes cs (x ∷ xs) e = absurd cc
 content_formed : (cs : List Change) (fill : Option ℤ) (axes xs : List Axis) (c : Content) → AllByRecursion (IsThere axes) xs → are_distinct (axis_names xs) ≡ true → ContentFits cs fill (axis_names xs) c → IsContent (shape_over xs) c → is_within (shape_over (map (new_axis cs) xs)) ≡ true
     → IsContent (shape_over (map (new_axis cs) xs)) (changed_content cs (axis_names xs) fill c)
 content_formed cs fill axes xs (contents.Cells a masked) there distinct fit is e =
-    let to = changed_over cs fill axes xs masked a.kind a there distinct refl is.0 is.1 (subst (λ s. TakesFit (steps_along cs fill (axis_names xs)) s a.kind) is.0 fit) in
-    (to.shape, subst (λ t. AreCells (shape_over (map (new_axis cs) xs)) t (masked_along cs (axis_names xs) fill masked) (changed_cells cs (axis_names xs) fill a).cells) (sym to.kind_is) (to.cells e))
+    let to = changed_over cs fill axes xs masked a there distinct is.0 (subst (λ s. AreCells s a.kind masked a.cells) (sym is.0) is.1) fit in
+    (to.shape, subst (λ t. AreCells (shape_over (map (new_axis cs) xs)) t (masked_along cs (axis_names xs) fill masked) (changed_cells cs (axis_names xs) fill a).cells) (sym to.kind) (to.cells e))
 content_formed cs fill axes xs (contents.Text t) there distinct fit is e = no_axes cs xs is
 content_formed cs fill axes xs (contents.Time coding t) there distinct fit is e = (no_axes cs xs is.0, is.1)
 

@@ -1,5 +1,4 @@
 pub mod Common
-pub mod ChosenLabels
 pub mod NewAxes
 pub mod Stepping
 pub mod Formed

@@ -1,12 +1,10 @@
 -- Datasets of a plan at new labels.
-use Rattle.xr_changing.proofs.Common.{AddsAtMost, AllByRecursion, AreCells, Array, Axis, Bool, Change, Coord, Dataset, IsDataset, IsDatasetIn, IsNodeOf, IsSetChanged, IsVariable, List, Node, Ok, Option, TooLarge, VarFits, Variable, [], adds_up, among, and_parts, any_mapped, ap, are_distinct, are_few, are_vars_within, are_within, arith, axis_names, changed_cells, changed_coord, changed_set, changed_variable, check_set, cond, dataset_in, false, is_some, is_within, labelled, leb-true, length, length-map, list_all, list_all-map, list_any, map, map-map, masked_along, most_cells, most_variables, names_of, nat_le, new_axis, passed, refl, sizes_named, span, subst, sym, true, value, var_made, variable_array, variable_in, variable_names, ℕ, ℤ, ◌*◌, ◌++◌, ◌+◌, ◌||◌, ◌∙◌, ◌∷◌, ◌≡◌, ◌≤◌}
-use Rattle.std.proofs.lemmas.List.Elements.{recursion_from_All}
+use Rattle.xr_changing.proofs.Common.{AddsAtMost, AllByRecursion, AreIndexed, AreThere, Array, Axis, Bool, Change, Coord, CoordFits, Dataset, IsDataset, IsDatasetIn, IsNodeOf, IsSetChanged, IsVariable, List, Node, Ok, Option, StepsFit, TooLarge, VarFits, Variable, [], adds_up, among, and_parts, any_mapped, ap, are_distinct, are_few, are_vars_within, are_within, arith, axis_names, changed_coord, changed_set, changed_variable, check_set, cond, dataset_in, false, is_some, is_within, labelled, leb-true, length, length-map, list_all, list_all-map, list_any, map, map-map, masked_along, most_cells, most_variables, names_of, nat_le, new_axis, passed, recursion_from_All, refl, sizes_named, span, steps_along, steps_cells, steps_value, subst, sym, true, value, var_made, variable_array, variable_in, variable_names, ℕ, ℤ, ◌*◌, ◌++◌, ◌+◌, ◌||◌, ◌∙◌, ◌∷◌, ◌≡◌, ◌≤◌}
 use Rattle.xr_defs.specs.Decoding.{is_kept}
 use Rattle.xr_defs.specs.Values as of
 use Rattle.xr_reducing.specs.declared.realized.SetMade.{SetMade}
 use Rattle.xr_reducing.specs.Sets.{set_made_in, var_made_in, vars_cells, IsFitWithin, IsSetMade, IsSetOf, IsVarFit}
 use Rattle.xr_reducing.proofs.Placing.{fits_within}
-use Rattle.xr_changing.specs.Made.{set_made, SetFits}
 use Rattle.xr_changing.proofs.Formed.{changed_named, coord_names, coords_formed, new_dims}
 use Rattle.xr_changing.proofs.NewAxes.{index_kept, name_kept, names_kept}
 
@@ -24,47 +22,34 @@ module _ (nodes : List Node) (cs : List Change) (fill : Option ℤ) (axes : List
     fit : AllByRecursion (IsFitWithin nodes news (16 * span (axes ++ news))) (map (var_made cs fill) vs)
     formed : AllByRecursion (IsVariable news) (map changed (map (variable_in nodes) vs))
 
-  one_done : (v : Variable) (vs : List Variable) → IsNodeOf nodes v.node (sizes_named axes v.dims) v.kind → IsVariable axes (variable_in nodes v) → VarFits cs fill axes v → is_within (sizes_named news v.dims) ≡ true → AreDone vs → AreDone (v ∷ vs)
-  one_done v vs node var fits inside rest =
-      let to = changed_named cs fill axes v.dims v.masked v.kind (value nodes v.node) var.over var.distinct node.has_kind node.has_shape var.cells fits in
-      let own : value nodes v.node ≡ variable_array axes (variable_in nodes v) = λ i. record { kind = node.has_kind i; shape = node.has_shape i; cells = (value nodes v.node).cells } in
-      let after = ap (changed_cells cs v.dims fill) own in
-      let all = to.value ∙ after in
-      let few = to.few in
-      record {
-        is = λ i. with_these (all i).cells ∷ rest.is i;
-        fit = ((record { fits = record { start = node.placed; steps = to.fits }; shape = ap (λ (w : Array). w.shape) to.value ∙ to.shape; kind = ap (λ (w : Array). w.kind) to.value ∙ to.kind_is }, omega (arith, few)), rest.fit);
-        formed = (
-          record {
-            name = var.name;
-            over = subst (λ ns. AllByRecursion (λ d. among ns d ≡ true) v.dims) (sym (names_kept cs axes)) var.over;
-            distinct = var.distinct;
-            attrs = var.attrs;
-            cells = subst (λ (w : Array). AreCells (sizes_named news v.dims) v.kind (masked_along cs v.dims fill v.masked) w.cells) after (to.cells inside);
-          },
-          rest.formed,
-        );
-      }
-    where
-      with_these : List (Option ℤ) → of.Variable
-      with_these cells = record { name = v.name; dims = v.dims; kind = v.kind; masked = masked_along cs v.dims fill v.masked; attrs = v.attrs; cells = cells }
-
   all_done : (vs : List Variable) → AllByRecursion (λ (v : Variable). IsNodeOf nodes v.node (sizes_named axes v.dims) v.kind) vs → AllByRecursion (IsVariable axes) (map (variable_in nodes) vs) → AllByRecursion (VarFits cs fill axes) vs
       → are_vars_within news (map changed (map (variable_in nodes) vs)) ≡ true → AreDone vs
   all_done [] ns fs ts inside = record { is = refl; fit = tt; formed = tt }
   all_done (v ∷ vs) ns fs ts inside =
       let parts = and_parts (is_within (sizes_named news v.dims)) (are_vars_within news (map changed (map (variable_in nodes) vs))) inside in
-      one_done v vs ns.0 fs.0 ts.0 parts.0 (all_done vs ns.1 fs.1 ts.1 parts.1)
+      let rest = all_done vs ns.1 fs.1 ts.1 parts.1 in
+      let node = ns.0 in
+      let var = fs.0 in
+      let w = variable_in nodes v in
+      let ss = steps_along cs fill v.dims in
+      let most = 16 * span (axes ++ news) in
+      let own : value nodes v.node ≡ variable_array axes w = λ i. record { kind = node.has_kind i; shape = node.has_shape i; cells = w.cells } in
+      let to = changed_named cs fill axes v.dims v.masked (variable_array axes w) var.over var.distinct refl var.cells ts.0 in
+      let all = ap (steps_value ss) own ∙ to.value in
+      let fit = subst (λ a. StepsFit ss a × (steps_cells ss a ≤ most)) (sym own) (to.fits, to.few) in
+      let few = fit.1 in
+      record {
+        is = λ i. record w { masked = masked_along cs v.dims fill v.masked; cells = (all i).cells } ∷ rest.is i;
+        fit = ((record { fits = record { start = node.placed; steps = fit.0 }; shape = ap (λ (w : Array). w.shape) all ∙ to.shape; kind = ap (λ (w : Array). w.kind) all ∙ to.kind }, omega (arith, few)), rest.fit);
+        formed = (record { name = var.name; over = subst (λ ns. AreThere ns v.dims) (sym (names_kept cs axes)) var.over; distinct = var.distinct; attrs = var.attrs; cells = to.cells parts.0 }, rest.formed);
+      }
 
   -- ---- an axis is kept where it was
 
-  same_coords : (coords : List Coord) (n : List ℕ) → list_any (λ (c : Coord). among (axis_names c.axes) n) (map (changed_coord cs fill) coords) ≡ list_any (λ (c : Coord). among (axis_names c.axes) n) coords
-  same_coords coords n = any_mapped (λ (c : Coord). among (axis_names c.axes) n) (changed_coord cs fill) coords ∙ (λ i. list_any (λ (c : Coord). among (names_kept cs c.axes i) n) coords)
-
   kept_same : (coords : List Coord) (vs : List of.Variable) (x : Axis) → is_kept (map (changed_coord cs fill) coords) (map changed vs) (new_axis cs x) ≡ is_kept coords vs x
   kept_same coords vs x =
-      (λ i. index_kept cs x i || list_any (λ (c : Coord). among (axis_names c.axes) (name_kept cs x i)) (map (changed_coord cs fill) coords) || list_any (λ (v : of.Variable). among v.dims (name_kept cs x i)) (map changed vs))
-      ∙ (λ i. is_some x.labels || same_coords coords x.name i || any_mapped (λ (v : of.Variable). among v.dims x.name) changed vs i)
+      (λ i. index_kept cs x i || any_mapped (λ (c : Coord). among (axis_names c.axes) (name_kept cs x i)) (changed_coord cs fill) coords i || any_mapped (λ (v : of.Variable). among v.dims (name_kept cs x i)) changed vs i)
+      ∙ (λ i. is_some x.labels || list_any (λ (c : Coord). among (names_kept cs c.axes i) x.name) coords || list_any (λ (v : of.Variable). among v.dims x.name) vs)
 
   all_kept : (coords : List Coord) (vs : List of.Variable) (xs : List Axis) → list_all (is_kept (map (changed_coord cs fill) coords) (map changed vs)) (map (new_axis cs) xs) ≡ list_all (is_kept coords vs) xs
   all_kept coords vs xs = list_all-map (is_kept (map (changed_coord cs fill) coords) (map changed vs)) (new_axis cs) xs ∙ (λ i. list_all (λ x. kept_same coords vs x i) xs)
@@ -75,10 +60,15 @@ labelled_same cs (x ∷ xs) =
     ap (λ b. axis_names (cond b (new_axis cs x ∷ labelled (map (new_axis cs) xs)) (labelled (map (new_axis cs) xs)))) (index_kept cs x) ∙ by (is_some x.labels) (labelled_same cs xs)
   where
     by : (b : Bool) → axis_names (labelled (map (new_axis cs) xs)) ≡ axis_names (labelled xs) → axis_names (cond b (new_axis cs x ∷ labelled (map (new_axis cs) xs)) (labelled (map (new_axis cs) xs))) ≡ axis_names (cond b (x ∷ labelled xs) (labelled xs))
-    by true rest = ap (λ n. n ∷ axis_names (labelled (map (new_axis cs) xs))) (name_kept cs x) ∙ ap (λ ns. x.name ∷ ns) rest
+    by true rest = λ i. name_kept cs x i ∷ rest i
     by false rest = rest
 
 -- ---- a dataset
+
+pub record SetFits (cs : List Change) (fill : Option ℤ) (s : Dataset) : Type 0 where
+  pub indexed : AreIndexed cs s.axes
+  pub coords : AllByRecursion (CoordFits cs fill) s.coords
+  pub vars : AllByRecursion (VarFits cs fill s.axes) s.vars
 
 module _ (old : List Node) (cs : List Change) (fill : Option ℤ) (s : Dataset) (is : IsDatasetIn old s) (fits : SetFits cs fill s) (check : check_set (changed_set cs fill (dataset_in old s)) ≡ Ok tt) where
   abbrev whole : of.Dataset
@@ -119,21 +109,20 @@ module _ (old : List Node) (cs : List Change) (fill : Option ℤ) (s : Dataset) 
   fit : AllByRecursion (IsVarFit old means.axes) (map (var_made cs fill) s.vars) × (vars_cells old (map (var_made cs fill) s.vars) ≤ length (map (var_made cs fill) s.vars) * most)
   fit = fits_within old means.axes most (map (var_made cs fill) s.vars) done.fit
 
-  set_is : set_made_in old (set_made cs fill s) ≡ means
+  abbrev pub made : SetMade
+  made = record { axes = map (new_axis cs) s.axes; coords = map (changed_coord cs fill) s.coords; vars = map (var_made cs fill) s.vars; attrs = s.attrs; skipped = s.skipped }
+
+  set_is : set_made_in old made ≡ means
   set_is = λ i. record { axes = means.axes; coords = means.coords; vars = done.is i; attrs = s.attrs; skipped = s.skipped }
 
-  pub set_fits : (m : SetMade) → m ≡ set_made cs fill s → IsSetMade old m
+  pub set_fits : (m : SetMade) → m ≡ made → IsSetMade old m
   set_fits m e = rw e (record { vars = fit.0; formed = subst IsDataset (sym set_is) formed })
 
-  pub set_placed : (m : SetMade) → m ≡ set_made cs fill s → (new : List Node) (t : Dataset) → IsSetOf new (set_made_in old m) t → AddsAtMost old new (vars_cells old m.vars) → IsSetChanged old new means whole t
+  pub set_placed : (m : SetMade) → m ≡ made → (new : List Node) (t : Dataset) → IsSetOf new (set_made_in old m) t → AddsAtMost old new (vars_cells old m.vars) → IsSetChanged old new means whole t
   set_placed m e new t told adds =
       let same : dataset_in new t ≡ means = told.is ∙ ap (set_made_in old) e ∙ set_is in
-      let n = length s.vars in
-      let count : length whole.vars ≡ n = length-map s.vars (variable_in old) in
-      let made : length (map (var_made cs fill) s.vars) ≡ n = length-map s.vars (var_made cs fill) in
+      let count : length made.vars ≡ length whole.vars = length-map s.vars (var_made cs fill) ∙ sym (length-map s.vars (variable_in old)) in
+      let room : length made.vars * most ≡ 16 * length whole.vars * span (s.axes ++ t.axes) = ap (λ n. n * most) count ∙ (grind arith) ∙ ap (λ (d : of.Dataset). 16 * length whole.vars * span (s.axes ++ d.axes)) (sym same) in
       let few = fit.1 in
       let cells = ap (λ (m : SetMade). vars_cells old m.vars) e in
-      let wide = span (s.axes ++ means.axes) in
-      let here : length (map (var_made cs fill) s.vars) * most ≡ 16 * n * wide = ap (λ k. k * most) made ∙ grind arith in
-      let there : 16 * length whole.vars * span (s.axes ++ t.axes) ≡ 16 * n * wide = λ i. 16 * count i * span (s.axes ++ (same i).axes) in
-      record { is = same; inside = told.inside; space = adds_up old new (vars_cells old m.vars) (16 * length whole.vars * span (s.axes ++ t.axes)) (omega (arith, few, cells, here, there)) adds }
+      record { is = same; inside = told.inside; space = adds_up old new (vars_cells old m.vars) (16 * length whole.vars * span (s.axes ++ t.axes)) (omega (arith, few, cells, room)) adds }

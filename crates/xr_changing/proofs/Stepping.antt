@@ -1,9 +1,8 @@
 -- What the steps to new labels make of cells.
-use Rattle.xr_changing.proofs.Common.{All, AllByRecursion, Array, Axis, Bool, Change, IsBelow, IsCell, IsPoint, List, None, Option, Some, Step, StepsFit, TakesFit, [], along, ap, append_assoc, arith, axis_names, cells_along, cells_by, change_called, changed_axis, false, from_source, get_or, has_hole, is_none, is_open, is_some, length, length-append, length-set, list_any, lit<, map, mul-le, new_axis, or_right, place, refl, set, shape_over, size, step_by, steps_cells, steps_from, steps_value, subst, suc, sym, taken_from, true, zero, ℕ, ℤ, ◌&&◌, ◌*◌, ◌++◌, ◌+◌, ◌<◌, ◌||◌, ◌∙◌, ◌∷◌, ◌≡◌, ◌≤◌}
+use Rattle.xr_changing.proofs.Common.{All, AllByRecursion, Array, Axis, Bool, Change, IsBelow, IsCell, IsPoint, List, None, Option, Some, Step, StepsFit, TakesFit, [], along, ap, append_assoc, arith, axis_called, called_below, cells_along, cells_by, change_called, changed_axis, false, from_source, get_or, greatest, greatest_both, has_hole, is_none, is_open, is_some, length, length-append, length-set, list_any, lit<, map, mul-le, new_axis, or_right, place, refl, set, size, size_up, step_by, steps_cells, steps_from, steps_value, suc, sym, taken_from, true, zero, ℕ, ℤ, ◌&&◌, ◌*◌, ◌++◌, ◌<◌, ◌||◌, ◌∙◌, ◌∷◌, ◌≡◌, ◌≤◌}
 use Rattle.std.proofs.Math.Seq.{set-append_seam}
-use Rattle.plan_core.proofs.Tabs.{All-tab, place_below}
+use Rattle.plan_core.proofs.Tabs.{All-tab, place_below, suc_times}
 use Rattle.plan_core.proofs.Valued.{taken_is}
-use Rattle.std.proofs.Math.Nat.{mul_assoc}
 
 -- ---- the steps make the cells along the new axes
 
@@ -52,45 +51,6 @@ module _ (a : Array) (masked : Bool) (is : AreAll masked a) (k : ℕ) (from : Li
             seen plain p here (get_or from (get_or p k 0) None) (below (get_or p k 0) None lt) (covers plain (get_or p k 0) lt));
       }
 
--- ---- sizes
-
-size_both : (s t : List ℕ) → size (s ++ t) ≡ size s * size t
-size_both [] t = omega arith
-size_both (n ∷ s) t = ap (λ m. n * m) (size_both s t) ∙ sym (mul_assoc n (size s) (size t))
-
--- no axis, old or new, is longer than the bound of its name
-abbrev pub AreLow : List Change → (List ℕ → ℕ) → List Axis → Type 0
-AreLow cs g xs = AllByRecursion (λ (x : Axis). (x.size ≤ g x.name) × ((new_axis cs x).size ≤ g x.name)) xs
-
-size_low : (cs : List Change) (g : List ℕ → ℕ) (xs : List Axis) → AreLow cs g xs → size (shape_over xs) ≤ size (map g (axis_names xs))
-size_low cs g [] low = omega arith
-size_low cs g (x ∷ xs) low = mul-le x.size (size (shape_over xs)) (g x.name) (size (map g (axis_names xs))) low.0.0 (size_low cs g xs low.1)
-
--- ---- what steps make of cells, along dimensions behind others
-
--- of sizes that become others, none of them greater than the one of `ws`
-pub record IsAlong (masked : Bool) (ss : List Step) (a : Array) (front ns ms ws : List ℕ) : Type 0 where
-  pub shape : (steps_value ss a).shape ≡ front ++ ms
-  pub kind : (steps_value ss a).kind ≡ a.kind
-  pub fits : StepsFit ss a
-  pub all : AreAll masked (steps_value ss a)
-  pub few : steps_cells ss a ≤ length ns * (size front * size ws)
-
-abbrev Goes : Bool → (ℕ → List Step) → List ℕ → List ℕ → List ℕ → Type 0
-Goes masked ss ns ms ws = (front : List ℕ) (k : ℕ) (a : Array) → k ≡ length front → a.shape ≡ front ++ ns → length a.shape ≤ 16 → TakesFit (ss k) a.shape a.kind → AreAll masked a → IsAlong masked (ss k) a front ns ms ws
-
-few_more : (front ns : List ℕ) (m w q first rest : ℕ) → m ≤ w → size ns ≤ q → first ≤ size (front ++ m ∷ ns) → rest ≤ length ns * (size (front ++ m ∷ []) * q) → first + rest ≤ suc (length ns) * (size front * (w * q))
-few_more front ns m w q first rest low rests one more =
-    let p = size front in
-    let turned : size (front ++ m ∷ []) * q ≡ p * (m * q) = ap (λ t. t * q) (size_both front (m ∷ [])) ∙ grind arith in
-    let le = subst (λ t. rest ≤ length ns * t) turned more in
-    let wide = mul-le p (m * q) p (w * q) (omega arith) (mul-le m q w q low (omega arith)) in
-    let all = mul-le (length ns) (p * (m * q)) (length ns) (p * (w * q)) (omega arith) wide in
-    let both = size_both front (m ∷ ns) in
-    let here = mul-le p (m * size ns) p (w * q) (omega arith) (mul-le m (size ns) w q low rests) in
-    let next : suc (length ns) * (p * (w * q)) ≡ p * (w * q) + length ns * (p * (w * q)) = grind arith in
-    omega (arith, le, all, both, here, next, one)
-
 -- each position shows an old one, or a number
 covered : (from : List (Option ℕ)) (fill : Option ℤ) → (list_any is_none from && is_none fill) ≡ false → (i : ℕ) → i < length from → (is_some (get_or from i None) || is_some fill) ≡ true
 covered from (Some n) e i lt = or_right (is_some (get_or from i None)) true refl
@@ -99,41 +59,82 @@ covered (None ∷ from) None e i lt = absurd cc
 covered (Some p ∷ from) None e zero lt = refl
 covered (Some p ∷ from) None e (suc i) lt = covered from None e i (omega arith)
 
-next_axis : (front : List ℕ) (n : ℕ) → suc (length front) ≡ length (front ++ n ∷ [])
-next_axis front n = let e = length-append front (n ∷ []) in omega arith
+-- ---- what steps make of cells, along dimensions behind others
 
-one_more : (fill : Option ℤ) (masked : Bool) (ss : ℕ → List Step) (x : Axis) (w : ℕ) (ns ms ws : List ℕ) (o : Option Change) → (masked ≡ false → (is_open o && is_none fill) ≡ false) → (x.size ≤ w) × ((changed_axis x o).size ≤ w) → size ns ≤ size ws → Goes masked ss ns ms ws
-    → Goes masked (λ k. step_by fill k o ++ ss (suc k)) (x.size ∷ ns) ((changed_axis x o).size ∷ ms) (w ∷ ws)
-one_more fill masked ss x w ns ms ws None plain low rests rest front k a e shape rank fit is =
-    let n = x.size in
-    let r = rest (front ++ n ∷ []) (suc k) a (ap suc e ∙ next_axis front n) (shape ∙ sym (append_assoc front (n ∷ []) ns)) rank fit is in
-    let few = few_more front ns n w (size ws) 0 (steps_cells (ss (suc k)) a) low.0 rests (omega arith) r.few in
-    record { shape = r.shape ∙ append_assoc front (n ∷ []) ms; kind = r.kind; fits = r.fits; all = r.all; few = omega (arith, few) }
-one_more fill masked ss x w ns ms ws (Some c) plain low rests rest front k a e shape rank fit is =
-    let m = length c.from in
-    let b = taken_from a k c.from fill in
-    let now : set a.shape k m ≡ front ++ m ∷ ns = ap (λ t. set t k m) shape ∙ ap (λ j. set (front ++ x.size ∷ ns) j m) e ∙ set-append_seam front x.size ns m in
-    let same : length (set a.shape k m) ≡ length a.shape = length-set a.shape k m in
-    let all = taken_all a masked is k c.from fill fit.0.axis fit.0.below fit.0.cell (λ f. covered c.from fill (plain f)) in
-    let r = rest (front ++ m ∷ []) (suc k) b (ap suc e ∙ next_axis front m) (now ∙ sym (append_assoc front (m ∷ []) ns)) (omega arith) fit.1 all in
-    let size_now = ap size now in
-    record {
-      shape = r.shape ∙ append_assoc front (m ∷ []) ms;
-      kind = r.kind;
-      fits = (record { fits = (lit< tt, fit.0.axis, fit.0.below, fit.0.cell, λ e. absurd cc); small = fit.0.small; low_rank = omega arith }, r.fits);
-      all = r.all;
-      few = few_more front ns m w (size ws) (size (set a.shape k m)) (steps_cells (ss (suc k)) b) low.1 rests (omega (arith, size_now)) r.few;
-    }
+grown : (front s t : List ℕ) → size s ≤ size t → size (front ++ s) ≤ size (front ++ t)
+grown [] s t le = le
+grown (n ∷ front) s t le = mul-le n (size (front ++ s)) n (size (front ++ t)) (omega arith) (grown front s t le)
 
 none_open : (a b c : Bool) → ((a || b) && c) ≡ false → ((a && c) ≡ false) × ((b && c) ≡ false)
 none_open true true c e = (e, e)
 none_open true false c e = (e, refl)
 none_open false b c e = (refl, e)
 
-pub all_along : (cs : List Change) (fill : Option ℤ) (masked : Bool) (g : List ℕ → ℕ) (xs : List Axis) → (masked ≡ false → (has_hole cs (axis_names xs) && is_none fill) ≡ false) → AreLow cs g xs
-    → Goes masked (λ k. steps_from cs fill k (axis_names xs)) (shape_over xs) (shape_over (map (new_axis cs) xs)) (map g (axis_names xs))
-all_along cs fill masked g [] plain low = λ front k a e shape rank fit is. record { shape = shape; kind = refl; fits = tt; all = is; few = omega arith }
-all_along cs fill masked g (x ∷ xs) plain low =
-    let parts = λ (f : masked ≡ false). none_open (is_open (change_called cs x.name)) (has_hole cs (axis_names xs)) (is_none fill) (plain f) in
-    one_more fill masked (λ k. steps_from cs fill k (axis_names xs)) x (g x.name) (shape_over xs) (shape_over (map (new_axis cs) xs)) (map g (axis_names xs)) (change_called cs x.name) (λ f. (parts f).0) low.0 (size_low cs g xs low.1)
-    (all_along cs fill masked g xs (λ f. (parts f).1) low.1)
+-- cells of these sizes, and how many are added on the way
+pub record IsAlong (masked : Bool) (ss : List Step) (a b : Array) (sizes : List ℕ) (most : ℕ) : Type 0 where
+  pub shape : b.shape ≡ sizes
+  pub kind : b.kind ≡ a.kind
+  pub fits : StepsFit ss a
+  pub all : AreAll masked b
+  pub few : steps_cells ss a ≤ most
+
+module _ (cs : List Change) (fill : Option ℤ) (masked : Bool) (axes : List Axis) (most : ℕ) where
+  abbrev pub old : List ℕ → ℕ
+  old d = (axis_called axes d).size
+
+  abbrev pub new : List ℕ → ℕ
+  new d = (axis_called (map (new_axis cs) axes) d).size
+
+  -- the greatest of both
+  abbrev pub wide : List ℕ → ℕ
+  wide d = greatest (axes ++ map (new_axis cs) axes) d
+
+  old_low : (d : List ℕ) → old d ≤ wide d
+  old_low d = let both = greatest_both axes (map (new_axis cs) axes) d in let low = called_below axes d in omega arith
+
+  new_low : (d : List ℕ) → new d ≤ wide d
+  new_low d = let both = greatest_both axes (map (new_axis cs) axes) d in let low = called_below (map (new_axis cs) axes) d in omega arith
+
+  -- the old sizes of these dimensions become the new ones, and no array on the way has more cells than so many
+  abbrev pub Goes : (ℕ → List Step) → List (List ℕ) → Type 0
+  Goes ss dims = (front : List ℕ) (k : ℕ) (a : Array) → k ≡ length front → a.shape ≡ front ++ map old dims → length a.shape ≤ 16 → size (front ++ map wide dims) ≤ most → TakesFit (ss k) a.shape a.kind → AreAll masked a → IsAlong masked (ss k) a (steps_value (ss k) a) (front ++ map new dims) (length dims * most)
+
+  -- behind one that has its new size
+  behind : (d : List ℕ) (dims : List (List ℕ)) → Goes (λ k. steps_from cs fill k dims) dims → (front : List ℕ) (k : ℕ) (a : Array) → k ≡ length front → a.shape ≡ front ++ new d ∷ map old dims → length a.shape ≤ 16 → size (front ++ wide d ∷ map wide dims) ≤ most → TakesFit (steps_from cs fill (suc k) dims) a.shape a.kind → AreAll masked a
+      → IsAlong masked (steps_from cs fill (suc k) dims) a (steps_value (steps_from cs fill (suc k) dims) a) (front ++ new d ∷ map new dims) (length dims * most)
+  behind d dims rest front k a e shape rank few fit is =
+      let long = length-append front (new d ∷ []) in
+      let up = grown front (new d ∷ map wide dims) (wide d ∷ map wide dims) (mul-le (new d) (size (map wide dims)) (wide d) (size (map wide dims)) (new_low d) (omega arith)) in
+      let same = ap size (append_assoc front (new d ∷ []) (map wide dims)) in
+      let r = rest (front ++ new d ∷ []) (suc k) a (omega (arith, long)) (shape ∙ sym (append_assoc front (new d ∷ []) (map old dims))) rank (omega (arith, up, same)) fit is in
+      record { shape = r.shape ∙ append_assoc front (new d ∷ []) (map new dims); kind = r.kind; fits = r.fits; all = r.all; few = r.few }
+
+  one_more : (d : List ℕ) (dims : List (List ℕ)) (o : Option Change) → new d ≡ (changed_axis (axis_called axes d) o).size → (masked ≡ false → (is_open o && is_none fill) ≡ false) → Goes (λ k. steps_from cs fill k dims) dims → Goes (λ k. step_by fill k o ++ steps_from cs fill (suc k) dims) (d ∷ dims)
+  one_more d dims None same plain rest front k a e shape rank few fit is =
+      let r = behind d dims rest front k a e (shape ∙ ap (λ n. front ++ n ∷ map old dims) (sym same)) rank few fit is in
+      let more = suc_times (length dims) most in
+      let added = r.few in
+      record { shape = r.shape; kind = r.kind; fits = r.fits; all = r.all; few = omega (arith, more, added) }
+  one_more d dims (Some c) same plain rest front k a e shape rank few fit is =
+      let m = length c.from in
+      let now : set a.shape k m ≡ front ++ new d ∷ map old dims = (λ i. set (shape i) (e i) m) ∙ set-append_seam front (old d) (map old dims) m ∙ ap (λ n. front ++ n ∷ map old dims) (sym same) in
+      let long = length-set a.shape k m in
+      let all = taken_all a masked is k c.from fill fit.0.axis fit.0.below fit.0.cell (λ f. covered c.from fill (plain f)) in
+      let r = behind d dims rest front k (taken_from a k c.from fill) e now (omega (arith, long)) few fit.1 all in
+      let up = grown front (new d ∷ map old dims) (wide d ∷ map wide dims) (mul-le (new d) (size (map old dims)) (wide d) (size (map wide dims)) (new_low d) (size_up old wide dims old_low)) in
+      let here = ap size now in
+      let more = suc_times (length dims) most in
+      let added = r.few in
+      record {
+        shape = r.shape;
+        kind = r.kind;
+        fits = (record { fits = (lit< tt, fit.0.axis, fit.0.below, fit.0.cell, λ e. absurd cc); small = fit.0.small; low_rank = omega (arith, long) }, r.fits);
+        all = r.all;
+        few = omega (arith, up, here, more, added);
+      }
+
+  pub all_along : (dims : List (List ℕ)) → AllByRecursion (λ d. new d ≡ (changed_axis (axis_called axes d) (change_called cs d)).size) dims → (masked ≡ false → (has_hole cs dims && is_none fill) ≡ false) → Goes (λ k. steps_from cs fill k dims) dims
+  all_along [] sizes plain = λ front k a e shape rank few fit is. record { shape = shape; kind = refl; fits = tt; all = is; few = omega arith }
+  all_along (d ∷ dims) sizes plain =
+      let parts = λ (f : masked ≡ false). none_open (is_open (change_called cs d)) (has_hole cs dims) (is_none fill) (plain f) in
+      one_more d dims (change_called cs d) sizes.0 (λ f. (parts f).0) (all_along dims sizes.1 (λ f. (parts f).1))

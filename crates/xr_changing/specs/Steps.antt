@@ -13,11 +13,13 @@ use Rattle.xr_defs.specs.WellFormed.{IsIndex}
 use Rattle.xr_defs.specs.declared.value.Content.{Content}
 use Rattle.xr_defs.specs.declared.value.Content.TheVariants as contents
 use Rattle.xr_defs.specs.declared.value.Coord.{Coord}
+use Rattle.xr_formulas.specs.declared.chain.Start.TheVariants as starts
 use Rattle.xr_formulas.specs.declared.chain.Step.{Step}
 use Rattle.xr_formulas.specs.declared.chain.Step.TheVariants.{Take}
 use Rattle.plan_core.specs.Takes.{taking_sizes}
 use Rattle.xr_operations.specs.declared.change.Change.{Change}
-use Rattle.xr_operations.specs.Changing.{change_called, fill_along, new_axis}
+use Rattle.xr_operations.specs.Changing.{change_called, fill_along, masked_along, new_axis}
+use Rattle.xr_reducing.specs.declared.realized.VarMade.{VarMade}
 use Rattle.xr_values.specs.declared.variable.Variable as program
 
 -- ---- axes
@@ -72,8 +74,7 @@ TakesFit (step ∷ steps) s t = ⊥
 
 abbrev pub ContentFits : List Change → Option ℤ → List (List ℕ) → Content → Type 0
 ContentFits cs fill dims (contents.Cells a masked) = TakesFit (steps_along cs fill dims) a.shape a.kind
-ContentFits cs fill dims (contents.Text t) = ⊤
-ContentFits cs fill dims (contents.Time coding t) = ⊤
+ContentFits cs fill dims content = ⊤
 
 abbrev pub CoordFits : List Change → Option ℤ → Coord → Type 0
 CoordFits cs fill c = ContentFits cs fill (axis_names c.axes) c.content
@@ -81,3 +82,20 @@ CoordFits cs fill c = ContentFits cs fill (axis_names c.axes) c.content
 -- its new axes are among these, by their names
 abbrev pub IsRenewed : List Change → List Axis → Coord → Type 0
 IsRenewed cs news c = AllByRecursion (λ (x : Axis). axis_called news x.name ≡ new_axis cs x) c.axes
+
+-- ---- variables
+
+-- before a plan
+abbrev pub var_made : List Change → Option ℤ → program.Variable → VarMade
+var_made cs fill v =
+    record {
+      name = v.name;
+      dims = v.dims;
+      kind = v.kind;
+      masked = masked_along cs v.dims fill v.masked;
+      attrs = v.attrs;
+      cells = record { start = starts.Node v.node; steps = steps_along cs fill v.dims };
+    }
+
+abbrev pub VarFits : List Change → Option ℤ → List Axis → program.Variable → Type 0
+VarFits cs fill axes v = TakesFit (steps_along cs fill v.dims) (sizes_named axes v.dims) v.kind

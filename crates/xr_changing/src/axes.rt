@@ -1,32 +1,107 @@
-//! Axes with new labels.
-ghost use Rattle.std.specs.Prelude.{◌≡◌, true, ⊤, ℕ, length, map, option_map, All, IfOk, MatchOption};
+//! Axes with new labels: those at positions of the old ones, or others.
+ghost use Rattle.std.specs.Prelude.{◌≡◌, pos, true, ⊤, [], length, map, All, IfOk, MatchOption};
 ghost use Rattle.xr_types.specs.Kinds.{InRange};
 ghost use Rattle.xr_types.specs.declared.kind.DType.TheVariants as kinds;
 ghost use Rattle.xr_times.specs.Times.{IsTime};
-ghost use Rattle.xr_defs.specs.Values.{label_count};
+ghost use Rattle.xr_defs.specs.Values as values;
+ghost use Rattle.xr_defs.specs.Values.{chosen, label_count};
 ghost use Rattle.xr_defs.specs.WellFormed.{AreLabels, IsIndex};
 ghost use Rattle.xr_operations.specs.Alignment.{number_of, relisted, text_of};
 ghost use Rattle.xr_operations.specs.Changing as of;
+ghost use Rattle.xr_operations.specs.Changing.{shown};
 ghost use Rattle.xr_changing.specs.Steps.{AreIndexed};
 
-use crate::labels::chosen_list;
-use crate::named::change_called;
+use crate::steps::change_called;
 use std::alloc::Global;
 use xr_operations::Change;
 use xr_types::{
-    Axis, Calendar, DType, DeepCopy, Integers, Items, Label, LabelList, Labels, NoMemory, Shared,
-    TextBytes,
+    Axis, Calendar, DType, DeepCopy, Integers, IntegersForm, Items, Label, LabelList, Labels,
+    NoMemory, Shared, TextBytes,
 };
+
+// ---- labels at positions
+
+fn chosen_numbers<T: Copy>(
+    alloc: Global,
+    list: &[T],
+    from: &[Option<u32>],
+) -> Result<Items<T>, NoMemory>
+    ensures { (d : T) → IfOk result (λ s. s ≡ chosen d list.now (shown from.now)) }
+{
+    let mut out = Vec::new(alloc);
+    for at in from {
+        match list.get(at.unwrap_or(0) as usize) {
+            Some(number) => out.push(*number)?,
+            None => return Err(NoMemory),
+        }
+    }
+    Ok(Items::of(out))
+}
+
+fn chosen_integers(
+    alloc: Global,
+    numbers: &Integers,
+    from: &[Option<u32>],
+) -> Result<Integers, NoMemory>
+    ensures { IfOk result (λ s. s ≡ chosen (pos 0) numbers.now (shown from.now)) }
+{
+    match numbers.form() {
+        IntegersForm::Signed(list) => {
+            let chosen = chosen_numbers(alloc, list, from)?;
+            Ok(Integers::signed(alloc, chosen)?)
+        }
+        IntegersForm::Unsigned(list) => {
+            let chosen = chosen_numbers(alloc, list, from)?;
+            Ok(Integers::unsigned(alloc, chosen)?)
+        }
+    }
+}
+
+fn chosen_texts(
+    alloc: Global,
+    list: &[TextBytes],
+    from: &[Option<u32>],
+) -> Result<Items<TextBytes>, NoMemory>
+    ensures { IfOk result (λ s. s ≡ chosen [] list.now (shown from.now)) }
+{
+    let mut out = Items::new(alloc);
+    for at in from {
+        match list.get(at.unwrap_or(0) as usize) {
+            Some(text) => out.push(text.deep_copy(alloc)?)?,
+            None => return Err(NoMemory),
+        }
+    }
+    Ok(out)
+}
+
+// The labels at these positions, where none counts as the first. One that the list doesn't have wants memory.
+fn chosen_list(alloc: Global, list: &LabelList, from: &[Option<u32>]) -> Result<LabelList, NoMemory>
+    ensures { IfOk result (λ l. l ≡ values.chosen_list list.now (shown from.now)) }
+{
+    match list {
+        LabelList::Numbers(kind, numbers) => {
+            let numbers = chosen_integers(alloc, numbers, from)?;
+            Ok(LabelList::Numbers(*kind, numbers))
+        }
+        LabelList::Times(coding, times) => {
+            let times = Shared::of(alloc, chosen_numbers(alloc, times.as_slice(), from)?)?;
+            Ok(LabelList::Times(coding.deep_copy(alloc)?, times))
+        }
+        LabelList::Texts(texts) => {
+            let texts = Shared::of(alloc, chosen_texts(alloc, texts.as_slice(), from)?)?;
+            Ok(LabelList::Texts(texts))
+        }
+    }
+}
+
+// ---- given labels
 
 // The number of a label. One past 64 bits, which is refused before, wants memory.
 fn number_of(label: &Label) -> Result<i64, NoMemory>
     ensures { IfOk result (λ n. n ≡ number_of label.now) }
 {
     match label {
-        Label::Int(number) => match i64::try_from(*number) {
-            Ok(number) => Ok(number),
-            Err(_) => Err(NoMemory),
-        },
+        Label::Int(number) => i64::try_from(*number).map_err(|_| NoMemory),
         Label::Time(time) => Ok(*time),
         Label::Text(_) => Ok(0),
     }
@@ -57,12 +132,7 @@ fn is_time(time: i64, calendar: Calendar) -> bool
 fn are_times(times: &[i64], calendar: Calendar) -> bool
     ensures { result ≡ true → All (IsTime calendar) times.now }
 {
-    for time in times {
-        if !is_time(*time, calendar) {
-            return false;
-        }
-    }
-    true
+    times.iter().all(|time| is_time(*time, calendar))
 }
 
 fn texts_of(alloc: Global, labels: &[Label]) -> Result<Items<TextBytes>, NoMemory>
@@ -103,8 +173,10 @@ fn relisted(alloc: Global, list: &LabelList, labels: &[Label]) -> Result<LabelLi
     }
 }
 
+// ---- axes
+
 // The labels of an axis, as a change has them.
-#[tactic(auto, using(crate::proofs::ChosenLabels::chosen_range, crate::proofs::ChosenLabels::chosen_count, crate::proofs::ChosenLabels::listed_count))]
+#[tactic(auto, using(crate::proofs::NewAxes::chosen_range, crate::proofs::NewAxes::chosen_count, crate::proofs::NewAxes::listed_count))]
 fn new_list(alloc: Global, change: &Change, labels: &Labels) -> Result<Labels, NoMemory>
     ensures is { IfOk result (λ l. l ≡ of.new_list change.now labels.now) }
     ensures count { IfOk result (λ l. label_count l.list ≡ length change.now.from) }
@@ -125,20 +197,6 @@ fn new_list(alloc: Global, change: &Change, labels: &Labels) -> Result<Labels, N
 }
 
 #[tactic(auto, using(crate::proofs::NewAxes::attrs_kept))]
-fn new_labels(
-    alloc: Global,
-    change: &Change,
-    labels: &Option<Labels>,
-) -> Result<Option<Labels>, NoMemory>
-    ensures is { IfOk result (λ l. l ≡ option_map (of.new_list change.now) labels.now) }
-    ensures index { (n : ℕ) → MatchOption labels.now ⊤ (IsIndex n) → IfOk result (λ l. MatchOption l ⊤ (IsIndex (length change.now.from))) }
-{
-    match labels {
-        None => Ok(None),
-        Some(labels) => Ok(Some(new_list(alloc, change, labels)?)),
-    }
-}
-
 fn new_axis(alloc: Global, changes: &[Change], axis: &Axis) -> Result<Axis, NoMemory>
     ensures is { IfOk result (λ x. x ≡ of.new_axis changes.now axis.now) }
     ensures index { MatchOption axis.now.labels ⊤ (IsIndex axis.now.size) → IfOk result (λ x. MatchOption x.labels ⊤ (IsIndex x.size)) }
@@ -148,7 +206,10 @@ fn new_axis(alloc: Global, changes: &[Change], axis: &Axis) -> Result<Axis, NoMe
         Some(change) => Ok(Axis {
             name: axis.name.deep_copy(alloc)?,
             size: change.from.as_slice().len() as u64,
-            labels: new_labels(alloc, change, &axis.labels)?,
+            labels: match &axis.labels {
+                None => None,
+                Some(labels) => Some(new_list(alloc, change, labels)?),
+            },
         }),
     }
 }

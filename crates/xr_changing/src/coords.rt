@@ -1,8 +1,9 @@
 //! Coordinates along dimensions that are given other positions.
-ghost use Rattle.std.specs.Prelude.{◌≡◌, map, IfOk};
+ghost use Rattle.std.specs.Prelude.{◌≡◌, true, map, IfOk};
 ghost use Rattle.std.specs.List.{AllByRecursion};
 ghost use Rattle.xr_operations.specs.Changing as of;
-ghost use Rattle.xr_types.specs.declared.axis.Axis.{Axis as OneAxis};
+ghost use Rattle.xr_types.specs.Names.{among, axis_names};
+ghost use Rattle.xr_defs.specs.Parts.{axes_called};
 ghost use Rattle.xr_defs.specs.Selecting.{axis_called};
 ghost use Rattle.xr_changing.specs.Steps.{ContentFits, CoordFits, IsRenewed};
 
@@ -11,7 +12,7 @@ use std::alloc::Global;
 use xr_defs::{Content, Coord};
 use xr_operations::Change;
 use xr_reducing::names_of;
-use xr_types::{Axis, DeepCopy, Items, Name, NoMemory};
+use xr_types::{Axis, DeepCopy, Items, Name, NoMemory, TextBytes};
 
 // Steps that a plan wouldn't take, of which no coordinate has any, want memory.
 #[tactic(auto, using(crate::proofs::Stepping::value_along))]
@@ -37,29 +38,32 @@ fn changed_content(
     }
 }
 
-// The one of these axes that has the name of another.
-#[tactic(auto, using(xr_parts::proofs::Axes::called_cons))]
-fn axis_called(alloc: Global, axes: &[Axis], axis: &Axis) -> Result<Axis, NoMemory>
-    ensures { IfOk result (λ x. x ≡ axis_called axes.now axis.now.name) }
+// The axis of a name. Where there is none it wants memory.
+#[tactic(auto, using(xr_parts::proofs::Axes::called_cons, xr_values::proofs::Named::bytes_eq_swap))]
+fn axis_called(alloc: Global, axes: &[Axis], name: &TextBytes) -> Result<Axis, NoMemory>
+    ensures is { IfOk result (λ x. x ≡ axis_called axes.now name.now) }
+    ensures there { IfOk result (λ x. among (axis_names axes.now) name.now ≡ true) }
 {
     match axes {
         [] => Err(NoMemory),
-        [first, rest @ ..] => {
-            if first.name.is(&axis.name) {
-                Ok(first.deep_copy(alloc)?)
+        [axis, rest @ ..] => {
+            if axis.name.is(name) {
+                Ok(axis.deep_copy(alloc)?)
             } else {
-                axis_called(alloc, rest, axis)
+                axis_called(alloc, rest, name)
             }
         }
     }
 }
 
-fn axes_called(alloc: Global, axes: &[Axis], own: &[Axis]) -> Result<Items<Axis>, NoMemory>
-    ensures { IfOk result (λ xs. xs ≡ map (λ (x : OneAxis). axis_called axes.now x.name) own.now) }
+/// The axes of these names.
+pub fn axes_called(alloc: Global, axes: &[Axis], dims: &[Name]) -> Result<Items<Axis>, NoMemory>
+    ensures is { IfOk result (λ xs. xs ≡ axes_called axes.now dims.now) }
+    ensures there { IfOk result (λ xs. AllByRecursion (λ d. among (axis_names axes.now) d ≡ true) dims.now) }
 {
     let mut out = Items::new(alloc);
-    for axis in own {
-        out.push(axis_called(alloc, axes, axis)?)?;
+    for dim in dims {
+        out.push(axis_called(alloc, axes, dim)?)?;
     }
     Ok(out)
 }
@@ -75,9 +79,8 @@ fn changed_coord(
     ensures is { IfOk result (λ c. c ≡ of.changed_coord changes.now fill coord.now) }
     ensures fits { IfOk result (λ c. CoordFits changes.now fill coord.now) }
 {
-    let own = coord.axes.as_slice();
-    let names = names_of(alloc, own)?;
-    let axes = axes_called(alloc, news, own)?;
+    let names = names_of(alloc, coord.axes.as_slice())?;
+    let axes = axes_called(alloc, news, names.as_slice())?;
     Ok(Coord {
         name: coord.name.deep_copy(alloc)?,
         axes,

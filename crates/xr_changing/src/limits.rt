@@ -11,13 +11,14 @@ ghost use Rattle.xr_operations.specs.Changing as of;
 ghost use Rattle.xr_values.specs.Stands.{array_in, dataset_in};
 ghost use Rattle.xr_changing.specs.Steps.{are_named_within, sizes_named};
 
-use crate::named::change_called;
+use crate::coords::axes_called;
+use crate::steps::change_called;
 use arrangement::points;
 use std::alloc::{AllocError, Global};
 use xr_defs::Coord;
 use xr_operations::Change;
 use xr_types::{
-    Axis, CallFault, Fault, Items, MOST_CELLS, MOST_DIMENSIONS, MOST_VARIABLES, Name, TextBytes,
+    Axis, CallFault, Fault, Items, MOST_CELLS, MOST_DIMENSIONS, MOST_VARIABLES, Name, NoMemory,
 };
 use xr_values::{DataArray, Dataset, Variable};
 
@@ -87,36 +88,17 @@ pub fn check_array(alloc: Global, changes: &[Change], on: &DataArray) -> Result<
 
 // ---- datasets
 
-// The size that the axis of a name has after changes.
-#[tactic(auto, using(xr_parts::proofs::Axes::called_cons, crate::proofs::NewAxes::name_kept))]
-fn size_called(changes: &[Change], axes: &[Axis], name: &TextBytes) -> u64
-    ensures { result ≡ (limits.axis_called (map (of.new_axis changes.now) axes.now) name.now).size }
-{
-    match axes {
-        [] => 0,
-        [axis, rest @ ..] => {
-            if axis.name.is(name) {
-                new_size(changes, axis)
-            } else {
-                size_called(changes, rest, name)
-            }
-        }
-    }
-}
-
 /// The sizes that the axes of these names have after changes.
 pub fn sizes_named(
     alloc: Global,
     changes: &[Change],
     axes: &[Axis],
     dims: &[Name],
-) -> Result<Items<u64>, AllocError>
+) -> Result<Items<u64>, NoMemory>
     ensures { IfOk result (λ s. s ≡ sizes_named (map (of.new_axis changes.now) axes.now) dims.now) }
 {
-    let mut sizes = Items::new(alloc);
-    for dim in dims {
-        sizes.push(size_called(changes, axes, dim))?;
-    }
+    let own = axes_called(alloc, axes, dims)?;
+    let sizes = sizes_over(alloc, changes, own.as_slice())?;
     Ok(sizes)
 }
 
@@ -125,7 +107,7 @@ fn are_named_within(
     changes: &[Change],
     axes: &[Axis],
     vars: &[Variable],
-) -> Result<bool, AllocError>
+) -> Result<bool, NoMemory>
     ensures { IfOk result (λ b. b ≡ are_named_within (map (of.new_axis changes.now) axes.now) vars.now) }
 {
     for var in vars {

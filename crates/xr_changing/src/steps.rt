@@ -1,5 +1,6 @@
 //! The steps from old cells to those at new labels.
-ghost use Rattle.std.specs.Prelude.{◌≡◌, ◌<◌, ◌≤◌, ◌+◌, ◌^◌, ◌++◌, true, length, get_or, All, IfOk, OnOk};
+ghost use Rattle.std.specs.Prelude.{◌≡◌, ◌<◌, ◌≤◌, ◌+◌, ◌^◌, ◌++◌, true, length, get_or, is_none, option_map, All, IfOk, OnOk};
+ghost use Rattle.std.specs.List.{list_any};
 ghost use Rattle.xr_types.specs.Points.{size};
 ghost use Rattle.xr_arrays.specs.Arrays.{IsCell};
 ghost use Rattle.xr_arrays.specs.Nodes.{most_node_cells, IsBelow};
@@ -7,16 +8,52 @@ ghost use Rattle.xr_formulas.specs.Chains.{steps_value};
 ghost use Rattle.xr_operations.specs.Changing as of;
 ghost use Rattle.xr_changing.specs.Steps.{step_by, steps_along, steps_from, TakesFit};
 
-use crate::named::{change_called, has_hole};
 use arrangement::{points, take};
 use std::alloc::{AllocError, Global};
 use xr_arrays::ArrayValue;
 use xr_formulas::{Step, fits};
 use xr_operations::Change;
-use xr_types::{DType, Items, Name, NoMemory};
+use xr_types::{DType, Items, Name, NoMemory, TextBytes};
 
-/// Cells of a node of a plan.
-const MOST_NODE_CELLS: u64 = 1 << 50;
+// ---- changes by their names
+
+/// The change of a dimension, if it has one.
+pub fn change_called<'a>(changes: &'a [Change], name: &TextBytes) -> Option<&'a Change>
+    ensures { option_map (λ c. c.now) result ≡ of.change_called changes.now name.now }
+{
+    match changes {
+        [] => None,
+        [change, rest @ ..] => {
+            if change.name.is(name) {
+                Some(change)
+            } else {
+                change_called(rest, name)
+            }
+        }
+    }
+}
+
+fn any_none(from: &[Option<u32>]) -> bool
+    ensures { result ≡ list_any is_none from.now }
+{
+    from.iter().any(|position| position.is_none())
+}
+
+fn is_open(change: Option<&Change>) -> bool
+    ensures { result ≡ of.is_open (option_map (λ c. c.now) change.entry) }
+{
+    match change {
+        None => false,
+        Some(change) => any_none(change.from.as_slice()),
+    }
+}
+
+/// Whether some position of one of these dimensions shows no old one.
+pub fn has_hole(changes: &[Change], dims: &[Name]) -> bool
+    ensures { result ≡ of.has_hole changes.now dims.now }
+{
+    dims.iter().any(|dim| is_open(change_called(changes, dim)))
+}
 
 /// Whether missing cells may stand in what had none or some, once changes are made.
 pub fn masked_along(changes: &[Change], dims: &[Name], fill: Option<i128>, masked: bool) -> bool
@@ -27,24 +64,19 @@ pub fn masked_along(changes: &[Change], dims: &[Name], fill: Option<i128>, maske
 
 // ---- what a plan takes
 
+/// Cells of a node of a plan.
+const MOST_NODE_CELLS: u64 = 1 << 50;
+
 fn is_below(at: Option<u32>, size: u64) -> bool
     ensures { result ≡ true → IsBelow size at }
 {
-    match at {
-        None => true,
-        Some(at) => u64::from(at) < size,
-    }
+    at.is_none_or(|at| u64::from(at) < size)
 }
 
 fn are_below(from: &[Option<u32>], size: u64) -> bool
     ensures { result ≡ true → All (IsBelow size) from.now }
 {
-    for at in from {
-        if !is_below(*at, size) {
-            return false;
-        }
-    }
-    true
+    from.iter().all(|at| is_below(*at, size))
 }
 
 fn can_take(
@@ -58,11 +90,7 @@ fn can_take(
     ensures below { result ≡ true → All (IsBelow (get_or shape.now axis 0)) from.now }
     ensures cell { result ≡ true → IsCell kind fill }
 {
-    let is_cell = match fill {
-        None => true,
-        Some(n) => fits(kind, n),
-    };
-    is_cell && axis < shape.len() && are_below(from, shape[axis])
+    fill.is_none_or(|n| fits(kind, n)) && axis < shape.len() && are_below(from, shape[axis])
 }
 
 // Adds the steps along dimensions that stand from a number on, of cells of these sizes and this kind.

@@ -15,17 +15,11 @@ attributes_left a is = (carried_formed Method (a ∷ []) a.axes is.axes ((is, re
 
 -- ---- what the operations take
 
-pub tests_missing : (t : DType) → Changes ops.IsNull kinds.Bool t
-tests_missing t = record { one = refl; gives = refl; suits = λ e. absurd cc }
-
 pub tests_present : (t : DType) → Changes ops.NotNull kinds.Bool t
 tests_present t = record { one = refl; gives = refl; suits = λ e. absurd cc }
 
 pub casts : (kind t : DType) → Changes ops.Cast kind t
 casts kind t = record { one = refl; gives = tt; suits = λ e. absurd cc }
-
-pub inverts : (t : DType) → Changes ops.Invert t t
-inverts t = record { one = refl; gives = refl; suits = λ e. absurd cc }
 
 pub negates : (t : DType) → is_integer_kind t ≡ true → Changes ops.Negate t t
 negates t whole = record { one = refl; gives = refl; suits = λ e same. absurd cc }

@@ -1,5 +1,5 @@
 -- Cells that a function of each point gives.
-use Rattle.xr_formulas.proofs.Common.{All-tab, AreCells, Array, Bool, Changes, DType, IsCell, IsPoint, List, None, OpKind, Option, arith, at, elem, elem_of_one, false, is_some, length, masked_after, most_cells, most_dimensions, place, place_below, refl, size, tab, tab-length, takes_one, true, unary_kind, unary_of, ℕ, ℤ, ◌<◌, ◌≡◌, ◌≤◌}
+use Rattle.xr_formulas.proofs.Common.{All-tab, AreCells, Array, Bool, Changes, DType, IsCell, IsPoint, List, None, OpKind, Option, Some, arith, at, elem, elem_of_one, false, is_some, length, masked_after, most_cells, most_dimensions, place, place_below, refl, size, tab, tab-length, takes_one, true, unary_kind, unary_of, ℕ, ℤ, ◌<◌, ◌≡◌, ◌≤◌}
 use Rattle.xr_types.specs.declared.operation.OpKind.TheVariants as ops
 
 -- a function of each point gives an array's cells, where it gives cells of the kind and none that is missing unless it is masked
@@ -29,10 +29,8 @@ module _ (shape : List ℕ) (kind : DType) (masked : Bool) (cells : List (Option
 one_seen : (op : OpKind) (t : DType) (x : Option ℤ) (own : Bool) → takes_one op ≡ true → masked_after op own ≡ false → (own ≡ false → is_some x ≡ true) → is_some (elem op t x None) ≡ true
 one_seen ops.IsNull t x own one plain seen = refl
 one_seen ops.NotNull t x own one plain seen = refl
-one_seen ops.Negate t None own one plain seen = seen plain
-one_seen ops.Invert t None own one plain seen = seen plain
-one_seen ops.Cast t None own one plain seen = seen plain
-one_seen op t x own one plain seen = cc
+one_seen op t None own one plain seen = seen plain
+one_seen op t (Some n) own one plain seen = cc
 
 module _ (op : OpKind) (kind t : DType) (masked : Bool) (shape : List ℕ) (cells : List (Option ℤ)) (is : AreCells shape t masked cells) (does : Changes op kind t) where
   abbrev own : Array

@@ -1,14 +1,14 @@
 -- Names that several of the proofs use.
-pub use Rattle.std.proofs.Common.{Bool, Err, FitsSigned, List, None, Ok, Option, Result, Some, [], ap, arith, cond, drop, false, get_or, int_le, int_lt, is_some, length, length-append, lit<, negsuc, not, pos, refl, subst, suc, sym, true, zero, ℕ, ℤ, ◌&&◌, ◌*◌, ◌++◌, ◌+◌, ◌<ℤ◌, ◌<◌, ◌==◌, ◌||◌, ◌∙◌, ◌∷◌, ◌≡◌, ◌≢◌, ◌≤ℤ◌, ◌≤◌}
-pub use Rattle.std.proofs.lemmas.Bool.{and_from, and_parts, cond_both, or_parts, or_right, true≢false}
+pub use Rattle.std.proofs.Common.{Bool, Err, FitsSigned, List, None, Ok, Option, Result, Some, [], ap, arith, cond, drop, false, get_or, inl, inr, int_le, int_lt, is_some, length, lit<, negsuc, not, pos, refl, rules, subst, suc, sym, true, zero, ℕ, ℤ, ◌&&◌, ◌*◌, ◌++◌, ◌+◌, ◌<ℤ◌, ◌<◌, ◌==◌, ◌||◌, ◌∙◌, ◌∷◌, ◌≡◌, ◌≢◌, ◌≤ℤ◌, ◌≤◌}
+pub use Rattle.std.proofs.lemmas.Bool.{and_cases, and_parts, cond_both, or_cases, or_parts, or_right, true≢false}
 pub use Rattle.std.proofs.lemmas.Int.{ints, to_z-of_z}
 pub use Rattle.std.proofs.lemmas.List.{drop_all, get_or-drop, get_or-take, length-map, nil_from_length}
 pub use Rattle.std.proofs.lemmas.Nat.{mul-le}
-pub use Rattle.std.specs.Int.{cast_signed, cast_unsigned, w128}
-pub use Rattle.plan_core.proofs.Added.{adds_both, adds_one, adds_up, one_added}
-pub use Rattle.plan_core.proofs.Fitting.{binary_fits, choose_fits, source_fits}
-pub use Rattle.plan_core.proofs.Plans.{grown-length, grown_value, grows_by_none, grows_on, pushes_grow, values-length}
-pub use Rattle.plan_core.proofs.Tabs.{All-tab, place_below, tab-length, tab_read, tab_row, tab_same}
+pub use Rattle.std.specs.Int.{w128}
+pub use Rattle.plan_core.proofs.Added.{adds_both, adds_one, adds_up}
+pub use Rattle.plan_core.proofs.Fitting.{source_fits}
+pub use Rattle.plan_core.proofs.Plans.{grown-length, grown_value, grows_on, pushes_grow, values-length}
+pub use Rattle.plan_core.proofs.Tabs.{All-tab, place_below, suc_times, tab-length, tab_read, tab_row, tab_same, zero_times}
 pub use Rattle.plan_core.specs.Plans.{Grows}
 pub use Rattle.xr_arrays.proofs.ElementRanges.{elem_of_one, elem_of_two}
 pub use Rattle.xr_arrays.specs.Added.{AddsAtMost}
@@ -26,7 +26,7 @@ pub use Rattle.xr_defs.specs.Room.{AddsForAny, Portion, count, of_array, portion
 unfoldable pub use Rattle.xr_defs.specs.Room.{room, span}
 pub use Rattle.xr_defs.specs.Values.{array_of, without_fills}
 pub use Rattle.xr_defs.specs.WellFormed.{AreAttributes, AreCells, IsDataArray}
-pub use Rattle.xr_formulas.specs.Beside.{Fills, IsOver, IsPlaced, beyond, formula_beside, holds_below, operand, placed_cell, placed_on, seen_from, turned, within_kind}
+pub use Rattle.xr_formulas.specs.Beside.{Fills, IsOver, IsPlaced, always, ascending, formula_beside, holds, operand, placed_cell, placed_on, within_kind}
 pub use Rattle.xr_formulas.specs.Called.{AddsBeside, StandsFor}
 pub use Rattle.xr_formulas.specs.Cellwise.{Changes, changed, masked_after}
 pub use Rattle.xr_formulas.specs.Chains.{ChainFits, IsValueOf, StartFits, StepFits, StepsFit, chain_cells, chain_value, one_cell, start_cells, start_value, step_node, step_value, steps_cells, steps_value}
@@ -37,8 +37,8 @@ pub use Rattle.xr_formulas.specs.declared.chain.Step.{Step}
 pub use Rattle.xr_formulas.specs.declared.chain.Step.TheVariants.{Unary, Widen}
 pub use Rattle.xr_formulas.specs.declared.made.Made.{Made}
 pub use Rattle.xr_formulas.specs.declared.numbers.Placed.{Placed}
-pub use Rattle.xr_operations.specs.Arithmetic.{Sort, beside, check_truths, is_truths, number_kind, sort_of, takes_truths}
-unfoldable pub use Rattle.xr_operations.specs.Arithmetic.{check_kinds, common_kind, of_truth, with_literal}
+pub use Rattle.xr_operations.specs.Arithmetic.{beside, check_truths, is_truths, number_kind, sort_of, takes_truths}
+unfoldable pub use Rattle.xr_operations.specs.Arithmetic.{check_kinds, common_kind, with_literal}
 pub use Rattle.xr_operations.specs.declared.side.Side.{Side}
 pub use Rattle.xr_operations.specs.declared.side.Side.TheVariants.{Left, Right}
 pub use Rattle.xr_types.specs.Kinds.{InRange, high, in_range, low, promoted}

@@ -11,4 +11,3 @@ pub mod Pairs
 pub mod Compared
 pub mod Operands
 pub mod Sorts
-pub mod Told

@@ -1,5 +1,5 @@
 -- What a call makes, as a value of the plan.
-use Rattle.xr_formulas.proofs.Common.{AddsAtMost, AddsBeside, AddsForAny, Axis, DataArray, IsArrayIn, IsArrayOf, List, Node, Portion, StandsFor, Value, [], adds_up, ap, arith, array_in, back_among, count, greatest_both, meaning, mul-le, of_array, portions, room, span, span_up, subst, sym, ◌*◌, ◌++◌, ◌+◌, ◌∙◌, ◌∷◌, ◌≡◌, ◌≤◌}
+use Rattle.xr_formulas.proofs.Common.{AddsAtMost, AddsBeside, AddsForAny, DataArray, IsArrayOf, List, Node, Portion, StandsFor, Value, [], adds_up, ap, arith, array_in, back_among, count, greatest_both, meaning, mul-le, of_array, portions, room, span, span_up, subst, sym, ◌*◌, ◌++◌, ◌+◌, ◌∙◌, ◌∷◌, ◌≡◌, ◌≤◌}
 use Rattle.std.proofs.lemmas.Grind.{flat_map-append}
 use Rattle.std.proofs.lemmas.List.Sums.{sum_by-append}
 use Rattle.std.specs.List.{flat_map, sum_by}
@@ -19,24 +19,20 @@ none = record { variables = 0; axes = []; coords = [] }
 pub room_beside : (old new : List Node) (b : values.DataArray) → AddsForAny old new b → (ps : List Portion) → AddsAtMost old new (room (ps ++ of_array b ∷ []))
 unfolding room
 room_beside old new b adds ps =
-    let q : Portion = of_array b in
-    let own : List Axis = flat_map (λ (p : Portion). p.axes) (none ∷ q ∷ []) in
-    let all : List Axis = flat_map (λ (p : Portion). p.axes) ps ++ own in
-    let more : span own ≤ span all = span_up own all (back_among (flat_map (λ (p : Portion). p.axes) ps) own) (λ k. let both = greatest_both (flat_map (λ (p : Portion). p.axes) ps) own k in omega arith) in
-    let same : span (flat_map (λ (p : Portion). p.axes) (ps ++ q ∷ [])) ≡ span all = ap span (flat_map-append (λ (p : Portion). p.axes) ps (q ∷ [])) in
-    let counts : sum_by count (ps ++ q ∷ []) ≡ sum_by count ps + sum_by count (q ∷ []) = sum_by-append count ps (q ∷ []) in
-    let few : sum_by count (none ∷ q ∷ []) ≤ sum_by count (ps ++ q ∷ []) = omega arith in
-    let up = mul-le (256 * sum_by count (none ∷ q ∷ [])) (span own) (256 * sum_by count (ps ++ q ∷ [])) (span (flat_map (λ (p : Portion). p.axes) (ps ++ q ∷ []))) (omega arith) (omega arith) in
-    adds_up old new (256 * sum_by count (none ∷ q ∷ []) * span own) (256 * sum_by count (ps ++ q ∷ []) * span (flat_map (λ (p : Portion). p.axes) (ps ++ q ∷ []))) up (adds none)
+    let axes = λ (qs : List Portion). flat_map (λ (p : Portion). p.axes) qs in
+    let q : List Portion = of_array b ∷ [] in
+    let split : axes (ps ++ q) ≡ axes ps ++ axes (none ∷ q) = flat_map-append (λ (p : Portion). p.axes) ps q in
+    let up : span (axes (none ∷ q)) ≤ span (axes ps ++ axes (none ∷ q)) = span_up (axes (none ∷ q)) (axes ps ++ axes (none ∷ q)) (back_among (axes ps) (axes (none ∷ q))) (λ k. let both = greatest_both (axes ps) (axes (none ∷ q)) k in omega arith) in
+    let same = ap span split in
+    let counts : sum_by count (ps ++ q) ≡ sum_by count ps + sum_by count q = sum_by-append count ps q in
+    let le = mul-le (256 * sum_by count (none ∷ q)) (span (axes (none ∷ q))) (256 * sum_by count (ps ++ q)) (span (axes (ps ++ q))) (omega arith) (omega arith) in
+    adds_up old new (256 * sum_by count (none ∷ q) * span (axes (none ∷ q))) (256 * sum_by count (ps ++ q) * span (axes (ps ++ q))) le (adds none)
 
 -- ---- an array as a value
 
-module _ (new : List Node) (v : Value) (r : Rc DataArray Global) (a : DataArray) (is : v ≡ variants.Array r) (same : r.value ≡ a) where
-  meaning_is : meaning new v ≡ of.Array (array_in new a)
-  meaning_is = is_array new v r is ∙ ap (λ (x : DataArray). of.Array (array_in new x)) same
+module _ (new : List Node) (v : Value) (r : Rc DataArray Global) (is : v ≡ variants.Array r) where
+  pub array_placed : (means : values.DataArray) → IsArrayOf new means r.value → StandsFor new (of.Array means) v
+  array_placed means made = record { is = is_array new v r is ∙ ap of.Array made.is; inside = array_inside new v r is made.inside }
 
-  pub array_placed : (means : values.DataArray) → IsArrayOf new means a → StandsFor new (of.Array means) v
-  array_placed means made = record { is = meaning_is ∙ ap of.Array made.is; inside = array_inside new v r is (subst (IsArrayIn new) (sym same) made.inside) }
-
-  pub array_room : (old : List Node) → AddsForAny old new (array_in new a) → AddsBeside old new (meaning new v)
-  array_room old adds ps = subst (λ qs. AddsAtMost old new (room (ps ++ qs))) (sym (ap portions meaning_is)) (room_beside old new (array_in new a) adds ps)
+  pub array_room : (old : List Node) → AddsForAny old new (array_in new r.value) → AddsBeside old new (meaning new v)
+  array_room old adds ps = subst (λ qs. AddsAtMost old new (room (ps ++ qs))) (sym (ap portions (is_array new v r is))) (room_beside old new (array_in new r.value) adds ps)

@@ -1,31 +1,23 @@
 -- The kinds that operators take.
-use Rattle.xr_formulas.proofs.Common.{Bool, DType, Err, Fault, InRange, IsPlaced, None, Ok, OpKind, Option, Result, Side, Some, Sort, Suits, and_parts, ap, arith, cast_signed, cast_unsigned, check_kinds, check_truths, common_kind, false, in_range, ints, is_chars, is_comparison, is_truths, not, number_kind, of_truth, or_right, promoted, refl, sort_of, sym, takes_truths, takes_two, true, true≢false, truth_number, unless, w128, with_literal, ℤ, ◌&&◌, ◌>>=◌, ◌||◌, ◌∙◌, ◌≡◌, ◌≢◌}
+use Rattle.xr_formulas.proofs.Common.{Bool, DType, Err, Fault, IsPlaced, None, Ok, OpKind, Option, Result, Side, Some, Suits, and_parts, ap, arith, check_kinds, check_truths, common_kind, false, in_range, is_chars, is_comparison, is_truths, not, number_kind, or_right, promoted, refl, sort_of, sym, takes_truths, takes_two, to_z-of_z, true, true≢false, truth_number, unless, ℤ, ◌&&◌, ◌>>=◌, ◌||◌, ◌∙◌, ◌≡◌, ◌≢◌}
 use Rattle.xr_types.specs.declared.fault.Fault.TheVariants.{DoesNotFit, WrongKind, WouldPromote}
 use Rattle.xr_types.specs.declared.kind.DType.TheVariants as kinds
 use Rattle.xr_types.specs.declared.operation.OpKind.TheVariants as ops
 use Rattle.xr_operations.specs.Arithmetic as sorts
-use Rattle.xr_operations.specs.CellMethods.{check_fits}
-use Rattle.xr_defs.specs.Values.{DataArray}
-use Rattle.xr_formulas.proofs.Compared.{kept_wide}
 
 -- ---- the check of two kinds
 
-abbrev is_division : Sort → Bool
-is_division sorts.Division = true
-is_division sort = false
-
-not_division : (sort : Sort) (a b : DType) → check_kinds sort a b ≡ Ok tt → is_division sort ≡ false
+no_division : (a b : DType) → check_kinds sorts.Division a b ≡ Ok tt → ⊥
 unfolding check_kinds unless
-not_division sorts.Division a b e = by (not (is_chars a || is_chars b)) tt e
+no_division a b e = by (not (is_chars a || is_chars b)) tt e
   where
-    by : (c : Bool) (u : Unit {0}) → (unless c WrongKind >>= λ v. Err WouldPromote) ≡ Ok u → true ≡ false
-    by true u e = absurd cc
-    by false u e = absurd cc
-not_division sort a b e = refl
+    by : (c : Bool) (u : Unit {0}) → (unless c WrongKind >>= λ v. Err WouldPromote) ≡ Ok u → ⊥
+    by true u e = cc
+    by false u e = cc
 
-two_from : (op : OpKind) → is_division (sort_of op) ≡ false → takes_two op ≡ true
-two_from ops.Add e = refl
-two_from op e = cc
+two_from : (op : OpKind) (a b : DType) → check_kinds (sort_of op) a b ≡ Ok tt → takes_two op ≡ true
+two_from ops.Add a b e = refl
+two_from op a b e = first_of (cc, grind (arith, no_division))
 
 -- what the kind of two operands tells
 common_tells : (op : OpKind) (k u t : DType) → common_kind op k u ≡ Ok t → (takes_two op ≡ true) × (promoted k u ≡ Some t)
@@ -35,40 +27,28 @@ common_tells op k u t e = by (check_kinds (sort_of op) k u) refl (promoted k u) 
     by : (r : Result (Unit {0}) Fault) → check_kinds (sort_of op) k u ≡ r → (o : Option DType) → (r >>= λ v. elim o [ None ↦ Err WouldPromote | Some w ↦ Ok w ]) ≡ Ok t → (takes_two op ≡ true) × (o ≡ Some t)
     by (Err f) is o e = absurd cc
     by (Ok tt) is None e = absurd cc
-    by (Ok tt) is (Some w) e = (two_from op (not_division (sort_of op) k u is), cc)
+    by (Ok tt) is (Some w) e = (two_from op k u is, cc)
 
 -- ---- beside a whole number
 
-number_kind_is : (k t : DType) → promoted k (number_kind k) ≡ Some t → t ≡ number_kind k
-number_kind_is kinds.Bool t e = cc
-number_kind_is k t e = cc
+no_truths : (k t : DType) → promoted k (number_kind k) ≡ Some t → t ≢ kinds.Bool
+no_truths kinds.Bool t e same = absurd cc
+no_truths k t e same = absurd cc
 
-no_truths : (k : DType) → number_kind k ≢ kinds.Bool
-no_truths kinds.Bool e = absurd cc
-no_truths k e = absurd cc
-
-own_kind : (k t : DType) → t ≡ number_kind k → (is_truths k && not (is_truths t)) ≡ false → t ≡ k
-own_kind kinds.Bool t is e = absurd (true≢false (sym (ap (λ u. not (is_truths u)) is) ∙ e))
-own_kind k t is e = is
+own_kind : (k t : DType) → promoted k (number_kind k) ≡ Some t → (is_truths k && not (is_truths t)) ≡ false → t ≡ k
+own_kind kinds.Bool t e whole = let is : kinds.Int64 ≡ t = cc in absurd (true≢false (ap (λ u. not (is_truths u)) is ∙ whole))
+own_kind k t e whole = cc
 
 pub passes : (b : Bool) (f : Fault) → unless b f ≡ Ok tt → b ≡ true
 unfolding unless
 passes true f e = refl
 passes false f e = absurd cc
 
-module _ (side : Side) (op : OpKind) (k t : DType) (n : ℤ) (e : common_kind op k (number_kind k) ≡ Ok t) where
-  kind_is : t ≡ number_kind k
-  kind_is = number_kind_is k t (common_tells op k (number_kind k) t e).1
-
-  pub number_placed : unless (is_comparison op || in_range t n) DoesNotFit ≡ Ok tt → IsPlaced t (record { side = side; op = op; number = n })
-  number_placed fits = record {
-    two = (common_tells op k (number_kind k) t e).0;
-    suits = λ sums same. no_truths k (sym kind_is ∙ same);
-    fits = passes (is_comparison op || in_range t n) DoesNotFit fits;
-  }
-
-  pub number_own : (is_truths k && not (is_truths t)) ≡ false → t ≡ k
-  number_own = own_kind k t kind_is
+pub number_placed : (side : Side) (op : OpKind) (k t : DType) (n : ℤ) → common_kind op k (number_kind k) ≡ Ok t → unless (is_comparison op || in_range t n) DoesNotFit ≡ Ok tt
+    → IsPlaced t (record { side = side; op = op; number = n }) × ((is_truths k && not (is_truths t)) ≡ false → t ≡ k)
+number_placed side op k t n e fits =
+    let tells = common_tells op k (number_kind k) t e in
+    (record { two = tells.0; suits = λ sums. no_truths k t tells.1; fits = passes (is_comparison op || in_range t n) DoesNotFit fits }, own_kind k t tells.1)
 
 -- ---- beside a truth value
 
@@ -94,19 +74,5 @@ module _ (side : Side) (op : OpKind) (k : DType) (b : Bool) (e : check_truths op
   pub truth_own : kinds.Bool ≡ k
   truth_own = sym (truths_is k both.0)
 
--- ---- what the calls tell
-
-pub truth_told : (side : Side) (op : OpKind) (a : DataArray) (b : Bool) → check_truths op a.kind ≡ Ok tt → of_truth side op a b ≡ Ok (with_literal side op kinds.Bool (truth_number b) a)
-unfolding of_truth
-truth_told side op a b e = ap (λ r. r >>= λ u. Ok (with_literal side op kinds.Bool (truth_number b) a)) e
-
-truth_in : (b : Bool) → InRange kinds.Bool (truth_number b)
-truth_in true = (omega (arith, ints), omega (arith, ints))
-truth_in false = (omega (arith, ints), omega (arith, ints))
-
-pub truth_kept : (b : Bool) (n : ℤ) → n ≡ truth_number b → cast_signed w128 (cast_unsigned w128 n) ≡ truth_number b
-truth_kept b n is = ap (λ m. cast_signed w128 (cast_unsigned w128 m)) is ∙ kept_wide kinds.Bool (truth_number b) (truth_in b)
-
-pub fits_told : (t : DType) (n : ℤ) → check_fits t n ≡ Ok tt → in_range t n ≡ true
-unfolding check_fits
-fits_told t n e = passes (in_range t n) DoesNotFit e
+-- the number is kept in 128 bits
+pub ruleset truth_held = (truth_own, to_z-of_z)

@@ -1,5 +1,5 @@
 -- A number at all points of some axes.
-use Rattle.xr_formulas.proofs.Common.{Array, Axis, Bool, ChainFits, DType, InRange, IsPoint, List, Node, Some, Step, StepFits, StepsFit, Widen, [], ap, arith, at, chain_cells, chain_value, cond, false, has_none, length, length-map, lit<, literal, made, most_cells, most_dimensions, mul-le, nil_from_length, one_cell, or_parts, refl, shape_over, size, step_value, steps_cells, steps_value, subst, suc, sym, tab, tab-length, tab_same, true, widened, widens, without, ℕ, ℤ, ◌*◌, ◌++◌, ◌+◌, ◌<◌, ◌==◌, ◌||◌, ◌∙◌, ◌∷◌, ◌≡◌, ◌≤◌}
+use Rattle.xr_formulas.proofs.Common.{Array, Axis, Chain, ChainFits, DType, InRange, IsPoint, List, Node, Some, Step, StepFits, StepsFit, Widen, [], ap, arith, at, chain_cells, chain_value, cond_both, false, has_none, inl, inr, length, length-map, lit<, literal, made, most_cells, most_dimensions, mul-le, nil_from_length, one_cell, or_cases, or_parts, refl, shape_over, size, step_value, steps_cells, steps_value, subst, suc_times, sym, tab, tab-length, tab_same, true, widened, widens, without, zero_times, ℕ, ℤ, ◌*◌, ◌++◌, ◌+◌, ◌==◌, ◌∙◌, ◌∷◌, ◌≡◌, ◌≤◌}
 use Rattle.std.proofs.lemmas.Bool.Decides.{nat_tests}
 use Rattle.xr_formulas.specs.declared.chain.Start.TheVariants as starts
 use Rattle.xr_formulas.proofs.Points.{made_at}
@@ -28,17 +28,10 @@ rest_below x xs some = let up = mul-le 1 (size (shape_over xs)) x.size (size (sh
 
 no_points : (axes : List Axis) → has_none axes ≡ true → size (shape_over axes) ≡ 0
 no_points [] none = absurd cc
-no_points (x ∷ xs) none = by (x.size == 0) refl none (no_points xs)
+no_points (x ∷ xs) none = elim (or_cases (x.size == 0) (has_none xs) none) [ inl e ↦ first (grind (arith, nat_tests, e)) | inr e ↦ (let rest = no_points xs e in rw rest (omega arith)) ]
   where
-    zero_first : (m n : ℕ) → m ≡ 0 → m * n ≡ 0
-    zero_first m n e = grind (arith, e)
-
-    zero_last : (m n : ℕ) → n ≡ 0 → m * n ≡ 0
-    zero_last m n e = grind (arith, e)
-
-    by : (b : Bool) → (x.size == 0) ≡ b → (b || has_none xs) ≡ true → (has_none xs ≡ true → size (shape_over xs) ≡ 0) → x.size * size (shape_over xs) ≡ 0
-    by true is e rest = zero_first x.size (size (shape_over xs)) (grind (arith, nat_tests, is))
-    by false is e rest = zero_last x.size (size (shape_over xs)) (rest e)
+    first : x.size ≡ 0 → x.size * size (shape_over xs) ≡ 0
+    first e = rw (e, zero_times) refl
 
 -- ---- the chain
 
@@ -57,16 +50,13 @@ module _ (kind : DType) (n : ℤ) where
   spread_is [] = refl
   spread_is (x ∷ xs) = steps_both (widens xs) (Widen 0 x.size ∷ []) (one_cell kind n) ∙ ap (λ a. widened a 0 x.size) (spread_is xs) ∙ one_more x.size (shape_over xs)
 
-  widen_fits : (m : ℕ) (s : List ℕ) → m * size s ≤ most_cells → length s < most_dimensions → StepFits (Widen 0 m) (spread s)
-  widen_fits m s few low = record { fits = (lit< tt, omega arith); small = omega arith; low_rank = omega arith }
-
   spread_fits : (axes : List Axis) → has_none axes ≡ false → size (shape_over axes) ≤ most_cells → length axes ≤ most_dimensions → StepsFit (widens axes) (one_cell kind n)
   spread_fits [] some few low = tt
   spread_fits (x ∷ xs) some few low =
       let up = rest_below x xs some in
       let long = length-map xs (λ (y : Axis). y.size) in
       fit_both (widens xs) (Widen 0 x.size ∷ []) (one_cell kind n) (spread_fits xs (some_here x xs some).1 (omega arith) (omega arith))
-      (subst (StepFits (Widen 0 x.size)) (sym (spread_is xs)) (widen_fits x.size (shape_over xs) few (omega arith)), tt)
+      (subst (StepFits (Widen 0 x.size)) (sym (spread_is xs)) (record { fits = (lit< tt, omega arith); small = omega arith; low_rank = omega arith }), tt)
 
   spread_cells : (axes : List Axis) → has_none axes ≡ false → steps_cells (widens axes) (one_cell kind n) ≤ length axes * size (shape_over axes)
   spread_cells [] some = omega arith
@@ -76,40 +66,28 @@ module _ (kind : DType) (n : ℤ) where
       let both = cells_both (widens xs) (Widen 0 x.size ∷ []) (one_cell kind n) in
       let last : size (widened (steps_value (widens xs) (one_cell kind n)) 0 x.size).shape ≡ size (shape_over (x ∷ xs)) = ap (λ a. size (widened a 0 x.size).shape) (spread_is xs) in
       let most = mul-le (length xs) (size (shape_over xs)) (length xs) (size (shape_over (x ∷ xs))) (omega arith) up in
-      let all : suc (length xs) * size (shape_over (x ∷ xs)) ≡ length xs * size (shape_over (x ∷ xs)) + size (shape_over (x ∷ xs)) = more (length xs) (size (shape_over (x ∷ xs))) in
+      let all = suc_times (length xs) (size (shape_over (x ∷ xs))) in
       omega arith
-    where
-      more : (a b : ℕ) → suc a * b ≡ a * b + b
-      more a b = grind arith
 
   -- ---- with and without points
 
-  pub literal_is : (nodes : List Node) (axes : List Axis) → chain_value nodes (literal axes kind n) ≡ spread (shape_over axes)
-  literal_is nodes axes = by (has_none axes) refl
-    where
-      none : has_none axes ≡ true → tab (shape_over axes) (λ p. Some n) ≡ []
-      none e = nil_from_length (tab (shape_over axes) (λ p. Some n)) (tab-length (shape_over axes) (λ p. Some n) ∙ no_points axes e)
+  abbrev empty : List Axis → Chain
+  empty axes = record { start = starts.Empty kind (shape_over axes); steps = [] }
 
-      by : (b : Bool) → has_none axes ≡ b
-          → chain_value nodes (cond b (record { start = starts.Empty kind (shape_over axes); steps = [] }) (record { start = starts.Cell kind n; steps = widens axes })) ≡ spread (shape_over axes)
-      by true e = ap (λ cells. record { kind = kind; shape = shape_over axes; cells = cells }) (sym (none e))
-      by false e = spread_is axes
+  abbrev widened_cell : List Axis → Chain
+  widened_cell axes = record { start = starts.Cell kind n; steps = widens axes }
+
+  pub literal_is : (nodes : List Node) (axes : List Axis) → chain_value nodes (literal axes kind n) ≡ spread (shape_over axes)
+  literal_is nodes axes =
+      cond_both (has_none axes) (empty axes) (widened_cell axes) (λ c. chain_value nodes c ≡ spread (shape_over axes))
+      (λ e. ap (λ cells. record { kind = kind; shape = shape_over axes; cells = cells }) (sym (nil_from_length (tab (shape_over axes) (λ p. Some n)) (tab-length (shape_over axes) (λ p. Some n) ∙ no_points axes e)))) (λ e. spread_is axes)
 
   pub literal_fits : (nodes : List Node) (axes : List Axis) → InRange kind n → size (shape_over axes) ≤ most_cells → length axes ≤ most_dimensions → ChainFits nodes (literal axes kind n)
-  literal_fits nodes axes range few low = by (has_none axes) refl
-    where
-      by : (b : Bool) → has_none axes ≡ b
-          → ChainFits nodes (cond b (record { start = starts.Empty kind (shape_over axes); steps = [] }) (record { start = starts.Cell kind n; steps = widens axes }))
-      by true e = record { start = (no_points axes e, let long = length-map axes (λ (y : Axis). y.size) in omega arith); steps = tt }
-      by false e = record { start = range; steps = spread_fits axes e few low }
+  literal_fits nodes axes range few low =
+      let long = length-map axes (λ (y : Axis). y.size) in
+      cond_both (has_none axes) (empty axes) (widened_cell axes) (ChainFits nodes) (λ e. record { start = (no_points axes e, omega arith); steps = tt }) (λ e. record { start = range; steps = spread_fits axes e few low })
 
   pub literal_cells : (nodes : List Node) (axes : List Axis) → length axes ≤ most_dimensions → chain_cells nodes (literal axes kind n) ≤ 1 + 16 * size (shape_over axes)
-  literal_cells nodes axes low = by (has_none axes) refl
-    where
-      by : (b : Bool) → has_none axes ≡ b
-          → chain_cells nodes (cond b (record { start = starts.Empty kind (shape_over axes); steps = [] }) (record { start = starts.Cell kind n; steps = widens axes })) ≤ 1 + 16 * size (shape_over axes)
-      by true e = omega arith
-      by false e =
-          let all = spread_cells axes e in
-          let most = mul-le (length axes) (size (shape_over axes)) 16 (size (shape_over axes)) (omega arith) (omega arith) in
-          omega arith
+  literal_cells nodes axes low =
+      let most = mul-le (length axes) (size (shape_over axes)) 16 (size (shape_over axes)) (omega arith) (omega arith) in
+      cond_both (has_none axes) (empty axes) (widened_cell axes) (λ c. chain_cells nodes c ≤ 1 + 16 * size (shape_over axes)) (λ e. omega arith) (λ e. let all = spread_cells axes e in omega arith)

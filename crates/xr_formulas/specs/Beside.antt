@@ -1,6 +1,6 @@
 -- An operation of the cells of an array and a number.
 use Rattle.std.specs.Prelude.{◌≡◌, ◌&&◌, ◌||◌, ◌≤◌, ℤ, Bool, true, false, not, List, [], ◌∷◌, Option, is_some, if◌then◌else◌, int_lt}
-use Rattle.xr_types.specs.Kinds.{high, in_range, low}
+use Rattle.xr_types.specs.Kinds.{in_range, low}
 use Rattle.xr_types.specs.Names.{shape_over}
 use Rattle.xr_types.specs.Points.{size, tab}
 use Rattle.xr_types.specs.declared.attr.Attr.{Attr}
@@ -49,32 +49,26 @@ operand a kind = if is_truths a.kind && not (is_truths kind) then record { start
 
 -- ---- comparisons with numbers that a kind doesn't have
 
--- the comparison with its operands in the other order
-abbrev pub turned : OpKind → OpKind
-turned ops.Less = ops.Greater
-turned ops.LessEqual = ops.GreaterEqual
-turned ops.Greater = ops.Less
-turned ops.GreaterEqual = ops.LessEqual
-turned op = op
+-- whether it holds of a number and one above it, or of a number and one below it
+abbrev pub holds : OpKind → Bool → Bool
+holds ops.Less up = up
+holds ops.LessEqual up = up
+holds ops.Greater up = not up
+holds ops.GreaterEqual up = not up
+holds ops.NotEqual up = true
+holds op up = false
 
-abbrev pub seen_from : Side → OpKind → OpKind
-seen_from Left op = turned op
-seen_from Right op = op
+-- whether a number of a kind and one below or above the kind ascend, with that on its side
+abbrev pub ascending : Side → Bool → Bool
+ascending Left below = below
+ascending Right below = not below
 
--- whether it holds of a number and one above it; turned, of a number and one below it
-abbrev pub holds_below : OpKind → Bool
-holds_below ops.Less = true
-holds_below ops.LessEqual = true
-holds_below ops.NotEqual = true
-holds_below op = false
-
--- a comparison with a number below or above a kind says the same as one with the kind's least or greatest number
-abbrev pub beyond : DType → OpKind → Bool → Placed
-beyond t op true = record { side = Right; op = if holds_below (turned op) then ops.GreaterEqual else ops.Less; number = low t }
-beyond t op false = record { side = Right; op = if holds_below op then ops.LessEqual else ops.Greater; number = high t }
+-- a comparison with the kind's least number that holds of each number of the kind, or of none
+abbrev pub always : DType → Bool → Placed
+always t b = record { side = Right; op = if b then ops.GreaterEqual else ops.Less; number = low t }
 
 abbrev pub within_kind : DType → Placed → Placed
-within_kind t p = if in_range t p.number then p else beyond t (seen_from p.side p.op) (int_lt p.number (low t))
+within_kind t p = if in_range t p.number then p else always t (holds p.op (ascending p.side (int_lt p.number (low t))))
 
 -- ---- what it takes
 

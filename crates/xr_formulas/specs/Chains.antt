@@ -29,9 +29,8 @@ start_value nodes (starts.Empty kind shape) = no_cells kind shape
 
 -- the cells that it adds
 abbrev pub start_cells : Start → ℕ
-start_cells (starts.Node n) = 0
 start_cells (starts.Cell kind n) = 1
-start_cells (starts.Empty kind shape) = 0
+start_cells start = 0
 
 abbrev pub StartFits : List Node → Start → Type 0
 StartFits nodes (starts.Node n) = n < length nodes

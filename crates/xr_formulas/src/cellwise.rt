@@ -16,10 +16,7 @@ use xr_values::{DataArray, without_fills};
 fn masked_after(op: OpKind, masked: bool) -> bool
     ensures { result ≡ masked_after op masked }
 {
-    match op {
-        OpKind::IsNull | OpKind::NotNull => false,
-        _ => masked,
-    }
+    !matches!(op, OpKind::IsNull | OpKind::NotNull) && masked
 }
 
 /// An array with this operation on each of its cells, and with these attributes.

@@ -1,17 +1,17 @@
 //! Steps from the cells of one node to those of an array.
-ghost use Rattle.std.specs.Prelude.{◌≡◌, ◌<◌, ◌≤◌, [], ◌∷◌, length, IfOk};
+ghost use Rattle.std.specs.Prelude.{◌≡◌, ◌≤◌, [], ◌∷◌, length, IfOk};
+ghost use Rattle.xr_types.specs.Kinds.{InRange};
 ghost use Rattle.xr_types.specs.Points.{size};
 ghost use Rattle.xr_arrays.specs.Added.{AddsAtMost};
 ghost use Rattle.xr_arrays.specs.Arrays.{IsArray};
-ghost use Rattle.xr_arrays.specs.Nodes.{value, most_axes, most_node_cells};
+ghost use Rattle.xr_arrays.specs.Nodes.{most_axes, most_node_cells};
 ghost use Rattle.plan_core.specs.Plans.{Grows};
 ghost use Rattle.xr_formulas.specs.declared.chain.Start.TheVariants as starts;
-ghost use Rattle.xr_formulas.specs.Chains.{chain_cells, chain_value, start_cells, start_value, step_node, steps_cells, steps_value, ChainFits, IsValueOf, StartFits, StepsFit};
+ghost use Rattle.xr_formulas.specs.Chains.{chain_cells, chain_value, no_cells, one_cell, start_cells, start_value, step_node, ChainFits, IsValueOf, StartFits};
 
-use crate::sources::{no_cells, one_cell};
 use plan_core::Plan;
 use std::alloc::{AllocError, Global};
-use xr_arrays::{ArrayValue, Feed, Node, Sources};
+use xr_arrays::{ArrayValue, Cells, Feed, Node, Sources};
 use xr_types::{DType, DeepCopy, FoldKind, Items, NoMemory, NodeId, OpKind, Shape};
 
 /// Where a chain begins.
@@ -57,20 +57,12 @@ impl Step {
         ensures { IfOk result (λ n. n ≡ step_node self.now input) }
     {
         match self {
-            Step::Unary(op, kind) => Ok(Node::Unary {
-                op: *op,
-                kind: *kind,
-                input,
-            }),
-            Step::Widen(axis, size) => Ok(Node::Widen {
-                input,
-                axis: *axis,
-                size: *size,
-            }),
-            Step::Reorder(order) => Ok(Node::Reorder {
-                input,
-                order: Shape::from_slice(order.as_slice()),
-            }),
+            &Step::Unary(op, kind) => Ok(Node::Unary { op, kind, input }),
+            &Step::Widen(axis, size) => Ok(Node::Widen { input, axis, size }),
+            Step::Reorder(order) => {
+                let order = Shape::from_slice(order.as_slice());
+                Ok(Node::Reorder { input, order })
+            }
             Step::Take {
                 axis,
                 from,
@@ -88,11 +80,7 @@ impl Step {
                 input,
                 feeds: feeds.deep_copy(alloc)?,
             }),
-            Step::Scan(fold, axis) => Ok(Node::Scan {
-                fold: *fold,
-                input,
-                axis: *axis,
-            }),
+            &Step::Scan(fold, axis) => Ok(Node::Scan { fold, input, axis }),
         }
     }
 }
@@ -115,6 +103,43 @@ pub fn one_step(alloc: Global, node: NodeId, step: Step) -> Result<Chain, AllocE
     steps.push(step)?;
     let start = Start::Node(node);
     Ok(Chain { start, steps })
+}
+
+// Cells of a kind: one, or none.
+macro_rules! typed_cells {
+    ($alloc:expr, $kind:expr, [$($n:expr)?]) => {
+        match $kind {
+            DType::Bool => Cells::Bool(Items::of(vec![in $alloc $(; $n as u8)?]?)),
+            DType::Char => Cells::Char(Items::of(vec![in $alloc $(; $n as u8)?]?)),
+            DType::Int8 => Cells::Int8(Items::of(vec![in $alloc $(; $n as i8)?]?)),
+            DType::Int16 => Cells::Int16(Items::of(vec![in $alloc $(; $n as i16)?]?)),
+            DType::Int32 => Cells::Int32(Items::of(vec![in $alloc $(; $n as i32)?]?)),
+            DType::Int64 => Cells::Int64(Items::of(vec![in $alloc $(; $n as i64)?]?)),
+            DType::UInt8 => Cells::UInt8(Items::of(vec![in $alloc $(; $n as u8)?]?)),
+            DType::UInt16 => Cells::UInt16(Items::of(vec![in $alloc $(; $n as u16)?]?)),
+            DType::UInt32 => Cells::UInt32(Items::of(vec![in $alloc $(; $n as u32)?]?)),
+            DType::UInt64 => Cells::UInt64(Items::of(vec![in $alloc $(; $n as u64)?]?)),
+        }
+    };
+}
+
+// An array without axes, whose cell is this number.
+fn one_cell(alloc: Global, kind: DType, n: i128) -> Result<ArrayValue, AllocError>
+    requires { InRange kind n }
+    ensures { IfOk result (λ a. a ≡ one_cell kind n) }
+{
+    let cells = typed_cells!(alloc, kind, [n]);
+    Ok(ArrayValue::of(Items::new(alloc), cells, None))
+}
+
+// An array without cells.
+fn no_cells(alloc: Global, kind: DType, sizes: &[u64]) -> Result<ArrayValue, AllocError>
+    requires { size sizes.now ≡ 0 }
+    ensures { IfOk result (λ a. a ≡ no_cells kind sizes.now) }
+{
+    let shape = Items::from_slice(alloc, sizes)?;
+    let cells = typed_cells!(alloc, kind, []);
+    Ok(ArrayValue::of(shape, cells, None))
 }
 
 // A node with these cells.
@@ -143,26 +168,6 @@ fn push_start(alloc: Global, plan: &mut Plan, start: &Start) -> Result<NodeId, N
     }
 }
 
-fn push_steps(
-    alloc: Global,
-    plan: &mut Plan,
-    input: NodeId,
-    steps: &[Step],
-) -> Result<NodeId, NoMemory>
-    requires inside { input < length plan.old }
-    requires fits { StepsFit steps.now (value plan.old input) }
-    ensures value { IfOk result (IsValueOf plan.new (steps_value steps.now (value plan.old input))) }
-    ensures grows { Grows plan.old plan.new }
-    ensures cells { IfOk result (λ n. AddsAtMost plan.old plan.new (steps_cells steps.now (value plan.old input))) }
-{
-    let mut node = input;
-    for step in steps {
-        let next = step.node(alloc, node)?;
-        node = plan.push(next)?;
-    }
-    Ok(node)
-}
-
 /// The node after the steps of a chain, which are added to the plan.
 pub fn push_chain(alloc: Global, plan: &mut Plan, chain: &Chain) -> Result<NodeId, NoMemory>
     requires { ChainFits plan.old chain.now }
@@ -171,6 +176,11 @@ pub fn push_chain(alloc: Global, plan: &mut Plan, chain: &Chain) -> Result<NodeI
     ensures cells { IfOk result (λ n. AddsAtMost plan.old plan.new (chain_cells plan.old chain.now)) }
 {
     let first = push_start(alloc, plan, &chain.start)?;
-    let node = push_steps(alloc, plan, first, chain.steps.as_slice())?;
+    let steps = chain.steps.as_slice();
+    let mut node = first;
+    for step in steps {
+        let next = step.node(alloc, node)?;
+        node = plan.push(next)?;
+    }
     Ok(node)
 }

@@ -11,21 +11,14 @@ use xr_types::DType;
 pub fn is_integer_kind(kind: DType) -> bool
     ensures { result ≡ of_integers kind }
 {
-    match kind {
-        DType::Bool | DType::Char => false,
-        DType::Int8 | DType::Int16 | DType::Int32 | DType::Int64 => true,
-        DType::UInt8 | DType::UInt16 | DType::UInt32 | DType::UInt64 => true,
-    }
+    !matches!(kind, DType::Bool | DType::Char)
 }
 
 /// Whether a kind is that of bytes of text.
 pub fn is_chars(kind: DType) -> bool
     ensures { result ≡ of_chars kind }
 {
-    match kind {
-        DType::Char => true,
-        _ => false,
-    }
+    matches!(kind, DType::Char)
 }
 
 /// Whether a kind is that of truth values.

@@ -9,7 +9,6 @@ mod made;
 mod methods;
 mod numbers;
 mod operators;
-mod sources;
 mod valued;
 
 pub use cellwise::{changed, of_method};

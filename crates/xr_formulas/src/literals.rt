@@ -10,10 +10,7 @@ use xr_types::{Axis, DType, Items, MOST_DIMENSIONS, Shape};
 fn has_none(axes: &[Axis]) -> bool
     ensures { result ≡ has_none axes.now }
 {
-    match axes {
-        [] => false,
-        [axis, rest @ ..] => axis.size == 0 || has_none(rest),
-    }
+    axes.iter().any(|axis| axis.size == 0)
 }
 
 // Adds the sizes of axes, of which there are no more than a shape holds.

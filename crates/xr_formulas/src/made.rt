@@ -1,13 +1,11 @@
 //! What a call makes, before its cells stand in a plan.
-ghost use Rattle.std.specs.Prelude.{◌≡◌, ◌+◌, IfOk};
-ghost use Rattle.xr_types.specs.Points.{size};
+ghost use Rattle.std.specs.Prelude.{◌≡◌, IfOk};
 ghost use Rattle.xr_arrays.specs.Added.{AddsAtMost};
-ghost use Rattle.xr_arrays.specs.Elements.{choose_of};
 ghost use Rattle.xr_defs.specs.Room.{AddsForAny};
 ghost use Rattle.plan_core.specs.Plans.{Grows};
 ghost use Rattle.xr_values.specs.Stands.{array_in};
-ghost use Rattle.xr_formulas.specs.Chains.{chain_cells, chain_value, ChainFits, IsValueOf};
-ghost use Rattle.xr_formulas.specs.Mades.{formula_cells, formula_value, like, made_in, paired, Choices, FormulaFits, IsArrayOf, IsMade, Match};
+ghost use Rattle.xr_formulas.specs.Chains.{IsValueOf};
+ghost use Rattle.xr_formulas.specs.Mades.{formula_cells, formula_value, like, made_in, FormulaFits, IsArrayOf, IsMade};
 
 use crate::chain::{Chain, push_chain};
 use plan_core::Plan;
@@ -63,48 +61,6 @@ pub fn like(
     })
 }
 
-fn push_pair(
-    alloc: Global,
-    plan: &mut Plan,
-    op: OpKind,
-    one: &Chain,
-    other: &Chain,
-) -> Result<NodeId, NoMemory>
-    requires one { ChainFits plan.old one.now }
-    requires other { ChainFits plan.old other.now }
-    requires both { Match op (chain_value plan.old one.now) (chain_value plan.old other.now) }
-    ensures value { IfOk result (IsValueOf plan.new (paired op (chain_value plan.old one.now) (chain_value plan.old other.now))) }
-    ensures grows { Grows plan.old plan.new }
-    ensures cells { IfOk result (λ n. AddsAtMost plan.old plan.new (chain_cells plan.old one.now + chain_cells plan.old other.now + size (chain_value plan.old one.now).shape)) }
-{
-    let a = push_chain(alloc, plan, one)?;
-    let b = push_chain(alloc, plan, other)?;
-    let node = plan.push(Node::Binary { op, a, b })?;
-    Ok(node)
-}
-
-fn push_choice(
-    alloc: Global,
-    plan: &mut Plan,
-    test: &Chain,
-    one: &Chain,
-    other: &Chain,
-) -> Result<NodeId, NoMemory>
-    requires test { ChainFits plan.old test.now }
-    requires one { ChainFits plan.old one.now }
-    requires other { ChainFits plan.old other.now }
-    requires all { Choices (chain_value plan.old test.now) (chain_value plan.old one.now) (chain_value plan.old other.now) }
-    ensures value { IfOk result (IsValueOf plan.new (choose_of (chain_value plan.old test.now) (chain_value plan.old one.now) (chain_value plan.old other.now))) }
-    ensures grows { Grows plan.old plan.new }
-    ensures cells { IfOk result (λ n. AddsAtMost plan.old plan.new (chain_cells plan.old test.now + chain_cells plan.old one.now + chain_cells plan.old other.now + size (chain_value plan.old one.now).shape)) }
-{
-    let cond = push_chain(alloc, plan, test)?;
-    let a = push_chain(alloc, plan, one)?;
-    let b = push_chain(alloc, plan, other)?;
-    let node = plan.push(Node::Choose { cond, a, b })?;
-    Ok(node)
-}
-
 /// The node of a formula. Its nodes are added to the plan.
 pub fn push_formula(alloc: Global, plan: &mut Plan, formula: &Formula) -> Result<NodeId, NoMemory>
     requires { FormulaFits plan.old formula.now }
@@ -114,8 +70,19 @@ pub fn push_formula(alloc: Global, plan: &mut Plan, formula: &Formula) -> Result
 {
     match formula {
         Formula::One(chain) => push_chain(alloc, plan, chain),
-        Formula::Two(op, one, other) => push_pair(alloc, plan, *op, one, other),
-        Formula::Three(test, one, other) => push_choice(alloc, plan, test, one, other),
+        Formula::Two(op, one, other) => {
+            let a = push_chain(alloc, plan, one)?;
+            let b = push_chain(alloc, plan, other)?;
+            let node = plan.push(Node::Binary { op: *op, a, b })?;
+            Ok(node)
+        }
+        Formula::Three(test, one, other) => {
+            let cond = push_chain(alloc, plan, test)?;
+            let a = push_chain(alloc, plan, one)?;
+            let b = push_chain(alloc, plan, other)?;
+            let node = plan.push(Node::Choose { cond, a, b })?;
+            Ok(node)
+        }
     }
 }
 

@@ -1,7 +1,6 @@
 //! Methods of one array that work cell by cell.
 ghost use Rattle.std.specs.Prelude.{◌≡◌, not, false, List};
 ghost use Rattle.xr_types.specs.Results.{unless, Answers};
-ghost use Rattle.xr_types.specs.declared.fault.Fault.TheVariants.{WrongKind};
 ghost use Rattle.xr_types.specs.declared.kind.DType.TheVariants as kinds;
 ghost use Rattle.xr_arrays.specs.declared.node.Node.{Node};
 ghost use Rattle.xr_operations.specs.CellMethods as calls;
@@ -32,34 +31,28 @@ fn tested(alloc: Global, op: OpKind, on: &DataArray, args: &Args) -> Result<Made
     Ok(made)
 }
 
-#[tactic(auto, unfolding(xr_operations::specs::CellMethods::kind_called))]
-fn kind_called(name: &TextBytes) -> Result<DType, CallFault>
-    ensures { Answers (λ k. k) result (calls.kind_called name.now) }
-{
-    match kind_named(name.as_str()) {
-        Some(kind) => Ok(kind),
-        None => Err(CallFault::Refused(Fault::BadArgument)),
-    }
-}
-
+// Refuses what doesn't hold.
 #[tactic(auto, unfolding(xr_types::specs::Results::unless))]
-pub(crate) fn check_kind(fits: bool) -> Result<(), CallFault>
-    ensures { Answers (λ u. u) result (unless fits WrongKind) }
+pub(crate) fn check(holds: bool, fault: Fault) -> Result<(), CallFault>
+    ensures { Answers (λ u. u) result (unless holds fault) }
 {
-    if fits {
+    if holds {
         Ok(())
     } else {
-        Err(CallFault::Refused(Fault::WrongKind))
+        Err(CallFault::Refused(fault))
     }
 }
 
 // `astype(kind)`
-#[tactic(auto, using(crate::proofs::Answered::answered, crate::proofs::Answered::casts), unfolding(xr_operations::specs::CellMethods::cast_called))]
+#[tactic(auto, using(crate::proofs::Answered::answered), unfolding(xr_operations::specs::CellMethods::cast_called, xr_operations::specs::CellMethods::kind_called))]
 fn cast_called(alloc: Global, on: &DataArray, args: &Args) -> Result<Made, CallFault>
     ensures { (nodes : List Node) → IsArrayIn nodes on.now → AnswersMade nodes result (calls.cast_called (array_in nodes on.now) (given nodes args.now)) }
 {
-    check_kind(!is_chars(on.kind))?;
-    let kind = kind_called(as_text(only(args, "kind")?)?)?;
+    check(!is_chars(on.kind), Fault::WrongKind)?;
+    let text = as_text(only(args, "kind")?)?;
+    let Some(kind) = kind_named(text.as_str()) else {
+        return Err(CallFault::Refused(Fault::BadArgument));
+    };
     let attrs = on.attrs.deep_copy(alloc)?;
     let made = changed(alloc, on, OpKind::Cast, kind, attrs)?;
     Ok(made)
@@ -70,13 +63,9 @@ fn cast_called(alloc: Global, on: &DataArray, args: &Args) -> Result<Made, CallF
 fn the_one(args: &Args) -> Result<&Value, CallFault>
     ensures { (nodes : List Node) → Answers (λ v. meaning nodes v.now) result (calls.the_one (given nodes args.now)) }
 {
-    match args.plain.as_slice() {
-        [] => Err(CallFault::Refused(Fault::BadArgument)),
-        [argument] => match args.keyed.as_slice() {
-            [] => Ok(argument),
-            [_, ..] => Err(CallFault::Refused(Fault::BadArgument)),
-        },
-        [_, _, ..] => Err(CallFault::Refused(Fault::BadArgument)),
+    match (args.plain.as_slice(), args.keyed.as_slice()) {
+        ([argument], []) => Ok(argument),
+        _ => Err(CallFault::Refused(Fault::BadArgument)),
     }
 }
 
@@ -90,11 +79,11 @@ pub fn literal_for(kind: DType, value: &Value) -> Result<i128, CallFault>
 {
     match value {
         Value::Number(n) => {
-            check_kind(!is_truths(kind))?;
+            check(!is_truths(kind), Fault::WrongKind)?;
             Ok(*n)
         }
         Value::Truth(truth) => {
-            check_kind(is_truths(kind))?;
+            check(is_truths(kind), Fault::WrongKind)?;
             Ok(truth_number(*truth))
         }
         _ => Err(CallFault::Refused(Fault::WrongKind)),
@@ -105,19 +94,15 @@ pub fn literal_for(kind: DType, value: &Value) -> Result<i128, CallFault>
 ///
 /// # Errors
 /// `DoesNotFit`.
-#[tactic(auto, unfolding(xr_operations::specs::CellMethods::check_fits, xr_types::specs::Results::unless))]
+#[tactic(auto, unfolding(xr_operations::specs::CellMethods::check_fits))]
 pub fn check_fits(kind: DType, n: i128) -> Result<(), CallFault>
     ensures { Answers (λ u. u) result (calls.check_fits kind n) }
 {
-    if fits(kind, n) {
-        Ok(())
-    } else {
-        Err(CallFault::Refused(Fault::DoesNotFit))
-    }
+    check(fits(kind, n), Fault::DoesNotFit)
 }
 
 // `fillna(literal)`
-#[tactic(auto, using(crate::proofs::Answered::answered), unfolding(xr_operations::specs::CellMethods::fill_called))]
+#[tactic(auto, using(crate::proofs::Answered::answered, crate::proofs::Sorts::passes), unfolding(xr_operations::specs::CellMethods::fill_called, xr_operations::specs::CellMethods::check_fits))]
 fn fill_called(alloc: Global, on: &DataArray, args: &Args) -> Result<Made, CallFault>
     ensures { (nodes : List Node) → IsArrayIn nodes on.now → AnswersMade nodes result (calls.fill_called (array_in nodes on.now) (given nodes args.now)) }
 {
@@ -131,7 +116,7 @@ fn fill_called(alloc: Global, on: &DataArray, args: &Args) -> Result<Made, CallF
 ///
 /// # Errors
 /// `UnknownName` for any other; then those of the method.
-#[tactic(auto, using(crate::proofs::Answered::tests_missing, crate::proofs::Answered::tests_present), unfolding(xr_operations::specs::Methods::array_method))]
+#[tactic(auto, unfolding(xr_operations::specs::Methods::array_method))]
 pub fn array_method(
     alloc: Global,
     name: &TextBytes,
@@ -140,16 +125,11 @@ pub fn array_method(
 ) -> Result<Made, CallFault>
     ensures { (nodes : List Node) → IsArrayIn nodes on.now → AnswersMade nodes result (methods.array_method name.now (array_in nodes on.now) (given nodes args.now)) }
 {
-    let called = name.as_str();
-    if called == "isnull" {
-        tested(alloc, OpKind::IsNull, on, args)
-    } else if called == "notnull" {
-        tested(alloc, OpKind::NotNull, on, args)
-    } else if called == "astype" {
-        cast_called(alloc, on, args)
-    } else if called == "fillna" {
-        fill_called(alloc, on, args)
-    } else {
-        Err(CallFault::Refused(Fault::UnknownName(name.deep_copy(alloc)?)))
+    match name.as_str() {
+        "isnull" => tested(alloc, OpKind::IsNull, on, args),
+        "notnull" => tested(alloc, OpKind::NotNull, on, args),
+        "astype" => cast_called(alloc, on, args),
+        "fillna" => fill_called(alloc, on, args),
+        _ => Err(CallFault::Refused(Fault::UnknownName(name.deep_copy(alloc)?))),
     }
 }

@@ -7,11 +7,11 @@ ghost use Rattle.xr_defs.specs.WellFormed.{AreAttributes};
 ghost use Rattle.xr_operations.specs.Arithmetic.{is_truths as of_truths, with_literal};
 ghost use Rattle.xr_operations.specs.CellMethods.{filled_with};
 ghost use Rattle.xr_values.specs.Stands.{array_in, IsArrayIn};
-ghost use Rattle.xr_formulas.specs.Beside.{beyond, formula_beside, holds_below, operand, placed_on, turned, within_kind, Fills, IsOver, IsPlaced};
+ghost use Rattle.xr_formulas.specs.Beside.{formula_beside, holds, operand, placed_on, within_kind, Fills, IsOver, IsPlaced};
 ghost use Rattle.xr_formulas.specs.Mades.{Makes};
 
 use crate::chain::{Chain, Step, cells_of, one_step};
-use crate::kinds::{fits, greatest, is_truths, least};
+use crate::kinds::{fits, is_truths, least};
 use crate::literals::literal;
 use crate::made::{Formula, Made, like};
 use std::alloc::{AllocError, Global};
@@ -44,69 +44,44 @@ pub fn result_kind(op: OpKind, kind: DType) -> DType
     if is_comparison(op) { DType::Bool } else { kind }
 }
 
-fn turned(op: OpKind) -> OpKind
-    ensures { result ≡ turned op }
+// Whether a comparison holds of a number and one above it, or of a number and one below it.
+fn holds(op: OpKind, ascending: bool) -> bool
+    ensures { result ≡ holds op ascending }
 {
     match op {
-        OpKind::Less => OpKind::Greater,
-        OpKind::LessEqual => OpKind::GreaterEqual,
-        OpKind::Greater => OpKind::Less,
-        OpKind::GreaterEqual => OpKind::LessEqual,
-        _ => op,
-    }
-}
-
-fn holds_below(op: OpKind) -> bool
-    ensures { result ≡ holds_below op }
-{
-    match op {
-        OpKind::Less | OpKind::LessEqual | OpKind::NotEqual => true,
+        OpKind::Less | OpKind::LessEqual => ascending,
+        OpKind::Greater | OpKind::GreaterEqual => !ascending,
+        OpKind::NotEqual => true,
         _ => false,
     }
 }
 
-fn beyond(kind: DType, op: OpKind, below: bool) -> Placed
-    ensures { result ≡ beyond kind op below }
-{
-    if below {
-        Placed {
-            side: Side::Right,
-            op: if holds_below(turned(op)) {
-                OpKind::GreaterEqual
-            } else {
-                OpKind::Less
-            },
-            number: least(kind),
-        }
-    } else {
-        Placed {
-            side: Side::Right,
-            op: if holds_below(op) {
-                OpKind::LessEqual
-            } else {
-                OpKind::Greater
-            },
-            number: greatest(kind),
-        }
-    }
-}
-
 // A comparison with a number that the kind doesn't have, as one with a number that it has.
-pub(crate) fn within_kind(kind: DType, placed: Placed) -> Placed
+fn within_kind(kind: DType, placed: Placed) -> Placed
     ensures { result ≡ within_kind kind placed }
 {
     if fits(kind, placed.number) {
         placed
     } else {
-        let op = match placed.side {
-            Side::Left => turned(placed.op),
-            Side::Right => placed.op,
+        let below = placed.number < least(kind);
+        let up = match placed.side {
+            Side::Left => below,
+            Side::Right => !below,
         };
-        beyond(kind, op, placed.number < least(kind))
+        let op = if holds(placed.op, up) {
+            OpKind::GreaterEqual
+        } else {
+            OpKind::Less
+        };
+        Placed {
+            side: Side::Right,
+            op,
+            number: least(kind),
+        }
     }
 }
 
-pub(crate) fn operand(alloc: Global, on: &DataArray, kind: DType) -> Result<Chain, AllocError>
+fn operand(alloc: Global, on: &DataArray, kind: DType) -> Result<Chain, AllocError>
     ensures { IfOk result (λ c. c ≡ operand on.now kind) }
 {
     if is_truths(on.kind) && !is_truths(kind) {
@@ -174,15 +149,11 @@ pub fn filled(alloc: Global, on: &DataArray, n: i128) -> Result<Made, AllocError
 {
     let attrs = on.attrs.deep_copy(alloc)?;
     let cells = cells_of(alloc, on.node);
-    let (side, op, number) = (Side::Right, OpKind::FillNa, n);
-    let made = beside(
-        alloc,
-        on,
-        cells,
-        on.kind,
-        Placed { side, op, number },
-        false,
-        attrs,
-    )?;
+    let placed = Placed {
+        side: Side::Right,
+        op: OpKind::FillNa,
+        number: n,
+    };
+    let made = beside(alloc, on, cells, on.kind, placed, false, attrs)?;
     Ok(made)
 }

@@ -12,7 +12,7 @@ ghost use Rattle.xr_formulas.specs.Mades.{AnswersMade};
 use crate::cellwise::of_method;
 use crate::kinds::{fits, is_chars, is_integer_kind, is_truths, number_kind, truth_number};
 use crate::made::Made;
-use crate::methods::check_kind;
+use crate::methods::check;
 use crate::numbers::{Placed, is_comparison, with_literal};
 use std::alloc::Global;
 use xr_operations::Side;
@@ -25,20 +25,10 @@ use xr_values::DataArray;
 fn joins_truths(op: OpKind) -> bool
     ensures { result ≡ calls.takes_truths (calls.sort_of op) }
 {
-    match op {
-        OpKind::And | OpKind::Or | OpKind::Xor => true,
-        OpKind::Equal | OpKind::NotEqual => true,
-        _ => false,
-    }
-}
-
-// `/`, and what isn't written between two operands
-#[tactic(auto, unfolding(xr_operations::specs::Arithmetic::check_kinds))]
-fn check_division(a: DType, b: DType) -> Result<(), CallFault>
-    ensures { Answers (λ u. u) result (calls.check_kinds calls.Division a b) }
-{
-    check_kind(!(is_chars(a) || is_chars(b)))?;
-    Err(CallFault::Refused(Fault::WouldPromote))
+    matches!(
+        op,
+        OpKind::And | OpKind::Or | OpKind::Xor | OpKind::Equal | OpKind::NotEqual
+    )
 }
 
 #[tactic(auto, unfolding(xr_operations::specs::Arithmetic::check_kinds))]
@@ -46,13 +36,18 @@ fn check_kinds(op: OpKind, a: DType, b: DType) -> Result<(), CallFault>
     ensures { Answers (λ u. u) result (calls.check_kinds (calls.sort_of op) a b) }
 {
     let plain = !(is_chars(a) || is_chars(b));
-    let whole = is_integer_kind(a) || is_integer_kind(b);
+    let whole = plain && (is_integer_kind(a) || is_integer_kind(b));
     match op {
-        OpKind::Add | OpKind::Subtract | OpKind::Multiply => check_kind(plain && whole),
-        OpKind::FloorDivide | OpKind::Remainder => check_kind(plain && whole),
-        OpKind::Divide | OpKind::Negate | OpKind::Invert => check_division(a, b),
-        OpKind::IsNull | OpKind::NotNull | OpKind::FillNa | OpKind::Cast => check_division(a, b),
-        _ => check_kind(plain),
+        OpKind::Add | OpKind::Subtract | OpKind::Multiply => check(whole, Fault::WrongKind),
+        OpKind::FloorDivide | OpKind::Remainder => check(whole, Fault::WrongKind),
+        OpKind::And | OpKind::Or | OpKind::Xor => check(plain, Fault::WrongKind),
+        OpKind::Equal | OpKind::NotEqual => check(plain, Fault::WrongKind),
+        OpKind::Less | OpKind::LessEqual => check(plain, Fault::WrongKind),
+        OpKind::Greater | OpKind::GreaterEqual => check(plain, Fault::WrongKind),
+        _ => {
+            check(plain, Fault::WrongKind)?;
+            Err(CallFault::Refused(Fault::WouldPromote))
+        }
     }
 }
 
@@ -77,36 +72,25 @@ pub fn common_kind(op: OpKind, a: DType, b: DType) -> Result<DType, CallFault>
 ///
 /// # Errors
 /// `WrongKind` for other kinds and other operators.
-#[tactic(auto, using(crate::proofs::Answered::answered, crate::proofs::Answered::inverts, crate::proofs::Answered::negates), unfolding(xr_operations::specs::Arithmetic::of_one_array, xr_operations::specs::Arithmetic::check_unary, xr_types::specs::Results::unless))]
+#[tactic(auto, using(crate::proofs::Answered::answered, crate::proofs::Answered::negates), unfolding(xr_operations::specs::Arithmetic::of_one_array, xr_operations::specs::Arithmetic::check_unary, xr_types::specs::Results::unless))]
 pub fn unary(alloc: Global, op: OpKind, on: &DataArray) -> Result<Made, CallFault>
     ensures { (nodes : List Node) → IsArrayIn nodes on.now → AnswersMade nodes result (calls.of_one_array op (array_in nodes on.now)) }
 {
     match op {
-        OpKind::Negate => {
-            check_kind(is_integer_kind(on.kind))?;
-            let made = of_method(alloc, on, OpKind::Negate, on.kind)?;
-            Ok(made)
-        }
-        OpKind::Invert => {
-            check_kind(!is_chars(on.kind))?;
-            let made = of_method(alloc, on, OpKind::Invert, on.kind)?;
-            Ok(made)
-        }
-        _ => Err(CallFault::Refused(Fault::WrongKind)),
+        OpKind::Negate => check(is_integer_kind(on.kind), Fault::WrongKind)?,
+        OpKind::Invert => check(!is_chars(on.kind), Fault::WrongKind)?,
+        _ => return Err(CallFault::Refused(Fault::WrongKind)),
     }
+    let made = of_method(alloc, on, op, on.kind)?;
+    Ok(made)
 }
 
 // ---- an array and a literal
 
-#[tactic(auto, unfolding(xr_types::specs::Results::unless))]
 fn check_fits(op: OpKind, kind: DType, n: i128) -> Result<(), CallFault>
     ensures { Answers (λ u. u) result (unless (compares op || in_range kind n) DoesNotFit) }
 {
-    if is_comparison(op) || fits(kind, n) {
-        Ok(())
-    } else {
-        Err(CallFault::Refused(Fault::DoesNotFit))
-    }
+    check(is_comparison(op) || fits(kind, n), Fault::DoesNotFit)
 }
 
 /// What an operator between an array and a whole number makes, with the number on this side. The number has the array's kind, or
@@ -131,18 +115,17 @@ pub fn with_number(
     Ok(made)
 }
 
-#[tactic(auto, unfolding(xr_operations::specs::Arithmetic::check_truths, xr_types::specs::Results::unless))]
 fn check_truths(op: OpKind, kind: DType) -> Result<(), CallFault>
     ensures { Answers (λ u. u) result (calls.check_truths op kind) }
 {
-    check_kind(is_truths(kind) && joins_truths(op))
+    check(is_truths(kind) && joins_truths(op), Fault::WrongKind)
 }
 
 /// What an operator between an array of truth values and a truth value makes, with the truth value on this side.
 ///
 /// # Errors
 /// `WrongKind` for other arrays, and for operators that truth values don't have.
-#[tactic(auto, unfolding(xr_operations::specs::Arithmetic::of_truth))]
+#[tactic(auto, using(crate::proofs::Sorts::truth_held), unfolding(xr_operations::specs::Arithmetic::of_truth))]
 pub fn with_truth(
     alloc: Global,
     side: Side,

@@ -15,6 +15,7 @@ use xr_values::Value;
 
 /// What a call makes, as a value of the plan. Its cells are those of nodes that are added, no more than the value leaves room for
 /// beside any operands.
+#[tactic(auto, using(crate::proofs::Rooms::array_room))]
 pub fn called(alloc: Global, plan: &mut Plan, made: Made) -> Result<Value, NoMemory>
     requires { IsMade plan.old made }
     ensures means { IfOk result (StandsFor plan.new (Array (made_in plan.old made))) }

@@ -1,57 +1,113 @@
--- What a result carries is well formed where its operands are.
-use Rattle.xr_values.proofs.Common.{All, All-cons, All-head, All-nil, All-tail, All-weaker, AllByRecursion, AreAttributes, AreDimensions, Attr, Axis, Bool, Carry, Coord, IsAttribute, IsCoordinate, List, MatchOption, None, [], among, and_from, and_parts, ap, are_distinct, attr_rule, axis_names, bytes_eq, carried, cond_both, coord_rule, coords_among, false, filter, filter_passes, first_called, first_named, flat_map, has_place, is_agreed, is_name, is_shared, joined_attrs, joined_coord, list_all, list_any-append, map, map-map, name_rule, named_as, names_fill, names_of, not, not-true, not_from_false, or_from, or_parts, recursion_from_All, refl, same_name, shared_attrs, stands, subst, sym, true, ℕ, ⊤, ◌++◌, ◌∙◌, ◌∷◌, ◌≡◌}
+-- Which coordinates and attributes a result keeps, one after the other, and that they are well formed where the operands are.
+use Rattle.xr_values.proofs.Common.{All, All-head, All-nil, All-tail, All-weaker, AllByRecursion, AreAttributes, AreDimensions, Attr, Axis, Bool, Bor, Carry, Coord, DataArray, Decides-int_eq, IsAttribute, IsCoordinate, List, MatchOption, Node, None, Option, Some, [], among, and_from, and_parts, ap, are_distinct, array_in, attrs_among, axis_names, bytes_eq, bytes_eq-Decides, carried, cond_both, coord_rule, coords_among, drop, eq-eqb, false, filter, filter_passes, first_attrs, first_called, first_named, flat_map, flat_map-map, get_or, has_place, is_agreed, is_name, is_shared, joined_attrs, joined_coord, kept_here, length, list_all, list_any-append, map, map-id, map-map, name_among, named_as, names_fill, names_of, nat_eq, not, not-true, not_from_false, number_of, or_from, or_left, pointwise, recursion_from_All, refl, same_attr, same_cell, same_content, same_coord, same_name, shared_attrs, shared_here, stands, subst, suc, sym, take, take_all, the_attrs, the_coords, the_names, true, ℕ, ℤ, ⊤, ◌&&◌, ◌++◌, ◌+◌, ◌<◌, ◌∙◌, ◌∷◌, ◌≡◌, ◌≤◌}
+use Rattle.std.specs.Ordering.{int_eq}
+use Rattle.xr_values.proofs.Firsts.{Other, absent, distinct_filtered, first_distinct, firsts_all, kept_on, nows}
+use Rattle.xr_defs.specs.declared.value.Content.{Content}
+use Rattle.xr_types.specs.declared.attr.NcType.{NcType}
+use Rattle.xr_types.specs.declared.attr.NcType.TheVariants.{Byte}
+use Rattle.xr_types.specs.contracts.attr.NcType.{the_type}
+use denote.Enum.Bare.{sameb}
+use lib.Dec.{eqb-suc-suc}
+use denote.Enum.Declared.{tag_of}
+use Rattle.std.specs.Prelude.{◌==◌}
+use Rattle.xr_types.specs.declared.axis.Calendar.{Calendar}
+use Rattle.xr_types.specs.declared.axis.Calendar.TheVariants.{Civil}
+use Rattle.xr_times.specs.Times.{same_calendar}
+use Rattle.xr_defs.specs.declared.value.Content.TheVariants.{Cells, Text, Time}
+use Rattle.xr_defs.specs.declared.carrying.Parts.{Parts}
+use Rattle.std.proofs.lemmas.Bool.{both_ways, false_from_ne_true, or_right}
 use Rattle.std.proofs.lemmas.List.Elements.{All-append, All-filter, All-from_recursion, All-map}
-use Rattle.std.proofs.lemmas.List.Folds.{list_any_none}
 use Rattle.xr_defs.specs.Selecting.{axis_called}
 use Rattle.xr_defs.specs.Values as of
 use Rattle.xr_defs.specs.declared.carrying.Carry.TheVariants.{Keep, Method, Binary, First}
 use Rattle.xr_defs.specs.Carries.{AreParts, IsOperand, Shares}
-use Rattle.xr_values.proofs.Named.{bytes_eq_swap}
 
--- ---- the first of each name
+-- ---- arrays in a plan
 
-module _ {X : Type 0} (name : X → List ℕ) where
-  abbrev named : X → X → Bool
-  named x y = bytes_eq (name y) (name x)
+pub in_any_plan : (nodes : List Node) (how : Carry) (arrays : List DataArray) (axes : List Axis) (p : Parts)
+    → p ≡ record { name = name_among how (the_names arrays); attrs = attrs_among how (the_attrs arrays); coords = coords_among axes (the_coords arrays) }
+    → p ≡ carried how (map (array_in nodes) arrays) axes
+in_any_plan nodes how arrays axes p is = simp (map-map, flat_map-map) is
 
-  abbrev Other : List ℕ → X → Type 0
-  Other n x = bytes_eq n (name x) ≡ false
+-- ---- a coordinate is equal to itself
 
-  absent : (n : List ℕ) (xs : List X) → All (Other n) xs → among (map name xs) n ≡ false
-  absent n xs all = list_any_none (bytes_eq n) (map name xs) (All-map (λ m. bytes_eq n m ≡ false) name xs all)
+all_same : {X : Type 0} (E : X → X → Bool) → ((x : X) → E x x ≡ true) → (xs : List X) → pointwise E xs xs ≡ true
+all_same E each [] = refl
+all_same E each (x ∷ xs) = ap (λ b. b && pointwise E xs xs) (each x) ∙ all_same E each xs
 
-  others : (n : List ℕ) (xs : List X) → among (map name xs) n ≡ false → All (Other n) xs
-  others n [] is = All-nil (Other n)
-  others n (x ∷ xs) is = let parts = or_parts (bytes_eq n (name x)) (among (map name xs) n) is in All-cons (Other n) x xs parts.0 (others n xs parts.1)
+bytes_same : (a : List ℕ) → bytes_eq a a ≡ true
+bytes_same a = (bytes_eq-Decides a a).1 refl
 
-  distinct_filtered : (p : X → Bool) (xs : List X) → are_distinct (map name xs) ≡ true → are_distinct (map name (filter p xs)) ≡ true
-  distinct_filtered p [] distinct = refl
-  distinct_filtered p (x ∷ xs) distinct =
-      let parts = and_parts (not (among (map name xs) (name x))) (are_distinct (map name xs)) distinct in
-      let left = All-filter p (Other (name x)) xs (others (name x) xs (not-true (among (map name xs) (name x)) parts.0)) in
-      cond_both (p x) (x ∷ filter p xs) (filter p xs) (λ ys. are_distinct (map name ys) ≡ true)
-      (λ e. and_from (not (among (map name (filter p xs)) (name x))) (are_distinct (map name (filter p xs))) (not_from_false (among (map name (filter p xs)) (name x)) (absent (name x) (filter p xs) left)) (distinct_filtered p xs parts.1))
-      (λ e. distinct_filtered p xs parts.1)
+cell_same : (c : Option ℤ) → same_cell c c ≡ true
+cell_same None = refl
+cell_same (Some n) = (Decides-int_eq n n).1 refl
 
-  module _ (first : List X → List X) (none : first [] ≡ []) (some : (x : X) (xs : List X) → first (x ∷ xs) ≡ x ∷ filter (λ y. not (named x y)) (first xs)) where
-    first_distinct : (xs : List X) → are_distinct (map name (first xs)) ≡ true
-    first_distinct [] = ap (λ ys. are_distinct (map name ys)) none
-    first_distinct (x ∷ xs) =
-        let left = filter (λ y. not (named x y)) (first xs) in
-        let apart = All-weaker (λ y. not (named x y) ≡ true) (Other (name x)) (λ y e. bytes_eq_swap (name x) (name y) ∙ not-true (named x y) e) left (filter_passes (λ y. not (named x y)) (first xs)) in
-        ap (λ ys. are_distinct (map name ys)) (some x xs)
-        ∙ and_from (not (among (map name left) (name x))) (are_distinct (map name left)) (not_from_false (among (map name left) (name x)) (absent (name x) left apart))
-        (distinct_filtered (λ y. not (named x y)) (first xs) (first_distinct xs))
+calendar_same : (c : Calendar) → same_calendar c c ≡ true
+calendar_same Civil = refl
+calendar_same c = refl
 
-    firsts_all : (P : X → Type 0) (xs : List X) → All P xs → All P (first xs)
-    firsts_all P [] all = subst (All P) (sym none) all
-    firsts_all P (x ∷ xs) all =
-        subst (All P) (sym (some x xs)) (All-cons P x (filter (λ y. not (named x y)) (first xs)) (All-head P x xs all) (All-filter (λ y. not (named x y)) P (first xs) (firsts_all P xs (All-tail P x xs all))))
+content_same : (c : Content) → same_content c c ≡ true
+unfolding same_content
+content_same (Cells a m) = ap (λ b. b && pointwise same_cell a.cells a.cells) (all_same nat_eq (λ n. eq-eqb n n refl) a.shape) ∙ all_same same_cell cell_same a.cells
+content_same (Text t) = bytes_same t
+content_same (Time c t) = ap (λ b. b && int_eq t t) (calendar_same c.units.calendar) ∙ (Decides-int_eq t t).1 refl
 
--- ---- attributes
+pub coord_same : (c : Coord) → same_coord c c ≡ true
+unfolding same_coord
+coord_same c = ap (λ b. b && same_content c.content c.content) (all_same bytes_eq bytes_same (axis_names c.axes)) ∙ content_same c.content
+
+-- ---- the first coordinate of each name
+
+abbrev coord_name : Coord → List ℕ
+coord_name c = c.name
+
+-- those of the whole list that stand, as far as they are looked at
+abbrev pub kept_upto : List Axis → List (Bor Coord) → ℕ → List Coord
+kept_upto axes all i = map (joined_coord (nows all)) (filter (stands axes (nows all)) (first_named (nows (take i all))))
+
+pub coords_on : (axes : List Axis) (all : List (Bor Coord)) (i : ℕ) (c : Bor Coord) (before behind : List (Bor Coord)) (kept new : List Coord)
+    → i < length all → c ≡ get_or all i c → before ≡ take i all → behind ≡ drop 1 (drop i all) → kept ≡ kept_upto axes all i
+    → new ≡ kept ++ kept_here axes (nows all) (nows before) c.now (nows behind) → new ≡ kept_upto axes all (i + 1)
+unfolding is_agreed first_named
+coords_on axes = kept_on coord_name first_named refl (λ c rest. refl) same_coord coord_same (has_place axes) joined_coord
+
+pub coords_end : (axes : List Axis) (all : List (Bor Coord)) (i : ℕ) (kept : List Coord) → length all ≤ i → kept ≡ kept_upto axes all i → kept ≡ coords_among axes (nows all)
+unfolding coords_among
+coords_end axes all i kept end k = k ∙ ap (λ ds. map (joined_coord (nows all)) (filter (stands axes (nows all)) (first_named (nows ds)))) (take_all i all end)
+
+-- ---- the first attribute of each name
+
+tagged : (kind : NcType) → number_of kind ≡ suc (tag_of the_type kind)
+tagged Byte = refl
+tagged kind = refl
+
+pub kinds_same : (a b : NcType) → sameb the_type a b ≡ (number_of a == number_of b)
+kinds_same a b = rw (tagged a, tagged b) (sym (eqb-suc-suc (tag_of the_type a) (tag_of the_type b)))
 
 abbrev attr_name : Attr → List ℕ
 attr_name a = a.name
+
+attr_same : (a : Attr) → same_attr a a ≡ true
+attr_same a = ap (λ t. t && bytes_eq a.raw a.raw) (eq-eqb (number_of a.kind) (number_of a.kind) refl) ∙ bytes_same a.raw
+
+abbrev pub shared_upto : List (Bor Attr) → ℕ → List Attr
+shared_upto all i = map (λ a. a) (filter (is_shared (nows all)) (first_called (nows (take i all))))
+
+pub attrs_on : (all : List (Bor Attr)) (i : ℕ) (a : Bor Attr) (before behind : List (Bor Attr)) (kept new : List Attr)
+    → i < length all → a ≡ get_or all i a → before ≡ take i all → behind ≡ drop 1 (drop i all) → kept ≡ shared_upto all i
+    → new ≡ kept ++ shared_here (nows before) a.now (nows behind) → new ≡ shared_upto all (i + 1)
+unfolding is_shared first_called
+attrs_on = kept_on attr_name first_called refl (λ a rest. refl) same_attr attr_same (λ b. true) (λ whole b. b)
+
+pub attrs_end : (all : List (Bor Attr)) (i : ℕ) (kept : List Attr) → length all ≤ i → kept ≡ shared_upto all i → kept ≡ shared_attrs (nows all)
+unfolding shared_attrs
+attrs_end all i kept end k = k ∙ map-id (filter (is_shared (nows all)) (first_called (nows (take i all)))) ∙ ap (λ ds. filter (is_shared (nows all)) (first_called (nows ds))) (take_all i all end)
+
+All-flat_map : {X Y : Type 0} (P : Y → Type 0) (f : X → List Y) (xs : List X) → All (λ x. All P (f x)) xs → All P (flat_map f xs)
+All-flat_map P f [] all = All-nil P
+All-flat_map P f (x ∷ xs) all = All-append P (f x) (flat_map f xs) (All-head (λ z. All P (f z)) x xs all) (All-flat_map P f xs (All-tail (λ z. All P (f z)) x xs all))
+
+-- ---- attributes
 
 fewer_attributes : (p : Attr → Bool) (attrs : List Attr) → AreAttributes attrs → AreAttributes (filter p attrs)
 fewer_attributes p attrs are = record {
@@ -59,49 +115,39 @@ fewer_attributes p attrs are = record {
   distinct = distinct_filtered attr_name p attrs are.distinct;
 }
 
-in_all_lists : (lists : List (List Attr)) → All AreAttributes lists → All IsAttribute (flat_map (λ attrs. attrs) lists)
-in_all_lists [] all = All-nil IsAttribute
-in_all_lists (attrs ∷ lists) all =
-    All-append IsAttribute attrs (flat_map (λ attrs. attrs) lists) (All-from_recursion IsAttribute attrs (All-head AreAttributes attrs lists all).each) (in_all_lists lists (All-tail AreAttributes attrs lists all))
-
 joined_formed : (lists : List (List Attr)) → All AreAttributes lists → AreAttributes (joined_attrs lists)
 unfolding shared_attrs first_called
 joined_formed lists all =
     let attrs = flat_map (λ attrs. attrs) lists in
+    let own = All-flat_map IsAttribute (λ attrs. attrs) lists (All-weaker AreAttributes (All IsAttribute) (λ attrs are. All-from_recursion IsAttribute attrs are.each) lists all) in
     fewer_attributes (is_shared attrs) (first_called attrs) (record {
-      each = recursion_from_All IsAttribute (first_called attrs) (firsts_all attr_name first_called refl (λ a rest. refl) IsAttribute attrs (in_all_lists lists all));
+      each = recursion_from_All IsAttribute (first_called attrs) (firsts_all attr_name first_called refl (λ a rest. refl) IsAttribute attrs own);
       distinct = first_distinct attr_name first_called refl (λ a rest. refl) attrs;
     })
 
-first_attributes : (axes : List Axis) (arrays : List of.DataArray) → AllByRecursion (IsOperand axes) arrays → AreAttributes (attr_rule Keep arrays)
-first_attributes axes [] all = record { each = tt; distinct = refl }
-first_attributes axes (a ∷ arrays) all = all.0.0.attrs
+first_formed : (lists : List (List Attr)) → All AreAttributes lists → AreAttributes (first_attrs lists)
+first_formed [] all = record { each = tt; distinct = refl }
+first_formed (attrs ∷ lists) all = All-head AreAttributes attrs lists all
 
-joined_attributes : (axes : List Axis) (arrays : List of.DataArray) → AllByRecursion (IsOperand axes) arrays → AreAttributes (attr_rule First arrays)
-joined_attributes axes arrays all =
-    joined_formed (map (λ (a : of.DataArray). a.attrs) arrays) (All-map AreAttributes (λ (a : of.DataArray). a.attrs) arrays (All-weaker (IsOperand axes) (λ (a : of.DataArray). AreAttributes a.attrs) (λ a is. is.0.attrs) arrays (All-from_recursion (IsOperand axes) arrays all)))
+attrs_formed : (how : Carry) (lists : List (List Attr)) → All AreAttributes lists → AreAttributes (attrs_among how lists)
+attrs_formed Method lists all = fewer_attributes (λ a. not (names_fill a)) (first_attrs lists) (first_formed lists all)
+attrs_formed Binary lists all = fewer_attributes (λ a. not (names_fill a)) (joined_attrs lists) (joined_formed lists all)
+attrs_formed First lists all = joined_formed lists all
+attrs_formed how lists all = first_formed lists all
 
-attrs_formed : (how : Carry) (axes : List Axis) (arrays : List of.DataArray) → AllByRecursion (IsOperand axes) arrays → AreAttributes (attr_rule how arrays)
-attrs_formed Method axes arrays all = fewer_attributes (λ a. not (names_fill a)) (attr_rule Keep arrays) (first_attributes axes arrays all)
-attrs_formed Binary axes arrays all = fewer_attributes (λ a. not (names_fill a)) (attr_rule First arrays) (joined_attributes axes arrays all)
-attrs_formed First axes arrays all = joined_attributes axes arrays all
-attrs_formed how axes arrays all = first_attributes axes arrays all
+-- ---- the name
 
-name_shared : (axes : List Axis) (arrays : List of.DataArray) → AllByRecursion (IsOperand axes) arrays → MatchOption (name_rule Binary arrays) ⊤ (λ n. is_name n ≡ true)
-name_shared axes [] all = tt
-name_shared axes (a ∷ arrays) all =
-    cond_both (list_all (same_name a.name) (map (λ (b : of.DataArray). b.name) arrays)) a.name None (λ name. MatchOption name ⊤ (λ n. is_name n ≡ true)) (λ e. all.0.0.name) (λ e. tt)
+abbrev IsGiven : Option (List ℕ) → Type 0
+IsGiven name = MatchOption name ⊤ (λ n. is_name n ≡ true)
 
-name_formed : (how : Carry) (axes : List Axis) (arrays : List of.DataArray) → AllByRecursion (IsOperand axes) arrays → MatchOption (name_rule how arrays) ⊤ (λ n. is_name n ≡ true)
-name_formed Binary axes arrays all = name_shared axes arrays all
-name_formed First axes arrays all = name_shared axes arrays all
-name_formed how axes [] all = tt
-name_formed how axes (a ∷ arrays) all = all.0.0.name
+name_formed : (how : Carry) (names : List (Option (List ℕ))) → All IsGiven names → IsGiven (name_among how names)
+name_formed Binary (name ∷ names) all = cond_both (list_all (same_name name) names) name None IsGiven (λ e. All-head IsGiven name names all) (λ e. tt)
+name_formed First (name ∷ names) all = cond_both (list_all (same_name name) names) name None IsGiven (λ e. All-head IsGiven name names all) (λ e. tt)
+name_formed Keep [] all = tt
+name_formed how [] all = tt
+name_formed how (name ∷ names) all = All-head IsGiven name names all
 
 -- ---- a result's coordinates lie over its axes
-
-abbrev coord_name : Coord → List ℕ
-coord_name c = c.name
 
 -- a coordinate of an array that shares its axes with the result
 record HasHome (axes : List Axis) (c : Coord) : Type 0 where
@@ -109,11 +155,8 @@ record HasHome (axes : List Axis) (c : Coord) : Type 0 where
   shares : Shares own axes
   formed : IsCoordinate own c
 
-homes : (axes : List Axis) (arrays : List of.DataArray) → AllByRecursion (IsOperand axes) arrays → All (HasHome axes) (flat_map (λ (a : of.DataArray). a.coords) arrays)
-homes axes [] all = All-nil (HasHome axes)
-homes axes (a ∷ arrays) all =
-    let here = All-weaker (IsCoordinate a.axes) (HasHome axes) (λ c is. record { own = a.axes; shares = all.0.1; formed = is }) a.coords (All-from_recursion (IsCoordinate a.axes) a.coords all.0.0.coords) in
-    All-append (HasHome axes) a.coords (flat_map (λ (b : of.DataArray). b.coords) arrays) here (homes axes arrays all.1)
+homes : (axes : List Axis) (a : of.DataArray) → IsOperand axes a → All (HasHome axes) a.coords
+homes axes a is = All-weaker (IsCoordinate a.axes) (HasHome axes) (λ c formed. record { own = a.axes; shares = is.1; formed = formed }) a.coords (All-from_recursion (IsCoordinate a.axes) a.coords is.0.coords)
 
 abbrev IsOver : List Axis → Axis → Type 0
 IsOver axes x = (among (axis_names axes) x.name ≡ true) × (axis_called axes x.name ≡ x)
@@ -144,16 +187,12 @@ settled axes coords own c is home =
     }
 
 -- no name of these is one of the others
-distinct_both : (names : List (List ℕ)) (coords : List Coord) → are_distinct names ≡ true → are_distinct (names_of coords) ≡ true → All (λ (c : Coord). among names c.name ≡ false) coords → are_distinct (names ++ names_of coords) ≡ true
-distinct_both [] coords first second all = second
-distinct_both (n ∷ names) coords first second all =
+distinct_both : (names more : List (List ℕ)) → are_distinct names ≡ true → are_distinct more ≡ true → ((n : List ℕ) → among names n ≡ true → among more n ≡ false) → are_distinct (names ++ more) ≡ true
+distinct_both [] more first second apart = second
+distinct_both (n ∷ names) more first second apart =
     let parts = and_parts (not (among names n)) (are_distinct names) first in
-    let both = λ (c : Coord) (e : among (n ∷ names) c.name ≡ false). or_parts (bytes_eq c.name n) (among names c.name) e in
-    let other = All-weaker (λ (c : Coord). among (n ∷ names) c.name ≡ false) (Other coord_name n) (λ c e. bytes_eq_swap n c.name ∙ (both c e).0) coords all in
-    let rest = All-weaker (λ (c : Coord). among (n ∷ names) c.name ≡ false) (λ (c : Coord). among names c.name ≡ false) (λ c e. (both c e).1) coords all in
-    and_from (not (among (names ++ names_of coords) n)) (are_distinct (names ++ names_of coords))
-    (not_from_false (among (names ++ names_of coords) n) (list_any-append (bytes_eq n) names (names_of coords) ∙ or_from (among names n) (among (names_of coords) n) (not-true (among names n) parts.0) (absent coord_name n coords other)))
-    (distinct_both names coords parts.1 second rest)
+    let here = list_any-append (bytes_eq n) names more ∙ or_from (among names n) (among more n) (not-true (among names n) parts.0) (apart n (or_left (bytes_eq n n) (among names n) (bytes_same n))) in
+    and_from (not (among (names ++ more) n)) (are_distinct (names ++ more)) (not_from_false (among (names ++ more) n) here) (distinct_both names more parts.1 second (λ m e. apart m (or_right (bytes_eq m n) (among names m) e)))
 
 -- what a result over these axes carries of well-formed operands is well formed
 pub carried_formed : (how : Carry) (arrays : List of.DataArray) (axes : List Axis) → AreDimensions axes → AllByRecursion (IsOperand axes) arrays → AreParts axes (carried how arrays axes)
@@ -161,15 +200,17 @@ unfolding coords_among first_named
 carried_formed how arrays axes dimensions all =
     let coords = flat_map (λ (a : of.DataArray). a.coords) arrays in
     let kept = filter (stands axes coords) (first_named coords) in
-    let own = homes axes arrays all in
+    let operands = All-from_recursion (IsOperand axes) arrays all in
+    let own = All-flat_map (HasHome axes) (λ (a : of.DataArray). a.coords) arrays (All-weaker (IsOperand axes) (λ (a : of.DataArray). All (HasHome axes) a.coords) (homes axes) arrays operands) in
     let home = All-filter (stands axes coords) (HasHome axes) (first_named coords) (firsts_all coord_name first_named refl (λ c rest. refl) (HasHome axes) coords own) in
     let passes = filter_passes (stands axes coords) (first_named coords) in
     record {
-      name = name_formed how axes arrays all;
-      attrs = attrs_formed how axes arrays all;
+      name = name_formed how (map (λ (a : of.DataArray). a.name) arrays) (All-map IsGiven (λ (a : of.DataArray). a.name) arrays (All-weaker (IsOperand axes) (λ (a : of.DataArray). IsGiven a.name) (λ a is. is.0.name) arrays operands));
+      attrs = attrs_formed how (map (λ (a : of.DataArray). a.attrs) arrays) (All-map AreAttributes (λ (a : of.DataArray). a.attrs) arrays (All-weaker (IsOperand axes) (λ (a : of.DataArray). AreAttributes a.attrs) (λ a is. is.0.attrs) arrays operands));
       coords = recursion_from_All (IsCoordinate axes) (coord_rule arrays axes) (All-map (IsCoordinate axes) (joined_coord coords) kept (λ k d lt. settled axes coords own _ (passes k d lt) (home k d lt)));
       distinct = ap (λ ns. are_distinct (axis_names axes ++ ns)) (map-map coord_name (joined_coord coords) kept)
-          ∙ distinct_both (axis_names axes) kept dimensions.distinct
+          ∙ distinct_both (axis_names axes) (names_of kept) dimensions.distinct
           (distinct_filtered coord_name (stands axes coords) (first_named coords) (first_distinct coord_name first_named refl (λ c rest. refl) coords))
-          (All-weaker (λ c. stands axes coords c ≡ true) (λ (c : Coord). among (axis_names axes) c.name ≡ false) (λ c e. (placed axes coords c e).0) kept passes);
+          (λ n e. absent coord_name n kept (All-weaker (λ c. stands axes coords c ≡ true) (Other coord_name n)
+          (λ c s. false_from_ne_true (bytes_eq n c.name) (λ t. both_ways (among (axis_names axes) c.name) (placed axes coords c s).0 (subst (λ m. among (axis_names axes) m ≡ true) ((bytes_eq-Decides n c.name).0 t) e))) kept passes));
     }

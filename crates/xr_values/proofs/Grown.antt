@@ -1,5 +1,5 @@
 -- What arrays and datasets of a plan stand for is kept while the plan grows, and what stands for a node that was added.
-use Rattle.xr_values.proofs.Common.{All, All-head, All-tail, All-weaker, Array, DataArray, Grows, IsArrayIn, IsDataArray, IsDataset, IsDatasetIn, IsNodeOf, List, Node, Option, Pushes, Variable, [], ap, arith, array_in, array_of, dataset_in, length, length-append, map, node_value, refl, shape_named, shape_over, subst, sym, value, values, variable_in, with_cells, ℕ, ℤ, ◌<◌, ◌∙◌, ◌∷◌, ◌≡◌}
+use Rattle.xr_values.proofs.Common.{All, All-head, All-tail, All-weaker, Array, DataArray, Grows, IsArrayIn, IsDataArray, IsDataset, IsDatasetIn, IsNodeOf, List, Node, Pushes, Variable, [], ap, arith, array_in, array_of, dataset_in, length, length-append, map, node_value, refl, shape_named, shape_over, subst, sym, value, values, variable_in, with_cells, ℕ, ◌<◌, ◌∙◌, ◌∷◌, ◌≡◌}
 use Rattle.xr_types.specs.declared.kind.DType.{DType}
 use Rattle.xr_defs.specs.Values as of
 use Rattle.plan_core.proofs.Plans.{grown-length, grown_value, values-length}
@@ -35,10 +35,7 @@ stays_array old new a g is =
 
 -- the value of its node is the array
 pub array_value : (nodes : List Node) (a : DataArray) → IsArrayIn nodes a → value nodes a.node ≡ array_of (array_in nodes a)
-array_value nodes a is = let v = value nodes a.node in by v.kind v.shape is.node.has_kind is.node.has_shape
-  where
-    by : (kind : DType) (shape : List ℕ) → kind ≡ a.kind → shape ≡ shape_over a.axes → record { kind = kind; shape = shape; cells = (value nodes a.node).cells } ≡ array_of (array_in nodes a)
-    by kind shape k s = cc
+array_value nodes a is = λ i. record { kind = is.node.has_kind i; shape = is.node.has_shape i; cells = (value nodes a.node).cells }
 
 -- ---- datasets
 
@@ -48,13 +45,8 @@ map_kept P f g same (x ∷ xs) all = ap (λ y. y ∷ map f xs) (same x (All-head
 
 pub dataset_kept : (old new : List Node) (s : Dataset) → Grows old new → IsDatasetIn old s → dataset_in new s ≡ dataset_in old s
 dataset_kept old new s g is =
-    ap with_vars (map_kept (λ (v : Variable). IsNodeOf old v.node (shape_named s v) v.kind) (variable_in new) (variable_in old) (λ v at. ap (λ (x : Array). of_cells v x.cells) (grown_value old new v.node g at.placed)) s.vars is.nodes_of)
-  where
-    of_cells : Variable → List (Option ℤ) → of.Variable
-    of_cells v cells = record { name = v.name; dims = v.dims; kind = v.kind; masked = v.masked; attrs = v.attrs; cells = cells }
-
-    with_vars : List of.Variable → of.Dataset
-    with_vars vs = record { axes = s.axes; coords = s.coords; vars = vs; attrs = s.attrs; skipped = s.skipped }
+    ap (λ (vs : List of.Variable). record (dataset_in old s) { vars = vs })
+    (map_kept (λ (v : Variable). IsNodeOf old v.node (shape_named s v) v.kind) (variable_in new) (variable_in old) (λ v at. ap (λ (x : Array). record (variable_in old v) { cells = x.cells }) (grown_value old new v.node g at.placed)) s.vars is.nodes_of)
 
 pub stays_dataset : (old new : List Node) (s : Dataset) → Grows old new → IsDatasetIn old s → IsDatasetIn new s
 stays_dataset old new s g is =
@@ -85,11 +77,4 @@ module _ (old new : List Node) (node : Node) (place : ℕ) (v : Array) (means : 
     -- and is one of the plan
     pub pushed_array : v.shape ≡ shape_over a.axes → v.kind ≡ a.kind → IsDataArray (with_cells a v.cells) → IsArrayIn new a
     pushed_array shape kind formed =
-        record {
-          node = record {
-            placed = subst (λ n. n < length new) (sym at) pushed_node.placed;
-            has_shape = ap (λ n. (value new n).shape) at ∙ pushed_node.has_shape ∙ shape;
-            has_kind = ap (λ n. (value new n).kind) at ∙ pushed_node.has_kind ∙ kind;
-          };
-          formed = subst IsDataArray (sym pushed_cells) formed;
-        }
+        record { node = rw (at, ← shape, ← kind) pushed_node; formed = subst IsDataArray (sym pushed_cells) formed }

@@ -140,8 +140,7 @@ keyed_kept old new kvs g all = map_kept (IsEntryIn old) (with_key new) (with_key
 pub given_kept : (old new : List Node) (args : Args) → Grows old new → AreArgsIn old args → given new args ≡ given old args
 unfolding given
 given_kept old new args g are =
-    ap (λ plain. record { plain = plain; keyed = map (with_key new) args.keyed.items }) (meanings_kept old new args.plain.items g are.plain)
-    ∙ ap (λ keyed. record { plain = map (meaning old) args.plain.items; keyed = keyed }) (keyed_kept old new args.keyed.items g are.keyed)
+    λ i. record { plain = meanings_kept old new args.plain.items g are.plain i; keyed = keyed_kept old new args.keyed.items g are.keyed i }
 
 pub stay_values : (old new : List Node) (vs : List Value) → Grows old new → All (IsValueIn old) vs → All (IsValueIn new) vs
 stay_values old new vs g all = All-weaker (IsValueIn old) (IsValueIn new) (λ v. stays_value old new v g) vs all

@@ -29,11 +29,11 @@ eq a b = bytes_eq (string_bytes a) (string_bytes b)
 pub puts : (es : List Entry) (key : String Global) (v : Variable) → string_bytes key ≡ v.name → All IsNamed es → in_order (insert_entry eq es key v) ≡ with_variable (in_order es) v
 puts [] key v is all = refl
 puts (e ∷ es) key v is all =
-    ap (λ b. in_order (if b then (e.0, v) ∷ es else e ∷ insert_entry eq es key v)) (same_test e (string_bytes key) v.name is (All-head IsNamed e es all)) ∙ by (bytes_eq e.1.name v.name) (puts es key v is (All-tail IsNamed e es all))
-  where
-    by : (b : Bool) → in_order (insert_entry eq es key v) ≡ with_variable (in_order es) v → in_order (if b then (e.0, v) ∷ es else e ∷ insert_entry eq es key v) ≡ (if b then v ∷ in_order es else (e.1 ∷ with_variable (in_order es) v))
-    by true rest = refl
-    by false rest = ap (λ vs. e.1 ∷ vs) rest
+    ap (λ b. in_order (if b then (e.0, v) ∷ es else e ∷ insert_entry eq es key v)) (same_test e (string_bytes key) v.name is (All-head IsNamed e es all))
+    ∙ elim (bytes_eq e.1.name v.name) as (λ b. in_order (if b then (e.0, v) ∷ es else e ∷ insert_entry eq es key v) ≡ (if b then v ∷ in_order es else (e.1 ∷ with_variable (in_order es) v))) [
+      | true ↦ refl
+      | false ↦ ap (λ vs. e.1 ∷ vs) (puts es key v is (All-tail IsNamed e es all))
+    ]
 
 named_on : (es : List Entry) (key : String Global) (v : Variable) → string_bytes key ≡ v.name → All IsNamed es → All IsNamed (insert_entry eq es key v)
 named_on [] key v is all = All-cons IsNamed (key, v) [] is (All-nil IsNamed)

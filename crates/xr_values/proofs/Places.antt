@@ -1,9 +1,12 @@
 -- Items by their places: those from a place on, and items that are put in the place of the first one that a test takes, or behind all.
-use Rattle.xr_values.proofs.Common.{Bool, List, None, Option, Some, [], add-one, ap, arith, cond, drop, drop-cons, false, get_or, if◌then◌else◌, length, nat_lt, nat_tests, option_map, position, position_or_len, refl, set, suc, sym, true, ℕ, ◌++◌, ◌+◌, ◌<◌, ◌∙◌, ◌∷◌, ◌≡◌}
+use Rattle.xr_values.proofs.Common.{Bool, List, None, Option, Some, [], add-one, ap, arith, cond, drop, drop_more, false, get_or, if◌then◌else◌, length, nat_lt, nat_tests, option_map, position, position_or_len, refl, set, suc, sym, take, take_more, true, ℕ, ◌++◌, ◌+◌, ◌<◌, ◌∙◌, ◌∷◌, ◌≡◌}
 use Rattle.std.specs.Prelude.{not}
 
 pub from_place : {X : Type 0} (xs : List X) (i : ℕ) (x : X) → i < length xs → x ≡ get_or xs i x → drop i xs ≡ x ∷ drop (i + 1) xs
-from_place xs i x inside is = drop-cons xs i x inside ∙ ap (λ y. y ∷ drop (suc i) xs) (sym is) ∙ ap (λ n. x ∷ drop n xs) (sym (add-one i))
+from_place xs i x inside is = drop_more xs i x inside ∙ ap (λ y. y ∷ drop (i + 1) xs) (sym is)
+
+pub take_one : {X : Type 0} (xs : List X) (i : ℕ) (x : X) → i < length xs → x ≡ get_or xs i x → take (i + 1) xs ≡ take i xs ++ x ∷ []
+take_one xs i x inside is = take_more xs i x inside ∙ ap (λ y. take i xs ++ y ∷ []) (sym is)
 
 abbrev pub put_over : {X : Type 0} → (X → Bool) → List X → X → List X
 put_over test [] d = d ∷ []

@@ -13,9 +13,8 @@ pub in_room : (old new : List Node) (p q : Portion) (m : ℕ) → m ≤ 256 * (c
 unfolding room
 in_room old new p q m le adds =
     let k = sum_by count (p ∷ q ∷ []) in
-    let most : k ≡ count p + count q = omega arith in
-    let all : span (p.axes ++ (q.axes ++ [])) ≡ span (p.axes ++ q.axes) = ap (λ xs. span (p.axes ++ xs)) (append-nil q.axes) in
-    adds_up old new (m * span (p.axes ++ q.axes)) (256 * k * span (p.axes ++ (q.axes ++ []))) (mul-le m (span (p.axes ++ q.axes)) (256 * k) (span (p.axes ++ (q.axes ++ []))) (omega arith) (omega arith)) adds
+    let s = span (p.axes ++ q.axes) in
+    adds_up old new (m * s) (256 * k * span (p.axes ++ (q.axes ++ []))) (rw append-nil (mul-le m s (256 * k) s (omega arith) (omega arith))) adds
 
 -- one node that is the array's
 pub array_added : (old new : List Node) (node : Node) (place : ℕ) (b : DataArray) → Pushes old new node place → (value new place).shape ≡ shape_over b.axes → are_distinct (axis_names b.axes) ≡ true → AddsForAny old new b

@@ -1,10 +1,11 @@
-//! What a call is given.
+//! What a call is given, and what it works in.
 ghost use Rattle.std.specs.Prelude.{◌≡◌, List, OnOk, OnErr};
 ghost use Rattle.xr_arrays.specs.declared.node.Node.{Node};
 ghost use Rattle.xr_defs.specs.Meanings.{no_arguments, and_plain, and_keyed};
 ghost use Rattle.xr_values.specs.Meaning.{meaning, given, IsValueIn, AreArgsIn};
 
 use crate::value::Value;
+use plan_core::Plan;
 use std::alloc::{AllocError, Global};
 use xr_types::TextBytes;
 
@@ -49,4 +50,11 @@ impl Args {
         self.keyed.push((name, value))?;
         Ok(())
     }
+}
+
+/// The plan, whose nodes arrays and datasets stand for, and what computes the cells of a node.
+#[derive(Drop)]
+pub struct Cx<C> {
+    pub plan: Plan,
+    pub compute: C,
 }

@@ -1,5 +1,5 @@
 //! Arrays with named dimensions.
-use crate::copy::copy_coords;
+use crate::coords::copy_coords;
 use std::alloc::{AllocError, Global};
 use xr_defs::Coord;
 use xr_types::{Attr, Axis, DType, DeepCopy, Items, Name, NodeId};

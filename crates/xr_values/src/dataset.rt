@@ -1,5 +1,5 @@
 //! Datasets.
-use crate::copy::copy_coords;
+use crate::coords::copy_coords;
 use crate::variables::Variables;
 use std::alloc::{AllocError, Global};
 use xr_defs::Coord;

@@ -1,5 +1,5 @@
-use Rattle.xr_changing.proofs.Common.{Axis, axis_called, map, take, ◌≡◌}
+use Rattle.xr_changing.proofs.Common.{AreThere, axes_called, axis_names, take, ◌≡◌}
 use Rattle.xr_changing.proofs.coords.axes_called.Given as goal
 
-abbrev pub invariant-loop-axis : goal.invariant-loop-axis
-invariant-loop-axis l = l.out ≡ map (λ (x : Axis). axis_called l.axes x.name) (take l.axis-index l.own)
+abbrev pub invariant-loop-dim : goal.invariant-loop-dim
+invariant-loop-dim l = (l.out ≡ axes_called l.axes (take l.dim-index l.dims)) × AreThere (axis_names l.axes) (take l.dim-index l.dims)
